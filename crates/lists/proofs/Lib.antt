@@ -1,0 +1,9 @@
+pub mod Cond
+pub mod Counting
+pub mod Every
+pub mod Some
+pub mod Rising
+pub mod Selected
+pub mod Sweep
+pub mod Bytes
+pub mod Lengths

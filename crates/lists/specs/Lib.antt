@@ -1,0 +1,3 @@
+pub mod Padded
+pub mod Counted
+pub mod Bytes

@@ -1,0 +1,365 @@
+-- The laws of flat memory: what use, a store, a fill, a write back and a start do to each byte of it.
+use mathlib.Core.Path.{_≡_, refl, sym, ap, subst, _∙_}
+use mathlib.Core.Bool.{true, false, cond}
+use mathlib.Core.List.{List}
+use mathlib.Core.Option.{some, none}
+use Prim.Native.Nat.{ℕ, zero, suc, _+_, _*_, _-_, _%_, _<_, _≤_}
+use native.Mathlib.Omega.{arith}
+use native.Mathlib.Decide.{ℕ-discrete, decLt}
+use lib.Dec.{ltb, leb}
+use lib.ListN.{length, getD}
+use lib.Seq.{getD-set-same, getD-set-other}
+use borrow.Author.Tests.{leb-true, leb-false, le-leb, lt-leb}
+use Rattle.lists.specs.Counted.{stepsFrom}
+use Rattle.lists.specs.Bytes.{among, overlaid}
+use Rattle.lists.proofs.Cond.{either, cases, wrong}
+use Rattle.lists.proofs.Counting.{steps-keep, each-length, each-at, each-same}
+use Rattle.rules.specs.declared.Tag.{Tag}
+use Rattle.rules.specs.declared.StoreEntry.{StoreEntry}
+use Rattle.rules.specs.Shape.{Hierarchy, holding, noTag, tagAt, withDirty, slots, firstSlot, lineOf, fits}
+use Rattle.rules.specs.Lines.{slotOf, present, placeOf, cachedByte, useSlot, useLine, putStore, writeStore, writtenBackAt, writeBackSlot, writeBackAll, victim, install, fillLine}
+use Rattle.rules.specs.Forward.{storeByte}
+use Rattle.rules.specs.WellFormed.{linesFormed}
+use Rattle.rules.specs.Runs.{started}
+use Rattle.rules.specs.Flat.{flatByte}
+use Rattle.rules.proofs.LineFacts.{Fits, Lines, Good, At, fits-tells, present-tells, look, absent-tells, used-slot, dirty-valid, good-tells}
+use Rattle.rules.proofs.LineSteps.{SameLines, among-tells, slot-same, present-same, use-lines, put-lines, put-other, put-good, saved-else, save-lines, install-tag, install-here, install-other-tag, install-other, install-good}
+use Rattle.rules.proofs.LineRules.{LinesKept, kept-refl, kept-then, kept-fits, shaped-slots, save-kept, victim-in}
+use Rattle.rules.proofs.LineStart.{start-invalid}
+
+-- ---- reading flat memory
+
+-- the byte of a valid line
+flat-here :
+    (b : Hierarchy) → Lines b → (k a : ℕ) → tagAt (b .tags) k .valid ≡ true → tagAt (b .tags) k .line ≡ lineOf a
+    → flatByte b a ≡ getD (b .cache) (16 * k + a % 16) 0
+unfolding flatByte placeOf
+flat-here b g k a v e = let p = look b g k (lineOf a) v e in rw (p .0, p .1)
+
+-- the byte of an absent line
+flat-gone : (b : Hierarchy) (a : ℕ) → present b (lineOf a) ≡ false → flatByte b a ≡ getD (b .memory) a 0
+unfolding flatByte
+flat-gone b a e = rw e
+
+flat-none :
+    (b : Hierarchy) (a : ℕ) → ((k : ℕ) → tagAt (b .tags) k .valid ≡ true → tagAt (b .tags) k .line ≡ lineOf a → ⊥)
+    → flatByte b a ≡ getD (b .memory) a 0
+flat-none b a h =
+    cases (present b (lineOf a))
+    (λ e. let p = present-tells b (lineOf a) e in absurd (h (slotOf b (lineOf a)) (p .valid) (p .line)))
+    (flat-gone b a)
+
+-- the byte of a clean line
+flat-clean :
+    (b : Hierarchy) → Good b → (k a : ℕ) → tagAt (b .tags) k .valid ≡ true → tagAt (b .tags) k .line ≡ lineOf a
+    → tagAt (b .tags) k .dirty ≡ false → flatByte b a ≡ getD (b .memory) a 0
+unfolding lineOf
+flat-clean b g k a v e d =
+    let place : 16 * tagAt (b .tags) k .line + a % 16 ≡ a = omega arith in
+    flat-here b (g .lines) k a v e
+    ∙ (g .clean k (a % 16) v d (omega arith) ∙ ap (λ (n : ℕ). getD (b .memory) n 0) place)
+
+-- records with the same lines
+flat-lines :
+    (b : Hierarchy) (tags : List Tag) → SameLines (b .tags) tags → (a : ℕ)
+    → flatByte (holding b tags (b .cache) (b .memory)) a ≡ flatByte b a
+unfolding flatByte placeOf
+flat-lines b tags h a =
+    rw (present-same b tags (b .cache) (b .memory) h (lineOf a), slot-same b tags (b .cache) (b .memory) h (lineOf a))
+
+-- the cached byte is the byte of flat memory, if the line is present
+pub cached : (b : Hierarchy) (a : ℕ) → cachedByte b a ≡ cond (present b (lineOf a)) (some (flatByte b a)) none
+unfolding cachedByte flatByte
+cached b a = cases (present b (lineOf a)) (λ e. rw e) (λ e. rw e)
+
+pub fits-memory : (b : Hierarchy) → fits b ≡ true → length (b .memory) ≡ b .size
+fits-memory b f = fits-tells b f .memory-long
+
+-- ---- use
+
+slot-flat : (f v : ℕ) (b : Hierarchy) (a : ℕ) → flatByte (useSlot f v b) a ≡ flatByte b a
+unfolding useSlot
+slot-flat f v b a = flat-lines b (useSlot f v b .tags) (use-lines f v b) a
+
+-- no byte changes
+pub use-flat : (l : ℕ) (b : Hierarchy) (a : ℕ) → flatByte (useLine l b) a ≡ flatByte b a
+unfolding useLine
+use-flat l b a =
+    either (λ (c : Hierarchy). flatByte c a ≡ flatByte b a) (present b l)
+    (λ e. slot-flat (firstSlot b l) (slotOf b l) b a) (λ e. refl)
+
+pub use-size : (l : ℕ) (b : Hierarchy) → useLine l b .size ≡ b .size
+unfolding useLine useSlot
+use-size l b = either (λ (c : Hierarchy). c .size ≡ b .size) (present b l) (λ e. refl) (λ e. refl)
+
+-- ---- a store is written
+
+same-leb : (m n x y : ℕ) → (m ≤ n → x ≤ y) → (x ≤ y → m ≤ n) → leb m n ≡ leb x y
+same-leb m n x y f g =
+    cases (leb m n) (λ e. e ∙ sym (le-leb x y (f (leb-true m n e))))
+    (λ e. e ∙ sym (lt-leb x y (elim (decLt y x) [
+      | yes h ↦ h
+      | no h ↦ let no : ⊥ = omega (arith, leb-false m n e, g (omega arith)) in absurd no
+    ])))
+
+-- what stands at place j of bytes from p on stands at place k of bytes from q on
+overlaid-moved : (p j q k w v x : ℕ) → p + k ≡ q + j → overlaid p w v j x ≡ overlaid q w v k x
+unfolding overlaid
+overlaid-moved p j q k w v x e =
+    let low : leb p j ≡ leb q k = same-leb p j q k (λ h. omega arith) (λ h. omega arith) in
+    let high : ltb j (p + w) ≡ ltb k (q + w) = same-leb (suc j) (p + w) (suc k) (q + w) (λ h. omega arith) (λ h. omega arith) in
+    let byte : j - p ≡ k - q = omega arith in
+    rw (low, high, byte)
+
+module _ (s : StoreEntry) (b : Hierarchy) (fit : Fits b) (g : Good b) (here : present b (lineOf (s .address)) ≡ true)
+    (in-line : s .address % 16 + s .width ≤ 16) (a : ℕ) where
+  abbrev v : ℕ
+  v = slotOf b (lineOf (s .address))
+
+  abbrev put : Hierarchy
+  put = putStore v s b
+
+  at : At b (lineOf (s .address))
+  at = present-tells b (lineOf (s .address)) here
+
+  put-same : SameLines (b .tags) (put .tags)
+  put-same = put-lines b fit g v s (at .valid)
+
+  put-fine : Good put
+  put-fine = put-good b fit g v s (at .valid) in-line
+
+  -- a byte of the store's line
+  put-hit : lineOf a ≡ lineOf (s .address) → flatByte put a ≡ overlaid (s .address) (s .width) (s .value) a (flatByte b a)
+  unfolding putStore lineOf
+  put-hit e =
+      flat-here put (put-fine .lines) v a (put-same .valid v ∙ at .valid) (put-same .line v ∙ (at .line ∙ sym e))
+      ∙ (each-at (overlaid (16 * v + s .address % 16) (s .width) (s .value)) (b .cache) 0 (16 * v + a % 16) (omega (arith, used-slot b g v (at .valid), fit .cache-long))
+      ∙ (overlaid-moved (16 * v + s .address % 16) (16 * v + a % 16) (s .address) a (s .width) (s .value) _ (omega arith)
+      ∙ ap (overlaid (s .address) (s .width) (s .value) a) (sym (flat-here b (g .lines) v a (at .valid) (at .line ∙ sym e)))))
+
+  -- a byte of another line
+  put-miss : (lineOf a ≡ lineOf (s .address) → ⊥) → flatByte put a ≡ flatByte b a
+  unfolding putStore
+  put-miss d =
+      cases (present b (lineOf a))
+      (λ e.
+      let p = present-tells b (lineOf a) e in
+      let k = slotOf b (lineOf a) in
+      flat-here put (put-fine .lines) k a (put-same .valid k ∙ p .valid) (put-same .line k ∙ p .line)
+      ∙ (put-other b v s in-line k (a % 16) (λ z. d (sym (p .line) ∙ (ap (λ (j : ℕ). tagAt (b .tags) j .line) z ∙ at .line))) (omega arith)
+      ∙ sym (flat-here b (g .lines) k a (p .valid) (p .line))))
+      (λ e. flat-gone put a (present-same b (put .tags) (put .cache) (put .memory) put-same (lineOf a) ∙ e) ∙ sym (flat-gone b a e))
+
+  -- no byte of the store stands in another line
+  not-among : (lineOf a ≡ lineOf (s .address) → ⊥) → among (s .address) (s .width) a ≡ false
+  unfolding lineOf
+  not-among d =
+      cases (among (s .address) (s .width) a)
+      (λ e. let h = among-tells (s .address) (s .width) a e in absurd (d (omega arith)))
+      (λ e. e)
+
+  stored-flat : flatByte (writeStore s b) a ≡ cond (among (s .address) (s .width) a) (storeByte s a) (flatByte b a)
+  unfolding writeStore overlaid
+  stored-flat =
+      slot-flat (firstSlot b (lineOf (s .address))) v put a
+      ∙ elim (ℕ-discrete (lineOf a) (lineOf (s .address))) [
+        | yes e ↦ put-hit e
+        | no d ↦ rw (not-among d) (put-miss d)
+      ]
+
+-- a store written to its present line: exactly its bytes change
+pub write-flat :
+    (s : StoreEntry) (b : Hierarchy) → fits b ≡ true → linesFormed b ≡ true → present b (lineOf (s .address)) ≡ true → s .address % 16 + s .width ≤ 16
+    → (a : ℕ) → flatByte (writeStore s b) a ≡ cond (among (s .address) (s .width) a) (storeByte s a) (flatByte b a)
+write-flat s b f g h w a = stored-flat s b (fits-tells b f) (good-tells b g) h w a
+
+pub write-size : (s : StoreEntry) (b : Hierarchy) → writeStore s b .size ≡ b .size
+unfolding writeStore useSlot putStore
+write-size s b = refl
+
+-- ---- write back
+
+module _ (b : Hierarchy) (fit : Fits b) (g : Good b) (v : ℕ) (v-in : v < slots b) where
+  save-flat : (a : ℕ) → flatByte (writeBackSlot v b) a ≡ flatByte b a
+  unfolding writeBackSlot flatByte placeOf
+  save-flat a =
+      let same = save-lines b fit g v v-in in
+      let p = present-same b (writeBackSlot v b .tags) (b .cache) (writeBackSlot v b .memory) same (lineOf a) in
+      let s = slot-same b (writeBackSlot v b .tags) (b .cache) (writeBackSlot v b .memory) same (lineOf a) in
+      cases (present b (lineOf a)) (λ e. rw (p, s, e)) (λ e. rw (p, s, e) (each-same _ (b .memory) 0 a (unsaved e)))
+    where
+      -- memory under an absent line is not written
+      unsaved : present b (lineOf a) ≡ false → (x : ℕ) → writtenBackAt (tagAt (b .tags) v) (b .cache) v a x ≡ x
+      unsaved e x = saved-else _ _ v a x (λ d q. absent-tells b (g .lines) (lineOf a) e v (dirty-valid b g v d) (sym q))
+
+  save-clean : tagAt (writeBackSlot v b .tags) v .dirty ≡ false
+  unfolding writeBackSlot
+  save-clean =
+      ap (λ (t : Tag). t .dirty) (getD-set-same (b .tags) v (withDirty false (tagAt (b .tags) v)) noTag (omega (arith, fit .room, g .table)))
+
+  save-other : (k : ℕ) → (k ≡ v → ⊥) → tagAt (writeBackSlot v b .tags) k ≡ tagAt (b .tags) k
+  unfolding writeBackSlot
+  save-other k d = getD-set-other (b .tags) v k (withDirty false (tagAt (b .tags) v)) noTag d
+
+-- a fact of the steps so far
+steps-run :
+    {A : Type 0} (P : ℕ → A → Type 0) (f : ℕ → A → A) (n i : ℕ)
+    → ((j : ℕ) (a : A) → i ≤ j → j < i + n → P j a → P (suc j) (f j a)) → (a : A) → P i a → P (i + n) (stepsFrom f i n a)
+unfolding stepsFrom
+steps-run P f zero i h a x = let e : i + 0 ≡ i = omega arith in rw e x
+steps-run P f (suc n) i h a x =
+    let e : i + suc n ≡ suc i + n = omega arith in
+    rw e (steps-run P f n (suc i) (λ j c p q y. h j c (omega arith) (omega arith) y) (f i a) (h i a (omega arith) (omega arith) x))
+
+-- c is b with the dirty lines of the first j slots written to memory
+record Backed (b : Hierarchy) (j : ℕ) (c : Hierarchy) : Type 0 where
+  kept : LinesKept b c
+  same-flat : (a : ℕ) → flatByte c a ≡ flatByte b a
+  washed : (k : ℕ) → k < j → tagAt (c .tags) k .dirty ≡ false
+
+module _ (b : Hierarchy) (f : fits b ≡ true) (g : Good b) where
+  backed-step : (j : ℕ) (c : Hierarchy) → j < slots b → Backed b j c → Backed b (suc j) (writeBackSlot j c)
+  backed-step j c lt k =
+      let fit = fits-tells c (kept-fits b c f (k .kept)) in
+      let good = k .kept .good in
+      let j-in : j < slots c = omega (arith, shaped-slots b c (k .kept .shaped)) in
+      record {
+        kept = kept-then b c _ (k .kept) (save-kept c fit good j j-in);
+        same-flat = λ a. save-flat c fit good j j-in a ∙ k .same-flat a;
+        washed = λ i h.
+            elim (ℕ-discrete i j) [
+              | yes e ↦ subst (λ (n : ℕ). tagAt (writeBackSlot j c .tags) n .dirty ≡ false) (sym e) (save-clean c fit good j j-in)
+              | no d ↦ ap (λ (t : Tag). t .dirty) (save-other c fit good j j-in i d) ∙ k .washed i (omega arith)
+            ];
+      }
+
+  backed : Backed b (slots b) (writeBackAll b)
+  unfolding writeBackAll
+  backed =
+      let e : 0 + slots b ≡ slots b = omega arith in
+      rw e at (steps-run (Backed b) writeBackSlot (slots b) 0 (λ j c p q k. backed-step j c (omega arith) k) b
+      (record { kept = kept-refl b g; same-flat = λ a. refl; washed = λ k h. let no : ⊥ = omega arith in absurd no }))
+
+-- where no line is dirty, memory is flat memory
+washed-memory :
+    (c : Hierarchy) → Good c → ((k : ℕ) → k < slots c → tagAt (c .tags) k .dirty ≡ false) → (a : ℕ)
+    → getD (c .memory) a 0 ≡ flatByte c a
+washed-memory c g h a =
+    cases (present c (lineOf a))
+    (λ e.
+    let p = present-tells c (lineOf a) e in
+    let k = slotOf c (lineOf a) in
+    sym (flat-clean c g k a (p .valid) (p .line) (h k (used-slot c g k (p .valid)))))
+    (λ e. sym (flat-gone c a e))
+
+-- every dirty line is written back: no byte changes,
+pub back-flat : (b : Hierarchy) → fits b ≡ true → linesFormed b ≡ true → (a : ℕ) → flatByte (writeBackAll b) a ≡ flatByte b a
+back-flat b f g a = backed b f (good-tells b g) .same-flat a
+
+-- and memory is flat memory
+pub back-memory :
+    (b : Hierarchy) → fits b ≡ true → linesFormed b ≡ true → (a : ℕ) → getD (writeBackAll b .memory) a 0 ≡ flatByte b a
+back-memory b f g a =
+    let k = backed b f (good-tells b g) in
+    washed-memory (writeBackAll b) (k .kept .good) (λ j h. k .washed j (omega (arith, shaped-slots b (writeBackAll b) (k .kept .shaped)))) a ∙ k .same-flat a
+
+pub back-size : (b : Hierarchy) → writeBackAll b .size ≡ b .size
+unfolding writeBackAll writeBackSlot
+back-size b = steps-keep (λ (c : Hierarchy). c .size ≡ b .size) writeBackSlot (slots b) 0 (λ j c p q e. e) b refl
+
+pub back-length : (b : Hierarchy) → length (writeBackAll b .memory) ≡ length (b .memory)
+unfolding writeBackAll writeBackSlot
+back-length b =
+    steps-keep (λ (c : Hierarchy). length (c .memory) ≡ length (b .memory)) writeBackSlot (slots b) 0
+    (λ j c p q e. each-length _ 0 (c .memory) ∙ e) b refl
+
+-- ---- fill
+
+module _ (c : Hierarchy) (fit : Fits c) (g : Good c) (v l : ℕ) (v-in : v < slots c) (low : firstSlot c l ≤ v)
+    (high : v < firstSlot c l + c .ways) (inside : 16 * l < c .size) (absent : present c l ≡ false)
+    (washed : tagAt (c .tags) v .dirty ≡ false) (a : ℕ) where
+  abbrev new : Hierarchy
+  new = install v l c
+
+  gone : (k : ℕ) → tagAt (c .tags) k .valid ≡ true → tagAt (c .tags) k .line ≡ l → ⊥
+  gone = absent-tells c (g .lines) l absent
+
+  fine : Good new
+  fine = install-good c fit g v l v-in low high inside gone
+
+  tag-here : (tagAt (new .tags) v .valid ≡ true) × (tagAt (new .tags) v .line ≡ l)
+  tag-here = install-tag c fit v l v-in g
+
+  tag-other : (k : ℕ) → (k ≡ v → ⊥) → tagAt (new .tags) k ≡ tagAt (c .tags) k
+  tag-other = install-other-tag c v l
+
+  -- a byte of the line
+  install-hit : lineOf a ≡ l → flatByte new a ≡ flatByte c a
+  unfolding lineOf
+  install-hit e =
+      let place : 16 * l + a % 16 ≡ a = omega arith in
+      flat-here new (fine .lines) v a (tag-here .0) (tag-here .1 ∙ sym e)
+      ∙ (install-here c fit v l v-in (a % 16) (omega arith)
+      ∙ (ap (λ (n : ℕ). getD (c .memory) n 0) place ∙ sym (flat-gone c a (ap (present c) e ∙ absent))))
+
+  -- no slot has the line of a, if no slot but v had it
+  none-left :
+      (lineOf a ≡ l → ⊥)
+      → ((k : ℕ) → (k ≡ v → ⊥) → tagAt (c .tags) k .valid ≡ true → tagAt (c .tags) k .line ≡ lineOf a → ⊥)
+      → flatByte new a ≡ getD (c .memory) a 0
+  unfolding install
+  none-left d h =
+      flat-none new a (λ k p q.
+      elim (ℕ-discrete k v) [
+        | yes e ↦ d (sym q ∙ (ap (λ (n : ℕ). tagAt (new .tags) n .line) e ∙ tag-here .1))
+        | no n ↦ h k n (ap (λ (t : Tag). t .valid) (sym (tag-other k n)) ∙ p) (ap (λ (t : Tag). t .line) (sym (tag-other k n)) ∙ q)
+      ])
+
+  -- a byte of another line
+  install-miss : (lineOf a ≡ l → ⊥) → flatByte new a ≡ flatByte c a
+  install-miss d =
+      cases (present c (lineOf a))
+      (λ e.
+      let p = present-tells c (lineOf a) e in
+      let k = slotOf c (lineOf a) in
+      elim (ℕ-discrete k v) [
+        | yes z ↦
+            none-left d (λ j n q r. n (g .lines .once j k q (p .valid) (r ∙ sym (p .line)) ∙ z))
+            ∙ sym (flat-clean c g k a (p .valid) (p .line) (ap (λ (n : ℕ). tagAt (c .tags) n .dirty) z ∙ washed))
+        | no n ↦
+            let t = tag-other k n in
+            flat-here new (fine .lines) k a (ap (λ (t : Tag). t .valid) t ∙ p .valid) (ap (λ (t : Tag). t .line) t ∙ p .line)
+            ∙ (install-other c v l k n (a % 16) (omega arith)
+            ∙ sym (flat-here c (g .lines) k a (p .valid) (p .line)))
+      ])
+      (λ e. none-left d (λ j n q r. absent-tells c (g .lines) (lineOf a) e j q r) ∙ sym (flat-gone c a e))
+
+  install-flat : flatByte new a ≡ flatByte c a
+  install-flat = elim (ℕ-discrete (lineOf a) l) [ yes e ↦ install-hit e | no d ↦ install-miss d ]
+
+-- an absent line of memory is filled, its victim written back: no byte changes
+pub fill-flat :
+    (l : ℕ) (b : Hierarchy) → fits b ≡ true → linesFormed b ≡ true → present b l ≡ false → l * 16 < b .size
+    → (a : ℕ) → flatByte (fillLine l b) a ≡ flatByte b a
+unfolding fillLine writeBackSlot
+fill-flat l b f formed absent inside a =
+    let fit = fits-tells b f in
+    let g = good-tells b formed in
+    let v = victim b l in
+    let h = victim-in b l fit in
+    let k = save-kept b fit g v (h .used) in
+    let fit₁ = fits-tells (writeBackSlot v b) (kept-fits b _ f k) in
+    slot-flat (firstSlot b l) v (install v l (writeBackSlot v b)) a
+    ∙ (install-flat (writeBackSlot v b) fit₁ (k .good) v l (h .used) (h .low) (h .high) (omega arith) (k .lines l ∙ absent) (save-clean b fit g v (h .used)) a
+    ∙ save-flat b fit g v (h .used) a)
+
+pub fill-size : (l : ℕ) (b : Hierarchy) → fillLine l b .size ≡ b .size
+unfolding fillLine useSlot install writeBackSlot
+fill-size l b = refl
+
+-- ---- start
+
+-- a start has no valid line
+pub start-flat : (sets ways : ℕ) (found : List ℕ) (a : ℕ) → flatByte (started sets ways found .hierarchy) a ≡ getD found a 0
+unfolding started
+start-flat sets ways found a = flat-none (started sets ways found .hierarchy) a (λ k v e. wrong v (start-invalid sets ways k))

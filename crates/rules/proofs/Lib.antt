@@ -1,0 +1,14 @@
+pub mod Examples
+pub mod Checks
+pub mod Numbers
+pub mod LineFacts
+pub mod LineSteps
+pub mod LineRules
+pub mod LineStart
+pub mod FlatLines
+pub mod Parts
+pub mod Squash
+pub mod SquashFormed
+pub mod Struck
+pub mod RunLaws
+pub mod Dropped

@@ -1,0 +1,10 @@
+-- `numbers_given` promises what is proved in Numbers.
+use Rattle.rules.proofs.numbers_given.Statement.{statement}
+use Rattle.rules.proofs.numbers_given.Tie as tie
+use Rattle.rules.proofs.Numbers.{first-number, next-number}
+
+returns : tie.Need-returns
+returns c = (first-number, next-number)
+
+pub numbers-given-spec : {M : Type 1} → statement M
+numbers-given-spec = tie.close (tie.spec returns)

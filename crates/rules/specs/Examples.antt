@@ -1,0 +1,228 @@
+-- The shared table: 01's bench examples marked P, each as what the rules give beside what 01 says. And 01's worked script,
+-- and dropped stretches.
+use Prim.Native.Nat.{ℕ}
+use mathlib.Core.Bool.{Bool, true, false}
+use mathlib.Core.List.{List, [], _∷_, _++_, map}
+use lib.ListN.{getD, replicate}
+use Rattle.lists.specs.Padded.{select}
+use Rattle.rules.specs.Dropped.{remaining, struck}
+use Rattle.rules.specs.declared.StoreEntry.{StoreEntry}
+use Rattle.rules.specs.declared.Request.the-variants.{Free, Line}
+use Rattle.rules.specs.Shape.{World, Hierarchy, noStore, noLoad, tagAt, lineOf, setOf}
+use Rattle.rules.specs.Lines.{slotOf, useLine, writeStore, victim, fillLine}
+use Rattle.rules.specs.Calls.{Call, Answer, load, store, retry, commit, abort, idle, reply, flush, show, refused, stored, value, waits, committed, kept, drained, requested, idled, filled}
+use Rattle.rules.specs.Runs.{started, answer, answers, after}
+
+-- what an example shows: answers of calls, or figures
+pub data Shown : Type 0 where
+  gives : List Answer → Shown
+  figures : List ℕ → Shown
+
+pub record Example : Type 0 where
+  pub seen : Shown
+  pub expected : Shown
+
+-- a start that found zeros
+abbrev pub fresh : ℕ → ℕ → ℕ → World
+fresh sets ways size = started sets ways (replicate size 0)
+
+-- the answers of a run from w on
+abbrev pub runs : World → List Call → Shown
+runs w cs = gives (answers cs w)
+
+-- the answer of each call alone, made at w
+abbrev pub each : World → List Call → Shown
+each w cs = gives (map (λ c. answer c w) cs)
+
+-- ---- the worlds
+
+-- "h 2, last 4": four stores are held, two of them committed
+abbrev held : ℕ → StoreEntry
+held i = record { number = i; address = 0; width = 1; value = i }
+
+abbrev pub twoOfFour : World
+twoOfFour = record {
+  queues = record {
+    last = 4;
+    committed = 2;
+    request = Free;
+    stores = held 1 ∷ held 2 ∷ held 3 ∷ held 4 ∷ replicate 12 noStore;
+    loads = replicate 8 noLoad;
+  };
+  hierarchy = fresh 1 1 32 .hierarchy;
+}
+
+-- "one set, two ways: fill line 0, fill line 1, use 0"
+abbrev pub twoFilled : Hierarchy
+twoFilled = useLine 0 (fillLine 1 (fillLine 0 (fresh 1 2 48 .hierarchy)))
+
+-- lines 0 and 1 in the two ways of one set, line 1 used last; the last number is 3, and load 3 waits for line 2
+abbrev pub twoPresent : World
+twoPresent = record {
+  queues = record {
+    last = 3;
+    committed = 2;
+    request = Free;
+    stores = replicate 16 noStore;
+    loads = record { number = 3; address = 32; width = 1; waiting = true } ∷ replicate 7 noLoad;
+  };
+  hierarchy = useLine 1 twoFilled;
+}
+
+-- line 0 in the one way, dirty, with byte 0 written; line 1 is requested for the committed load 2
+abbrev pub dirtyRequested : World
+dirtyRequested = record {
+  queues = record {
+    last = 2;
+    committed = 2;
+    request = Line 1;
+    stores = replicate 16 noStore;
+    loads = record { number = 2; address = 16; width = 1; waiting = true } ∷ replicate 7 noLoad;
+  };
+  hierarchy = writeStore (held 7) (fillLine 0 (fresh 1 1 48 .hierarchy));
+}
+
+-- ---- the table
+
+unfoldable pub table : List Example
+table =
+    -- "two-byte 43707 stored at 4, byte 17 at 5; a two-byte load at 4 gives 4539"
+    record {
+      seen = runs (fresh 1 1 32) (store 4 2 43707 ∷ store 5 1 17 ∷ load 4 2 ∷ []);
+      expected = gives (stored 1 ∷ stored 2 ∷ value 3 4539 ∷ []);
+    }
+    -- "two sets, address 52: line 3, set 1"
+    ∷ record {
+      seen = figures (lineOf 52 ∷ setOf (fresh 2 1 64 .hierarchy) (lineOf 52) ∷ []);
+      expected = figures (3 ∷ 1 ∷ []);
+    }
+    -- "h 2, last 4: abort 3, 4, 5 pass; 2 and 6 give 16"
+    ∷ record {
+      seen = each twoOfFour (abort 3 ∷ abort 4 ∷ abort 5 ∷ abort 2 ∷ abort 6 ∷ []);
+      expected = gives (kept 2 ∷ kept 3 ∷ kept 4 ∷ refused 16 ∷ refused 16 ∷ []);
+    }
+    -- "same: commit 2, 3, 4 pass; 1 and 5 give 15"
+    ∷ record {
+      seen = each twoOfFour (commit 2 ∷ commit 3 ∷ commit 4 ∷ commit 1 ∷ commit 5 ∷ []);
+      expected = gives (committed 2 ∷ committed 3 ∷ committed 4 ∷ refused 15 ∷ refused 15 ∷ []);
+    }
+    -- "memory 32: a word at 28 passes, 30 gives 3, 32 gives 4"
+    ∷ record {
+      seen = each (fresh 1 1 32) (load 28 4 ∷ load 30 4 ∷ load 32 4 ∷ []);
+      expected = gives (waits 1 ∷ refused 3 ∷ refused 4 ∷ []);
+    }
+    -- "byte value 255 passes, 256 gives 5"
+    ∷ record {
+      seen = each (fresh 1 1 32) (store 0 1 255 ∷ store 0 1 256 ∷ []);
+      expected = gives (stored 1 ∷ refused 5 ∷ []);
+    }
+    -- "load 1 of byte 0 waits, store 2 there, commit 2, idle, reply. Idle now does nothing; inquiry 1 gives the old byte;
+    -- the next idle drains 2"
+    ∷ record {
+      seen =
+          runs (started 1 1 (9 ∷ replicate 15 0))
+          (load 0 1 ∷ store 0 1 7 ∷ commit 2 ∷ idle ∷ reply ∷ idle ∷ retry 1 ∷ idle ∷ []);
+      expected =
+          gives
+          (waits 1 ∷ stored 2 ∷ committed 2 ∷ requested 0 ∷ filled 0 ∷ idled ∷ value 1 9 ∷ drained 2 ∷ []);
+    }
+    -- "one set, two ways: fill line 0, fill line 1, use 0; filling line 2 evicts 1": the victim is way 1, where line 1 was;
+    -- then line 0 is in way 0, line 1 is absent (no way below 2 has it), and line 2 is in way 1
+    ∷ record {
+      seen =
+          figures
+          (slotOf twoFilled 1
+          ∷ victim twoFilled 2
+          ∷ slotOf (fillLine 2 twoFilled) 0
+          ∷ slotOf (fillLine 2 twoFilled) 1
+          ∷ slotOf (fillLine 2 twoFilled) 2
+          ∷ []);
+      expected = figures (1 ∷ 1 ∷ 0 ∷ 2 ∷ 1 ∷ []);
+    }
+    ∷ []
+
+-- ---- 01's worked script
+
+unfoldable pub script : List Call
+script =
+    store 4 1 7
+    ∷ load 4 1
+    ∷ load 5 1
+    ∷ abort 3
+    ∷ commit 2
+    ∷ idle
+    ∷ reply
+    ∷ idle
+    ∷ flush
+    ∷ load 5 1
+    ∷ []
+
+-- ---- dropped stretches
+
+pub record Stretch : Type 0 where
+  pub from : World
+  pub before : List Call
+  -- the stretch is the body and then an abort naming n
+  pub n : ℕ
+  pub body : List Call
+  pub later : List Call
+
+abbrev pub whole : Stretch → List Call
+whole s = s .before ++ ((s .body ++ abort (s .n) ∷ []) ++ s .later)
+
+-- which of its calls remain
+abbrev pub stays : Stretch → List Bool
+stays s = remaining (struck (s .n)) (s .before) (s .body ++ abort (s .n) ∷ []) (s .later)
+
+-- the answers of the remaining calls in the whole run, and in the struck run; what each run leaves
+abbrev pub seenAnswers : Stretch → List Answer
+seenAnswers s = select (stays s) (answers (whole s) (s .from))
+
+abbrev pub struckAnswers : Stretch → List Answer
+struckAnswers s = answers (select (stays s) (whole s)) (s .from)
+
+-- what a run leaves, in figures: last, h, the first places of the queues, the ages of the first two slots, the first byte of memory
+abbrev pub figuresOf : World → List ℕ
+figuresOf w =
+    w .queues .last
+    ∷ w .queues .committed
+    ∷ getD (w .queues .stores) 0 noStore .number
+    ∷ getD (w .queues .stores) 0 noStore .address
+    ∷ getD (w .queues .loads) 0 noLoad .number
+    ∷ getD (w .queues .loads) 1 noLoad .number
+    ∷ tagAt (w .hierarchy .tags) 0 .age
+    ∷ tagAt (w .hierarchy .tags) 1 .age
+    ∷ getD (w .hierarchy .memory) 0 0
+    ∷ []
+
+abbrev pub seenEnd : Stretch → List ℕ
+seenEnd s = figuresOf (after (whole s) (s .from))
+
+abbrev pub struckEnd : Stretch → List ℕ
+struckEnd s = figuresOf (after (select (stays s) (whole s)) (s .from))
+
+-- Line 0 is dirty, and line 1 is requested for the committed load 2. Then a load that waits, a held store, a refused call, and a
+-- reply that evicts the dirty line.
+unfoldable pub evicting : Stretch
+evicting = record {
+  from = dirtyRequested;
+  before = idle ∷ [];
+  n = 3;
+  body = load 32 1 ∷ store 4 1 9 ∷ load 1 3 ∷ reply ∷ [];
+  later = show 16 ∷ [];
+}
+
+-- Lines 0 and 1 are present, line 1 used last; load 3 waits. Then a load of line 0, a store to it, an idle call, a store that
+-- covers what load 3 waits for, and an inquiry about load 3.
+unfoldable pub inquiring : Stretch
+inquiring = record {
+  from = twoPresent;
+  before = [];
+  n = 4;
+  body = load 0 1 ∷ store 0 1 9 ∷ idle ∷ store 32 1 5 ∷ retry 3 ∷ commit 9 ∷ [];
+  later = show 0 ∷ [];
+}
+
+-- A load of an absent line, and an idle call.
+unfoldable pub waitingOnly : Stretch
+waitingOnly = record { from = fresh 1 1 48; before = []; n = 1; body = load 32 1 ∷ idle ∷ []; later = idle ∷ [] }

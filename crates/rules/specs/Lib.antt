@@ -1,0 +1,14 @@
+pub mod Shape
+pub mod Lines
+pub mod Forward
+pub mod Calls
+pub mod WellFormed
+pub mod Runs
+pub mod Refusals
+pub mod Numbers
+pub mod Dropped
+pub mod Flat
+pub mod Computed
+pub mod Examples
+pub mod States
+pub mod Claims

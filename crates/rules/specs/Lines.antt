@@ -1,0 +1,117 @@
+-- Lines: where a line stands, use, a store written to its line, write back, the victim and the fill.
+-- Four steps on one slot or its set (use, put a store, write back, install) make up every change of the hierarchy.
+use Prim.Native.Nat.{ℕ, _+_, _*_, _-_, _/_, _%_}
+use mathlib.Core.Bool.{Bool, true, false, cond, not, _&&_, _||_}
+use mathlib.Core.List.{List}
+use mathlib.Core.Option.{Option, some, none}
+use lib.Dec.{ltb, leb, eqb}
+use lib.ListN.{length, getD, set}
+use Rattle.lists.specs.Padded.{filter}
+use Rattle.lists.specs.Counted.{firstFrom, greatestFrom, stepsFrom, eachFrom}
+use Rattle.lists.specs.Bytes.{overlaid}
+use Rattle.rules.specs.declared.Tag.{Tag}
+use Rattle.rules.specs.declared.StoreEntry.{StoreEntry}
+use Rattle.rules.specs.Shape.{Hierarchy, holding, lineBytes, lineOf, slots, firstSlot, tagAt, withAge, withDirty}
+
+-- ---- where a line stands
+
+-- a valid record that names the line
+unfoldable pub holdsLine : ℕ → Tag → Bool
+holdsLine l t = t .valid && eqb (t .line) l
+
+-- the slot of the line's set that has the line; where none has it, the first slot after the set
+unfoldable pub slotOf : Hierarchy → ℕ → ℕ
+slotOf b l = firstFrom (λ k. holdsLine l (tagAt (b .tags) k)) (firstSlot b l) (b .ways)
+
+-- the line is present: some way of its set has it
+unfoldable pub present : Hierarchy → ℕ → Bool
+present b l = ltb (slotOf b l) (firstSlot b l + b .ways)
+
+-- where in the cache the 16 bytes of a slot begin
+abbrev pub slotPlace : ℕ → ℕ
+slotPlace k = lineBytes * k
+
+-- where in the cache the bytes of a present line begin, by an address in the line
+unfoldable pub placeOf : Hierarchy → ℕ → ℕ
+placeOf b a = slotPlace (slotOf b (lineOf a))
+
+-- the byte at address a of the cached line, if the line is present
+unfoldable pub cachedByte : Hierarchy → ℕ → Option ℕ
+cachedByte b a = cond (present b (lineOf a)) (some (getD (b .cache) (placeOf b a + a % lineBytes) 0)) none
+
+-- ---- use
+
+-- "Use gives a line age 0 and adds 1 to each smaller age in its set."
+-- The record of slot k, when slot v of the set that begins at slot f is used and had age a.
+unfoldable pub agedAt : ℕ → ℕ → ℕ → ℕ → ℕ → Tag → Tag
+agedAt f ways v a k t =
+    cond (eqb k v) (withAge 0 t)
+    (cond (leb f k && (ltb k (f + ways) && ltb (t .age) a)) (withAge (t .age + 1) t) t)
+
+-- slot v of the set that begins at slot f is used
+unfoldable pub useSlot : ℕ → ℕ → Hierarchy → Hierarchy
+useSlot f v b =
+    holding b (eachFrom (agedAt f (b .ways) v (tagAt (b .tags) v .age)) 0 (b .tags)) (b .cache) (b .memory)
+
+-- the line is used, if it is present
+unfoldable pub useLine : ℕ → Hierarchy → Hierarchy
+useLine l b = cond (present b l) (useSlot (firstSlot b l) (slotOf b l) b) b
+
+-- ---- a store is written
+
+-- the store's bytes go into slot v, whose line is now dirty
+unfoldable pub putStore : ℕ → StoreEntry → Hierarchy → Hierarchy
+putStore v s b =
+    holding b (set (b .tags) v (withDirty true (tagAt (b .tags) v)))
+    (eachFrom (overlaid (slotPlace v + s .address % lineBytes) (s .width) (s .value)) 0 (b .cache)) (b .memory)
+
+-- "write it, mark the line dirty, use the line": of a store whose line is present
+unfoldable pub writeStore : StoreEntry → Hierarchy → Hierarchy
+writeStore s b =
+    let l = lineOf (s .address) in
+    useSlot (firstSlot b l) (slotOf b l) (putStore (slotOf b l) s b)
+
+-- ---- write back: a line goes to memory
+
+-- byte a of memory, when the line of record t, in slot v, is written if it is dirty
+unfoldable pub writtenBackAt : Tag → List ℕ → ℕ → ℕ → ℕ → ℕ
+writtenBackAt t cache v a x =
+    cond (t .dirty && eqb (lineOf a) (t .line)) (getD cache (slotPlace v + a % lineBytes) 0) x
+
+-- the line of slot v is written to memory if it is dirty, and is clean
+unfoldable pub writeBackSlot : ℕ → Hierarchy → Hierarchy
+writeBackSlot v b =
+    holding b (set (b .tags) v (withDirty false (tagAt (b .tags) v))) (b .cache)
+    (eachFrom (writtenBackAt (tagAt (b .tags) v) (b .cache) v) 0 (b .memory))
+
+-- "writes every dirty line to memory, marks it clean": slot by slot
+unfoldable pub writeBackAll : Hierarchy → Hierarchy
+writeBackAll b = stepsFrom writeBackSlot 0 (slots b) b
+
+-- the number of dirty records
+unfoldable pub dirtyLines : Hierarchy → ℕ
+dirtyLines b = length (filter (λ t. t .dirty) (b .tags))
+
+-- ---- fill: a line comes from memory
+
+-- "the lowest invalid way of the set, else the way of greatest age", as a slot
+unfoldable pub victim : Hierarchy → ℕ → ℕ
+victim b l =
+    let f = firstSlot b l in
+    let k = firstFrom (λ k. not (tagAt (b .tags) k .valid)) f (b .ways) in
+    cond (ltb k (f + b .ways)) k (greatestFrom (λ k. tagAt (b .tags) k .age) f f (b .ways))
+
+-- byte j of the cache, when line l of memory is copied into slot v
+unfoldable pub copiedAt : List ℕ → ℕ → ℕ → ℕ → ℕ → ℕ
+copiedAt memory v l j x = cond (eqb (j / lineBytes) v) (getD memory (lineBytes * l + j % lineBytes) 0) x
+
+-- line l in slot v, valid and clean, with the 16 bytes of memory; the slot's age stays
+unfoldable pub install : ℕ → ℕ → Hierarchy → Hierarchy
+install v l b =
+    holding b (set (b .tags) v (record { valid = true; dirty = false; line = l; age = tagAt (b .tags) v .age }))
+    (eachFrom (copiedAt (b .memory) v l) 0 (b .cache)) (b .memory)
+
+-- "A dirty victim is first written to memory. Then the reply copies the line's 16 bytes out of the middle of memory;
+-- the record becomes valid and clean, is used"
+unfoldable pub fillLine : ℕ → Hierarchy → Hierarchy
+fillLine l b = let v = victim b l in useSlot (firstSlot b l) v (install v l (writeBackSlot v b))

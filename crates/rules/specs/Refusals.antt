@@ -1,0 +1,43 @@
+-- Claims about refusals: a refused call changes nothing, and each refusal is given under its stated condition and under no other.
+use Prim.Native.Nat.{ℕ}
+use mathlib.Core.Path.{_≡_}
+use mathlib.Core.Bool.{Bool, true, false}
+use mathlib.Core.List.{List, [], _∷_, _++_}
+use Rattle.rules.specs.Shape.{World}
+use Rattle.rules.specs.Calls.{Call, Check, load, store, retry, commit, abort, idle, reply, flush, show, refused, isAccepted, passes, callChecks}
+use Rattle.rules.specs.Runs.{stateChecks, answer, next}
+
+-- "It returns the number alone, and state, cache and memory keep their contents."
+abbrev pub RefusedKeeps : Call → World → Type 0
+RefusedKeeps c w = isAccepted (answer c w) ≡ false → next c w ≡ w
+
+-- every call but show line names refusals
+abbrev pub namesRefusal : Call → Bool
+namesRefusal (load a w) = true
+namesRefusal (store a w v) = true
+namesRefusal (retry i) = true
+namesRefusal (commit k) = true
+namesRefusal (abort n) = true
+namesRefusal idle = true
+namesRefusal reply = true
+namesRefusal flush = true
+namesRefusal (show a) = false
+
+-- the conditions of a call, in 01's order
+abbrev pub allChecks : Call → World → List Check
+allChecks c w = stateChecks (w .queues) (w .hierarchy) ++ callChecks c (w .queues) (w .hierarchy)
+
+-- k is the number of the first refusal that applies
+pub record FirstFailing (k : ℕ) (ks : List Check) : Type 0 where
+  pub earlier : List Check
+  pub here : Check
+  pub later : List Check
+  pub splits : ks ≡ earlier ++ here ∷ later
+  pub pass : passes earlier ≡ true
+  pub holds : here .applies ≡ true
+  pub names : here .number ≡ k
+
+-- "A refusal occurs under its stated condition and under no other."
+pub record RefusedExactly (c : Call) (w : World) : Type 0 where
+  pub only : (k : ℕ) → answer c w ≡ refused k → FirstFailing k (allChecks c w)
+  pub whenever : (k : ℕ) → namesRefusal c ≡ true → FirstFailing k (allChecks c w) → answer c w ≡ refused k

@@ -1,0 +1,183 @@
+-- States that show what well-formed asks: a rich one that keeps every clause, and for each clause one that breaks it.
+use Prim.Native.Nat.{ℕ, _+_}
+use mathlib.Core.Bool.{Bool, true, false}
+use mathlib.Core.List.{List, [], _∷_, _++_, map}
+use lib.ListN.{length, set, replicate, take}
+use Rattle.lists.specs.Counted.{eachFrom}
+use Rattle.rules.specs.declared.Tag.{Tag}
+use Rattle.rules.specs.declared.StoreEntry.{StoreEntry}
+use Rattle.rules.specs.declared.LoadEntry.{LoadEntry}
+use Rattle.rules.specs.declared.Request.{Request}
+use Rattle.rules.specs.declared.Request.the-variants.{Free, Line}
+use Rattle.rules.specs.Shape.{Queues, Hierarchy, World, noStore, noLoad, noTag, fits}
+use Rattle.rules.specs.WellFormed.{lineClauses, queueClauses}
+
+-- ---- building a state
+
+abbrev tag : Bool → Bool → ℕ → ℕ → Tag
+tag v d l a = record { valid = v; dirty = d; line = l; age = a }
+
+abbrev heldAt : ℕ → ℕ → ℕ → ℕ → StoreEntry
+heldAt i a w v = record { number = i; address = a; width = w; value = v }
+
+abbrev waitingLoad : ℕ → ℕ → ℕ → LoadEntry
+waitingLoad i a w = record { number = i; address = a; width = w; waiting = true }
+
+abbrev answeredLoad : ℕ → ℕ → ℕ → LoadEntry
+answeredLoad i a w = record { number = i; address = a; width = w; waiting = false }
+
+-- two sets of two ways over six lines of memory, in which byte a is a + 1
+abbrev lines : List Tag → List ℕ → Hierarchy
+lines tags cache = record {
+  sets = 2;
+  ways = 2;
+  size = 96;
+  tags = tags;
+  cache = cache;
+  memory = eachFrom (λ a x. a + 1) 0 (replicate 96 0);
+}
+
+abbrev queues : ℕ → ℕ → Request → List StoreEntry → List LoadEntry → Queues
+queues last h r ss ls = record { last = last; committed = h; request = r; stores = ss; loads = ls }
+
+-- ---- the rich state
+
+-- set 0: line 0 clean, line 2 dirty; set 1: line 1 clean, the other way invalid
+unfoldable pub richTags : List Tag
+richTags =
+    tag true false 0 1
+    ∷ tag true true 2 0
+    ∷ tag true false 1 0
+    ∷ tag false false 0 1
+    ∷ replicate 252 noTag
+
+unfoldable pub richCache : List ℕ
+richCache =
+    eachFrom (λ j x. j + 1) 0 (replicate 16 0)
+    ++ (replicate 16 200 ++ (eachFrom (λ j x. j + 17) 0 (replicate 16 0) ++ replicate 16 0))
+
+-- store 2 is committed, store 5 is not
+unfoldable pub richStores : List StoreEntry
+richStores = heldAt 2 48 4 77 ∷ heldAt 5 4 1 9 ∷ replicate 14 noStore
+
+-- load 3 is committed and waits for line 4, which is requested; load 6 is answered, load 7 waits
+unfoldable pub richLoads : List LoadEntry
+richLoads = waitingLoad 3 64 2 ∷ answeredLoad 6 0 1 ∷ waitingLoad 7 80 4 ∷ replicate 5 noLoad
+
+abbrev pub richLines : Hierarchy
+richLines = lines richTags richCache
+
+abbrev pub richQueues : Queues
+richQueues = queues 7 4 (Line 4) richStores richLoads
+
+-- ---- one state for each clause
+
+-- its clauses, those of the lines first
+abbrev pub clauses : World → List Bool
+clauses w = lineClauses (w .hierarchy) ++ queueClauses (w .queues) (w .hierarchy)
+
+abbrev withLines : Hierarchy → World
+withLines b = record { queues = richQueues; hierarchy = b }
+
+abbrev withQueues : Queues → World
+withQueues q = record { queues = q; hierarchy = richLines }
+
+-- slot k has another record
+abbrev slotHas : ℕ → Tag → World
+slotHas k t = withLines (lines (set richTags k t) richCache)
+
+-- In the order of the clauses. (Whoever wants a requested line has a listed access, which lies in memory: so a request
+-- outside memory breaks the clause on wanting too, if listed accesses pass.)
+unfoldable pub broken : List World
+broken =
+    -- a record too many
+    withLines (lines (richTags ++ noTag ∷ []) richCache)
+    -- an unused record with an age
+    ∷ slotHas 200 (tag false false 0 1)
+    -- an age twice
+    ∷ slotHas 3 (tag false false 0 0)
+    -- a line outside memory
+    ∷ slotHas 2 (tag true true 7 0)
+    -- a line of set 0 in set 1
+    ∷ slotHas 2 (tag true true 4 0)
+    -- a line twice
+    ∷ slotHas 0 (tag true true 2 1)
+    -- an invalid record that is dirty
+    ∷ slotHas 3 (tag false true 0 1)
+    -- an invalid record with a line
+    ∷ slotHas 3 (tag false false 1 1)
+    -- an invalid record with a byte
+    ∷ withLines (lines richTags (set richCache 50 1))
+    -- a clean line that differs from memory
+    ∷ withLines (lines richTags (set richCache 0 0))
+    -- a place too many
+    ∷ withQueues (queues 7 4 (Line 4) (richStores ++ noStore ∷ []) richLoads)
+    -- a free place with an address
+    ∷ withQueues (queues 7 4 (Line 4) (set richStores 9 (heldAt 0 4 0 0)) richLoads)
+    -- a free place before an entry
+    ∷ withQueues (queues 7 4 (Line 4) (heldAt 2 48 4 77 ∷ noStore ∷ heldAt 5 4 1 9 ∷ replicate 13 noStore) richLoads)
+    -- a last number of 33 bits
+    ∷ withQueues (queues 4294967296 4 (Line 4) richStores richLoads)
+    -- h above last
+    ∷ withQueues (queues 7 8 (Line 4) richStores (waitingLoad 3 64 2 ∷ waitingLoad 7 80 4 ∷ replicate 6 noLoad))
+    -- a number that falls
+    ∷ withQueues (queues 7 4 (Line 4) (heldAt 5 4 1 9 ∷ heldAt 2 48 4 77 ∷ replicate 14 noStore) richLoads)
+    -- a number above last
+    ∷ withQueues (queues 6 4 (Line 4) richStores richLoads)
+    -- a number in both lists
+    ∷ withQueues (queues 7 4 (Line 4) (set richStores 1 (heldAt 6 4 1 9)) richLoads)
+    -- an address that is no multiple of its width
+    ∷ withQueues (queues 7 4 (Line 4) (set richStores 1 (heldAt 5 5 2 9)) richLoads)
+    -- an answered load at h
+    ∷ withQueues (queues 7 6 (Line 4) richStores richLoads)
+    -- a waiting load that an older store covers
+    ∷ withQueues (queues 7 4 (Line 4) (set richStores 0 (heldAt 2 64 4 77)) richLoads)
+    -- a requested line that is present
+    ∷ withQueues (queues 7 4 (Line 2) richStores (set richLoads 0 (waitingLoad 3 32 2)))
+    -- a requested line outside memory, which nobody wants
+    ∷ withQueues (queues 7 4 (Line 7) richStores richLoads)
+    -- a requested line that only an uncommitted load wants
+    ∷ withQueues (queues 7 4 (Line 5) richStores richLoads)
+    ∷ []
+
+-- all of the clauses but number i
+abbrev pub allBut : ℕ → List Bool
+allBut i = set (replicate 24 true) i false
+
+unfoldable pub brokenClauses : List (List Bool)
+brokenClauses =
+    allBut 0 ∷ allBut 1 ∷ allBut 2 ∷ allBut 3 ∷ allBut 4 ∷ allBut 5 ∷ allBut 6 ∷ allBut 7 ∷ allBut 8 ∷ allBut 9
+    ∷ allBut 10 ∷ allBut 11 ∷ allBut 12 ∷ allBut 13 ∷ allBut 14 ∷ allBut 15 ∷ allBut 16 ∷ allBut 17 ∷ allBut 18
+    ∷ allBut 19 ∷ allBut 20 ∷ allBut 21 ∷ set (allBut 22) 23 false ∷ allBut 23 ∷ []
+
+-- ---- check 1
+
+abbrev sized : ℕ → ℕ → ℕ → ℕ → ℕ → Hierarchy
+sized sets ways size cache memory = record {
+  sets = sets;
+  ways = ways;
+  size = size;
+  tags = replicate 256 noTag;
+  cache = replicate cache 0;
+  memory = replicate memory 0;
+}
+
+-- figures that are not allowed, and lent lengths that disagree
+unfoldable pub unfit : List Hierarchy
+unfit =
+    -- 0, 3 and 128 sets
+    sized 0 1 32 0 32
+    ∷ sized 3 1 32 48 32
+    ∷ sized 128 1 32 2048 32
+    -- 0 and 5 ways
+    ∷ sized 1 0 32 0 32
+    ∷ sized 1 5 32 80 32
+    -- no memory, part of a line
+    ∷ sized 1 1 0 16 0
+    ∷ sized 1 1 24 16 24
+    -- a byte too few or too many is lent
+    ∷ sized 1 1 32 15 32
+    ∷ sized 1 1 32 17 32
+    ∷ sized 1 1 32 16 31
+    ∷ sized 1 1 32 16 48
+    ∷ []
