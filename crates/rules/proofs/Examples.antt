@@ -9,7 +9,7 @@ use Rattle.rules.specs.Calls.{Call, Answer, abort, refused, stored, valu
 use Rattle.rules.specs.WellFormed.{wellFormed}
 use Rattle.rules.specs.Runs.{answers, after, startAnswer, startWorld, ready}
 use Rattle.rules.specs.Dropped.{Dropped}
-use Rattle.rules.specs.Examples.{Example, table, script, whole, seenAnswers, struckAnswers, seenEnd, struckEnd, evicting, inquiring, waitingOnly}
+use Rattle.rules.specs.Examples.{Example, table, script, whole, seenAnswers, struckAnswers, seenEnd, struckEnd, evicting, inquiring, waitingOnly, draining}
 use Rattle.rules.specs.States.{richTags, richCache, richStores, richLoads, richQueues, richLines, clauses, broken, brokenClauses, unfit}
 use Rattle.rules.specs.Computed.{computed}
 
@@ -130,3 +130,19 @@ waitingOnly-ends = refl
 pub waitingOnly-struck-ends : struckEnd waitingOnly ≡ 0 ∷ 0 ∷ 0 ∷ 0 ∷ 0 ∷ 0 ∷ 0 ∷ 0 ∷ 0 ∷ []
 unfolding computed waitingOnly
 waitingOnly-struck-ends = refl
+
+pub draining-whole : seenAnswers draining ≡ idled ∷ shown 16 (replicate 16 0) ∷ []
+unfolding computed draining
+draining-whole = refl
+
+pub draining-struck : struckAnswers draining ≡ idled ∷ shown 16 (replicate 16 0) ∷ []
+unfolding computed draining
+draining-struck = refl
+
+pub draining-ends : seenEnd draining ≡ 0 ∷ 0 ∷ 0 ∷ 0 ∷ 0 ∷ 0 ∷ 0 ∷ 1 ∷ 0 ∷ []
+unfolding computed draining
+draining-ends = refl
+
+pub draining-struck-ends : struckEnd draining ≡ 0 ∷ 0 ∷ 0 ∷ 0 ∷ 0 ∷ 0 ∷ 0 ∷ 1 ∷ 0 ∷ []
+unfolding computed draining
+draining-struck-ends = refl

@@ -8,10 +8,10 @@ use Rattle.lists.specs.Padded.{select}
 use Rattle.rules.specs.Dropped.{remaining, struck}
 use Rattle.rules.specs.declared.StoreEntry.{StoreEntry}
 use Rattle.rules.specs.declared.Request.the-variants.{Free, Line}
-use Rattle.rules.specs.Shape.{World, Hierarchy, noStore, noLoad, tagAt, lineOf, setOf}
+use Rattle.rules.specs.Shape.{World, Hierarchy, world, noStore, noLoad, tagAt, lineOf, setOf}
 use Rattle.rules.specs.Lines.{slotOf, useLine, writeStore, victim, fillLine}
 use Rattle.rules.specs.Calls.{Call, Answer, load, store, retry, commit, abort, idle, reply, flush, show, refused, stored, value, waits, committed, kept, drained, requested, idled, filled}
-use Rattle.rules.specs.Runs.{started, answer, answers, after}
+use Rattle.rules.specs.Runs.{emptyQueues, started, answer, answers, after}
 
 -- what an example shows: answers of calls, or figures
 pub data Shown : Type 0 where
@@ -226,3 +226,13 @@ inquiring = record {
 -- A load of an absent line, and an idle call.
 unfoldable pub waitingOnly : Stretch
 waitingOnly = record { from = fresh 1 1 48; before = []; n = 1; body = load 32 1 ∷ idle ∷ []; later = idle ∷ [] }
+
+-- A store to a present line, and an idle call.
+unfoldable pub draining : Stretch
+draining = record {
+  from = world emptyQueues twoFilled;
+  before = [];
+  n = 1;
+  body = store 16 1 9 ∷ idle ∷ [];
+  later = show 16 ∷ [];
+}

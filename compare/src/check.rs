@@ -1,0 +1,296 @@
+//! The checks before a call: figures and lengths (1), well-formedness (10),
+//! with one function for each clause, and the input checks (2, 3, 4, 5).
+
+use crate::types::{LoadEntry, Request, State, StoreEntry, Tag, LINE, RECORDS};
+
+/// Refusal 1 or 10, in that order, or none.
+pub fn refusal(state: &State, cache: &[u8], memory: &[u8]) -> Option<u32> {
+    if !figures_agree(state, cache, memory) {
+        return Some(1);
+    }
+    if !well_formed(state, cache, memory) {
+        return Some(10);
+    }
+    None
+}
+
+/// Sets, ways and memory length are allowed ones.
+pub fn figures_allowed(sets: u32, ways: u32, memory_length: usize) -> bool {
+    sets.is_power_of_two()
+        && sets <= 64
+        && (1..=4).contains(&ways)
+        && (16..=65536).contains(&memory_length)
+        && memory_length.is_multiple_of(LINE)
+}
+
+/// Cache bytes that go with the figures.
+pub fn cache_length(sets: u32, ways: u32) -> usize {
+    (sets as usize).saturating_mul(ways as usize).saturating_mul(LINE)
+}
+
+/// Check 1: the state's figures are allowed and the lent lengths agree.
+pub fn figures_agree(state: &State, cache: &[u8], memory: &[u8]) -> bool {
+    figures_allowed(state.sets, state.ways, memory.len())
+        && state.memory_length as usize == memory.len()
+        && cache_length(state.sets, state.ways) == cache.len()
+}
+
+/// Refusal 2, 3 or 4 of an access, in that order, or none.
+pub fn access(memory_length: u32, address: u32, width: u32) -> Option<u32> {
+    if !matches!(width, 1 | 2 | 4) {
+        return Some(2);
+    }
+    if address & (width - 1) != 0 {
+        return Some(3);
+    }
+    if u64::from(address) + u64::from(width) > u64::from(memory_length) {
+        return Some(4);
+    }
+    None
+}
+
+/// Refusal 5 of a stored value whose width is allowed, or none.
+pub fn value(width: u32, value: u32) -> Option<u32> {
+    let fits = u64::from(value) >> (8 * width) == 0;
+    if fits {
+        None
+    } else {
+        Some(5)
+    }
+}
+
+/// A clause of well-formedness. It is asked only when check 1 has passed.
+pub type Clause = fn(&State, &[u8], &[u8]) -> bool;
+
+/// All the clauses with their names, in the order of the paper.
+pub const CLAUSES: [(&str, Clause); 20] = [
+    ("committed at most last", committed_at_most_last),
+    ("unused records zero", unused_records_zero),
+    ("free places zero", free_places_zero),
+    ("ages complete", ages_complete),
+    ("valid lines in memory", valid_lines_in_memory),
+    ("valid lines in own set", valid_lines_in_own_set),
+    ("valid lines once", valid_lines_once),
+    ("only valid lines dirty", only_valid_lines_dirty),
+    ("invalid records zero", invalid_records_zero),
+    ("invalid bytes zero", invalid_bytes_zero),
+    ("clean lines equal memory", clean_lines_equal_memory),
+    ("numbers rising", numbers_rising),
+    ("numbers up to last", numbers_up_to_last),
+    ("numbers in one list", numbers_in_one_list),
+    ("accesses pass checks", accesses_pass_checks),
+    ("committed loads wait", committed_loads_wait),
+    ("waiting loads lack a byte", waiting_loads_lack_a_byte),
+    ("request absent", request_absent),
+    ("request in memory", request_in_memory),
+    ("request wanted", request_wanted),
+];
+
+/// All clauses together. It is asked only when check 1 has passed.
+pub fn well_formed(state: &State, cache: &[u8], memory: &[u8]) -> bool {
+    CLAUSES.iter().all(|(_, clause)| clause(state, cache, memory))
+}
+
+/// Tag records in use.
+fn used(state: &State) -> &[Tag] {
+    let records = (state.sets as usize).saturating_mul(state.ways as usize);
+    &state.tags[..records.min(RECORDS)]
+}
+
+/// The used tag records set by set.
+fn by_set(state: &State) -> impl Iterator<Item = &[Tag]> {
+    used(state).chunks_exact(state.ways.max(1) as usize)
+}
+
+/// The held stores: the places before the first free one.
+pub fn held(state: &State) -> &[StoreEntry] {
+    let count = state.stores.iter().take_while(|s| s.number != 0).count();
+    &state.stores[..count]
+}
+
+/// The listed loads: the places before the first free one.
+pub fn listed(state: &State) -> &[LoadEntry] {
+    let count = state.loads.iter().take_while(|l| l.number != 0).count();
+    &state.loads[..count]
+}
+
+/// The record that holds a line, looked for in the line's own set.
+pub fn find(state: &State, line: u32) -> Option<usize> {
+    let set = line & state.sets.wrapping_sub(1); // sets is a power of two
+    let base = (set as usize).saturating_mul(state.ways as usize);
+    let ways = state.tags.iter().skip(base).take(state.ways as usize);
+    ways.enumerate().find(|(_, tag)| tag.valid && tag.line == line).map(|(way, _)| base + way)
+}
+
+/// A listed load that waits and has a smaller number than the one given.
+pub fn waits_before(state: &State, number: u32) -> bool {
+    listed(state).iter().any(|load| !load.answered && load.number < number)
+}
+
+/// The bits of an aligned word that an access of 1, 2 or 4 bytes covers.
+pub fn word_mask(address: u32, width: u32) -> u32 {
+    let low = u32::MAX >> (32 - 8 * width);
+    low << (8 * (address % 4))
+}
+
+/// "h never exceeds last".
+pub fn committed_at_most_last(state: &State, _: &[u8], _: &[u8]) -> bool {
+    state.committed <= state.last
+}
+
+/// "unused records are all zero".
+pub fn unused_records_zero(state: &State, _: &[u8], _: &[u8]) -> bool {
+    let unused = &state.tags[used(state).len()..];
+    let bits = |tag: &Tag| u32::from(tag.valid | tag.dirty) | tag.line | tag.age;
+    unused.iter().fold(0, |seen, tag| seen | bits(tag)) == 0
+}
+
+/// "Free places are zero"; they stand behind all the listed ones.
+pub fn free_places_zero(state: &State, _: &[u8], _: &[u8]) -> bool {
+    let stores = &state.stores[held(state).len()..];
+    let loads = &state.loads[listed(state).len()..];
+    stores.iter().all(|s| *s == StoreEntry::default())
+        && loads.iter().all(|l| *l == LoadEntry::default())
+}
+
+/// "each set has ages 0 to ways - 1 once each".
+pub fn ages_complete(state: &State, _: &[u8], _: &[u8]) -> bool {
+    let all = (1u32 << state.ways.min(31)) - 1;
+    by_set(state).all(|set| {
+        let seen = set.iter().fold(0, |seen, tag| seen | 1u32 << tag.age.min(31));
+        seen == all
+    })
+}
+
+/// "a valid line lies in memory".
+pub fn valid_lines_in_memory(state: &State, _: &[u8], _: &[u8]) -> bool {
+    let lines = state.memory_length / LINE as u32;
+    used(state).iter().all(|tag| !tag.valid || tag.line < lines)
+}
+
+/// "is in its own set".
+pub fn valid_lines_in_own_set(state: &State, _: &[u8], _: &[u8]) -> bool {
+    let mask = state.sets.wrapping_sub(1); // sets is a power of two
+    by_set(state)
+        .zip(0u32..)
+        .all(|(set, index)| set.iter().all(|tag| !tag.valid || tag.line & mask == index))
+}
+
+/// "is there only once". A copy in another set breaks the clause above.
+pub fn valid_lines_once(state: &State, _: &[u8], _: &[u8]) -> bool {
+    by_set(state).all(|set| {
+        set.iter().enumerate().all(|(way, tag)| {
+            let mut others = set[..way].iter();
+            !tag.valid || !others.any(|other| other.valid && other.line == tag.line)
+        })
+    })
+}
+
+/// "only valid lines are dirty".
+pub fn only_valid_lines_dirty(state: &State, _: &[u8], _: &[u8]) -> bool {
+    used(state).iter().all(|tag| tag.valid || !tag.dirty)
+}
+
+/// "an invalid record is zero but for its age". Its dirty bit is the clause above.
+pub fn invalid_records_zero(state: &State, _: &[u8], _: &[u8]) -> bool {
+    used(state).iter().all(|tag| tag.valid || tag.line == 0)
+}
+
+/// "with zero cache bytes".
+pub fn invalid_bytes_zero(state: &State, cache: &[u8], _: &[u8]) -> bool {
+    let lines = cache.chunks_exact(LINE);
+    used(state).iter().zip(lines).all(|(tag, bytes)| tag.valid || bytes == [0; LINE])
+}
+
+/// "clean lines equal memory". A line outside memory breaks a clause above.
+pub fn clean_lines_equal_memory(state: &State, cache: &[u8], memory: &[u8]) -> bool {
+    let lines = cache.chunks_exact(LINE);
+    used(state).iter().zip(lines).all(|(tag, bytes)| {
+        let first = (tag.line as usize).saturating_mul(LINE);
+        let behind = memory.get(first..first.saturating_add(LINE));
+        !tag.valid || tag.dirty || behind.is_none_or(|found| found == bytes)
+    })
+}
+
+/// "listed numbers are strictly rising", in each list.
+pub fn numbers_rising(state: &State, _: &[u8], _: &[u8]) -> bool {
+    let stores = held(state).windows(2);
+    let loads = listed(state).windows(2);
+    stores.into_iter().all(|w| w[0].number < w[1].number)
+        && loads.into_iter().all(|w| w[0].number < w[1].number)
+}
+
+/// "from 1 to last". A number 0 marks a free place.
+pub fn numbers_up_to_last(state: &State, _: &[u8], _: &[u8]) -> bool {
+    held(state).iter().all(|s| s.number <= state.last)
+        && listed(state).iter().all(|l| l.number <= state.last)
+}
+
+/// "no number is in both lists".
+pub fn numbers_in_one_list(state: &State, _: &[u8], _: &[u8]) -> bool {
+    let stores = held(state);
+    listed(state).iter().all(|load| stores.iter().all(|store| store.number != load.number))
+}
+
+/// "listed accesses pass the input checks".
+pub fn accesses_pass_checks(state: &State, _: &[u8], _: &[u8]) -> bool {
+    let length = state.memory_length;
+    let stores = held(state).iter().all(|store| {
+        access(length, store.address, store.width).is_none()
+            && value(store.width, store.value).is_none()
+    });
+    stores && listed(state).iter().all(|load| access(length, load.address, load.width).is_none())
+}
+
+/// "a load numbered h or less is listed only while it waits".
+pub fn committed_loads_wait(state: &State, _: &[u8], _: &[u8]) -> bool {
+    listed(state).iter().all(|load| !load.answered || load.number > state.committed)
+}
+
+/// "a waiting load has a byte that no older held store covers". Accesses that
+/// fail the input checks break a clause above.
+pub fn waiting_loads_lack_a_byte(state: &State, _: &[u8], _: &[u8]) -> bool {
+    let sound = |width: u32| matches!(width, 1 | 2 | 4);
+    let waiting = listed(state).iter().filter(|l| !l.answered && sound(l.width));
+    waiting.into_iter().all(|load| {
+        let covered = held(state)
+            .iter()
+            .filter(|s| s.number < load.number && s.address / 4 == load.address / 4)
+            .filter(|s| sound(s.width))
+            .fold(0, |bits, s| bits | word_mask(s.address, s.width));
+        word_mask(load.address, load.width) & !covered != 0
+    })
+}
+
+/// "a requested line is absent".
+pub fn request_absent(state: &State, _: &[u8], _: &[u8]) -> bool {
+    match state.request {
+        Request::Free => true,
+        Request::Line(line) => find(state, line).is_none(),
+    }
+}
+
+/// "lies in memory".
+pub fn request_in_memory(state: &State, _: &[u8], _: &[u8]) -> bool {
+    match state.request {
+        Request::Free => true,
+        Request::Line(line) => line < state.memory_length / LINE as u32,
+    }
+}
+
+/// "is wanted by a committed waiting load or by the oldest store, committed and
+/// with no older waiting load".
+pub fn request_wanted(state: &State, _: &[u8], _: &[u8]) -> bool {
+    let Request::Line(line) = state.request else {
+        return true;
+    };
+    let by_load = listed(state).iter().any(|load| {
+        !load.answered && load.number <= state.committed && load.address / LINE as u32 == line
+    });
+    let by_store = held(state).first().is_some_and(|store| {
+        store.number <= state.committed
+            && store.address / LINE as u32 == line
+            && !waits_before(state, store.number)
+    });
+    by_load || by_store
+}

@@ -1,0 +1,153 @@
+//! Demand 3 over a whole run: every dropped stretch is found, struck and the
+//! rest played again from the same beginning; answers and end must be the same.
+
+use std::fmt::Debug;
+
+use crate::random::Run;
+use crate::types::{Answer, Call, State, Step};
+
+/// A dropped stretch for n: the calls from `first` to `abort`, that one included.
+#[derive(Clone, Copy, Debug, PartialEq, Eq)]
+pub struct Stretch {
+    pub first: usize,
+    pub abort: usize,
+    pub n: u32,
+}
+
+/// What one call gave: its answer and, for show line, the bytes shown.
+#[derive(Clone, Debug, PartialEq, Eq)]
+pub struct Given {
+    pub call: Call,
+    pub answer: Answer,
+    pub bytes: Vec<u8>,
+}
+
+/// A run played to its end.
+pub struct Played {
+    pub given: Vec<Given>,
+    pub state: State,
+    pub cache: Vec<u8>,
+    pub memory: Vec<u8>,
+}
+
+/// What a call gave, with the cache that it left.
+pub fn given(call: Call, answer: Answer, cache: &[u8]) -> Given {
+    let bytes = match answer {
+        Answer::Shown(part) => cache[part.place..part.place + part.length].to_vec(),
+        _ => Vec::new(),
+    };
+    Given { call, answer, bytes }
+}
+
+/// Plays a list of calls from a run's beginning.
+pub fn play(run: &Run, step: Step, calls: impl Iterator<Item = Call>) -> Played {
+    let (mut state, mut cache, mut memory) = run.begin(step);
+    let given = calls
+        .map(|call| {
+            let answer = step(&mut state, &mut cache, &mut memory, call);
+            given(call, answer, &cache)
+        })
+        .collect();
+    Played { given, state, cache, memory }
+}
+
+/// The next operation number before each call, told by calls and answers alone.
+fn next_numbers(first: u64, given: &[Given]) -> Vec<u64> {
+    let mut next = first;
+    let mut before = Vec::with_capacity(given.len());
+    for one in given {
+        before.push(next);
+        match one.call {
+            Call::Load { .. } | Call::Store { .. } if one.answer.accepted() => next += 1,
+            Call::Abort { number } if one.answer.accepted() => next = number as u64,
+            _ => {}
+        }
+    }
+    before
+}
+
+/// Every dropped stretch of a run: for each accepted abort naming n, each place
+/// before it, back to an accepted abort that names less, where the next number
+/// is n. The abort alone is one of them when the next number is n already.
+pub fn stretches(first: u64, given: &[Given]) -> Vec<Stretch> {
+    let next = next_numbers(first, given);
+    let aborted = |at: usize| match given[at].call {
+        Call::Abort { number } if given[at].answer.accepted() => Some(number),
+        _ => None,
+    };
+    let mut found = Vec::new();
+    for abort in 0..given.len() {
+        let Some(n) = aborted(abort) else {
+            continue;
+        };
+        for first in (0..=abort).rev() {
+            if aborted(first).is_some_and(|named| named < n) {
+                break;
+            }
+            if next[first] == n as u64 {
+                found.push(Stretch { first, abort, n });
+            }
+        }
+    }
+    found
+}
+
+/// Is a call of a dropped stretch for n struck from it?
+pub fn struck(call: Call, n: u32) -> bool {
+    match call {
+        Call::Load { .. } | Call::Store { .. } => true,
+        Call::Retry { number } | Call::Abort { number } => number >= n,
+        _ => false,
+    }
+}
+
+/// The places of the run that remain when a stretch is struck.
+pub fn remaining(given: &[Given], stretch: Stretch) -> Vec<usize> {
+    let inside = |at: usize| (stretch.first..=stretch.abort).contains(&at);
+    (0..given.len()).filter(|at| !(inside(*at) && struck(given[*at].call, stretch.n))).collect()
+}
+
+/// Strikes a stretch, plays the rest from the same beginning and compares each
+/// remaining answer and the end. An error names the place in the whole run.
+pub fn compare(
+    run: &Run,
+    step: Step,
+    whole: &Played,
+    stretch: Stretch,
+) -> Result<(), (usize, String)> {
+    let kept = remaining(&whole.given, stretch);
+    let again = play(run, step, kept.iter().map(|at| whole.given[*at].call));
+    for (at, seen) in kept.iter().zip(&again.given) {
+        let expected = &whole.given[*at];
+        if expected != seen {
+            return Err((*at, format!("{stretch:?}: whole {expected:?}, struck {seen:?}")));
+        }
+    }
+    same_end(whole, &again).map_err(|what| (whole.given.len(), format!("{stretch:?}: {what}")))
+}
+
+/// Both ends are equal in every field.
+fn same_end(whole: &Played, again: &Played) -> Result<(), String> {
+    let (w, a) = (&whole.state, &again.state);
+    same("memory", &whole.memory, &again.memory)?;
+    same("cache", &whole.cache, &again.cache)?;
+    same("sets", &[w.sets], &[a.sets])?;
+    same("ways", &[w.ways], &[a.ways])?;
+    same("memory length", &[w.memory_length], &[a.memory_length])?;
+    same("tags", &w.tags, &a.tags)?;
+    same("stores", &w.stores, &a.stores)?;
+    same("loads", &w.loads, &a.loads)?;
+    same("request", &[w.request], &[a.request])?;
+    same("last", &[w.last], &[a.last])?;
+    same("committed", &[w.committed], &[a.committed])
+}
+
+/// A field is equal in both runs, or the first place where it is not.
+fn same<T: PartialEq + Debug>(field: &str, whole: &[T], again: &[T]) -> Result<(), String> {
+    if whole == again {
+        return Ok(());
+    }
+    let at = (0..whole.len()).find(|at| whole.get(*at) != again.get(*at)).unwrap_or(whole.len());
+    let (expected, seen) = (whole.get(at), again.get(at));
+    Err(format!("{field} at the end, place {at}: whole {expected:?}, struck {seen:?}"))
+}

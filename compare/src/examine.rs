@@ -1,0 +1,234 @@
+//! One run under all the checks, with counts of what it met.
+
+use std::collections::BTreeSet;
+
+use crate::check;
+use crate::counts::{self, Counts};
+use crate::dropped::{self, given, Given, Played, Stretch};
+use crate::flat::Flat;
+use crate::plain;
+use crate::random::Run;
+use crate::rules::{self, Source};
+use crate::types::{Answer, Call, Snapshot, State, Step, Tag};
+
+/// The checks to make.
+#[derive(Clone, Copy, Debug, PartialEq, Eq)]
+pub struct Checks {
+    /// Each step by the plain rules, and well-formedness after it.
+    pub rules: bool,
+    /// Demand 2 over the run.
+    pub flat: bool,
+    /// Demand 3 for every dropped stretch.
+    pub dropped: bool,
+}
+
+impl Checks {
+    pub const ALL: Checks = Checks { rules: true, flat: true, dropped: true };
+}
+
+/// A run that fails, where and how.
+#[derive(Clone, Debug, PartialEq, Eq)]
+pub struct Failure {
+    pub seed: u64,
+    /// The place of the call in the run, or the run's length for its end.
+    pub place: usize,
+    pub call: Option<Call>,
+    pub what: String,
+}
+
+impl std::fmt::Display for Failure {
+    fn fmt(&self, f: &mut std::fmt::Formatter) -> std::fmt::Result {
+        let Failure { seed, place, call, what } = self;
+        match call {
+            Some(call) => write!(f, "seed {seed}, call {place} {call:?}: {what}"),
+            None => write!(f, "seed {seed}, call {place}: {what}"),
+        }
+    }
+}
+
+/// A run being examined.
+struct Examiner<'a> {
+    run: &'a Run,
+    step: Step,
+    checks: Checks,
+    flat: Flat,
+    counts: Counts,
+    /// The numbers given out so far, and those given out more than once.
+    used: BTreeSet<u32>,
+    again: BTreeSet<u32>,
+    /// The calls that evicted a dirty line.
+    evicting: BTreeSet<usize>,
+}
+
+/// Plays a run on a machine under the checks. The checks of runs after a start
+/// are made of runs from a state made by hand as well.
+pub fn examine(run: &Run, step: Step, checks: Checks) -> Result<Counts, Failure> {
+    let first = u64::from(run.numbered);
+    let mut examiner = Examiner {
+        run,
+        step,
+        checks,
+        flat: Flat::new(&run.found, first + 1, first),
+        counts: Counts::one_run(run.calls.len()),
+        used: BTreeSet::new(),
+        again: BTreeSet::new(),
+        evicting: BTreeSet::new(),
+    };
+    examiner.start()?;
+    let whole = examiner.steps()?;
+    examiner.stretches(&whole)?;
+    examiner.counts.met("run after a start", run.numbered == 0);
+    examiner.counts.met("run from a well-formed state", run.numbered != 0);
+    Ok(examiner.counts)
+}
+
+/// The model's own well-formedness holds; the plain one is part of the rules.
+fn well_formed(now: Snapshot) -> Result<(), String> {
+    match check::refusal(now.state, now.cache, now.memory) {
+        Some(no) => Err(format!("the state after the call would be refused by {no}")),
+        None => Ok(()),
+    }
+}
+
+/// The checks.
+impl Examiner<'_> {
+    fn failure(&self, place: usize, what: String) -> Failure {
+        let call = self.run.calls.get(place).copied();
+        Failure { seed: self.run.seed, place, call, what }
+    }
+
+    /// The start before the run.
+    fn start(&mut self) -> Result<(), Failure> {
+        let Run { sets, ways, ref found, .. } = *self.run;
+        let call = Call::Start { sets, ways };
+        let (zero, old_cache) = (State::zero(), self.run.found_cache());
+        let before = Snapshot { state: &zero, cache: &old_cache, memory: found };
+        let (mut state, mut cache, mut memory) = (zero.clone(), old_cache.clone(), found.clone());
+        let answer = (self.step)(&mut state, &mut cache, &mut memory, call);
+        let after = Snapshot { state: &state, cache: &cache, memory: &memory };
+        if !self.checks.rules {
+            return Ok(());
+        }
+        rules::judge(before, call, answer, after)
+            .map_err(|what| self.failure(0, format!("the start before it: {what}")))
+    }
+
+    /// Each call of the run.
+    fn steps(&mut self) -> Result<Played, Failure> {
+        let (mut state, mut cache, mut memory) = self.run.begin(self.step);
+        let mut all = Vec::with_capacity(self.run.calls.len());
+        for (place, &call) in self.run.calls.iter().enumerate() {
+            let old = (state.clone(), cache.clone(), memory.clone());
+            let answer = (self.step)(&mut state, &mut cache, &mut memory, call);
+            let before = Snapshot { state: &old.0, cache: &old.1, memory: &old.2 };
+            let after = Snapshot { state: &state, cache: &cache, memory: &memory };
+            self.judge(before, call, answer, after).map_err(|what| self.failure(place, what))?;
+            self.count(place, before, answer, after);
+            all.push(given(call, answer, &cache));
+        }
+        Ok(Played { given: all, state, cache, memory })
+    }
+
+    /// One call under the checks of steps and of demand 2.
+    fn judge(
+        &mut self,
+        before: Snapshot,
+        call: Call,
+        answer: Answer,
+        after: Snapshot,
+    ) -> Result<(), String> {
+        if self.checks.rules {
+            rules::judge(before, call, answer, after)?;
+            well_formed(after)?;
+        }
+        if self.checks.flat {
+            self.flat.observe(before, call, answer, after)?;
+        }
+        Ok(())
+    }
+
+    /// Demand 3 for every dropped stretch.
+    fn stretches(&mut self, whole: &Played) -> Result<(), Failure> {
+        if !self.checks.dropped {
+            return Ok(());
+        }
+        let first = u64::from(self.run.numbered) + 1;
+        for stretch in dropped::stretches(first, &whole.given) {
+            dropped::compare(self.run, self.step, whole, stretch)
+                .map_err(|(place, what)| self.failure(place, what))?;
+            self.count_stretch(&whole.given, stretch);
+        }
+        Ok(())
+    }
+}
+
+/// The counts.
+impl Examiner<'_> {
+    /// Counts what a call met.
+    fn count(&mut self, place: usize, before: Snapshot, answer: Answer, after: Snapshot) {
+        let call = self.run.calls[place];
+        match answer {
+            Answer::Refused(no) => self.counts.met(counts::refused(no), true),
+            Answer::Value { number, .. } => self.count_value(before, call, number),
+            Answer::Waits(_) => self.counts.met("wait", true),
+            Answer::Drained(_) => self.counts.met("drain", true),
+            Answer::Idle => self.counts.met("idle with nothing to do", true),
+            Answer::Filled(_) => self.count_fill(place, before, after),
+            Answer::Flushed(lines) => self.counts.met("flush of several lines", lines > 1),
+            Answer::Shown(part) => self.counts.met("line shown", part.length > 0),
+            _ => {}
+        }
+        let numbered = matches!(call, Call::Load { .. } | Call::Store { .. });
+        if numbered && answer.accepted() && !self.used.insert(after.state.last) {
+            self.again.insert(after.state.last);
+        }
+    }
+
+    /// Counts what a fill met.
+    fn count_fill(&mut self, place: usize, before: Snapshot, after: Snapshot) {
+        let mut records = before.state.tags.iter().zip(&after.state.tags);
+        let gone = |(old, new): (&Tag, &Tag)| old.dirty && old.line != new.line;
+        let evicts = records.any(gone);
+        self.counts.met("fill", true);
+        self.counts.met("eviction of a dirty line", evicts);
+        if evicts {
+            self.evicting.insert(place);
+        }
+    }
+
+    /// Counts what a value met.
+    fn count_value(&mut self, before: Snapshot, call: Call, number: u32) {
+        let entry = before.state.loads.iter().find(|load| load.number == number);
+        let (access, again) = match call {
+            Call::Load { address, width } => (Some((address, width)), self.used.contains(&number)),
+            _ => (entry.map(|load| (load.address, load.width)), self.again.contains(&number)),
+        };
+        let retried = matches!(call, Call::Retry { .. });
+        let committed = number <= before.state.committed;
+        self.counts.met("value", true);
+        self.counts.met("value of a number used again", again);
+        self.counts.met("inquiry answered, committed", retried && committed);
+        self.counts.met("inquiry answered, uncommitted", retried && !committed);
+        if before.state.stores[1].number == 0 {
+            return;
+        }
+        if let (Some((address, width)), Ok(view)) = (access, plain::read(before)) {
+            let sources: BTreeSet<_> =
+                (0..width).map(|k| rules::source(&view, number, address + k)).collect();
+            let mixed = sources.len() > 2 && sources.contains(&Some(Source::Line));
+            self.counts.met("value of several stores and the cache", mixed);
+        }
+    }
+
+    /// Counts what a dropped stretch has in it.
+    fn count_stretch(&mut self, all: &[Given], stretch: Stretch) {
+        let inside = &all[stretch.first..=stretch.abort];
+        let load =
+            inside.iter().any(|one| matches!(one.call, Call::Load { .. }) && one.answer.accepted());
+        let reply = inside.iter().any(|one| matches!(one.answer, Answer::Filled(_)));
+        let evicts = self.evicting.range(stretch.first..=stretch.abort).next().is_some();
+        self.counts.met("dropped stretch", true);
+        self.counts.met("dropped stretch, load and reply inside", load && reply);
+        self.counts.met("dropped stretch, load and eviction inside", load && evicts);
+    }
+}

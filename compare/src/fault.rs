@@ -1,0 +1,147 @@
+//! The named ways of making the model wrong, each in one place. The right model
+//! is `Fault::None` and pays nothing for the others.
+
+use crate::check::{self, Clause};
+use crate::model::Unit;
+use crate::types::Step;
+
+macro_rules! faults {
+    ($($(#[$doc:meta])* $name:ident),* $(,)?) => {
+        /// A way of being wrong.
+        #[derive(Clone, Copy, Debug, PartialEq, Eq)]
+        #[repr(u8)]
+        pub enum Fault {
+            /// The right model.
+            None,
+            $($(#[$doc])* $name),*
+        }
+
+        /// Every fault.
+        pub const ALL: &[Fault] = &[$(Fault::$name),*];
+
+        impl Fault {
+            /// The fault of a number; the right model for all others.
+            pub const fn of(number: u8) -> Fault {
+                $(if number == Fault::$name as u8 {
+                    return Fault::$name;
+                })*
+                Fault::None
+            }
+
+            /// The machine that has this fault.
+            pub fn step(self) -> Step {
+                match self {
+                    Fault::None => Unit::<{ Fault::None as u8 }>::step,
+                    $(Fault::$name => Unit::<{ Fault::$name as u8 }>::step),*
+                }
+            }
+        }
+    };
+}
+
+faults! {
+    /// Sham: a load waits without looking.
+    LoadAlwaysWaits,
+    /// Sham: fills and drains are pretended, bytes move at a flush only.
+    CopiesOnlyAtFlush,
+    /// Sham: every call after the start gets one and the same answer.
+    AnswersAlike,
+    /// Sham: every call after the start is refused.
+    RefusesAll,
+    /// Sham: the answers are right and nothing changes after the start.
+    ChangesNothing,
+    /// Sham: a flush answers a made-up count.
+    InventsFlushCount,
+
+    /// Bypass from the youngest store, even one younger than the load.
+    BypassFromYounger,
+    /// An uncommitted load that finds its line changes the ages.
+    LoadChangesAges,
+    /// An uncommitted store makes the flush refuse.
+    FlushRefusedForUncommitted,
+    /// A dirty victim is not written to memory.
+    EvictWithoutWriteBack,
+    /// An abort clears the numbers of the dropped entries and keeps the rest.
+    DroppedNumberOnly,
+    /// An abort keeps the dropped entries whole.
+    DroppedKept,
+
+    /// A commit uses the lines in reversed order.
+    CommitUsesReversed,
+    /// A commit uses no line.
+    CommitWithoutUse,
+    /// A commit leaves the answered loads listed.
+    CommitKeepsLoads,
+    /// A flush writes the first dirty line only, and counts them all.
+    FlushMissesWriteBack,
+    /// A flush leaves the lines dirty.
+    FlushLeavesDirty,
+    /// An uncommitted waiting load makes a request.
+    RequestForUncommitted,
+    /// The request goes to the highest number.
+    RequestHighest,
+    /// A reply is always refused.
+    ReplyRefuses,
+    /// A reply leaves the register as it is.
+    ReplyKeepsRequest,
+    /// The victim is the way of least age.
+    VictimLeastAge,
+    /// The greatest age decides, though a way is invalid.
+    VictimPassesInvalid,
+    /// The highest invalid way is filled.
+    VictimHighestInvalid,
+    /// A fill keeps the last byte that stood there.
+    FillKeepsByte,
+    /// A fill does not use the line.
+    FillWithoutUse,
+    /// A store drains past an older waiting load.
+    DrainPassesLoad,
+    /// A drained line is not marked dirty.
+    DrainLeavesClean,
+    /// A drain does not use the line.
+    DrainWithoutUse,
+    /// An inquiry takes bytes from stores above its number.
+    RetryFromYounger,
+    /// An inquiry answered for an uncommitted load uses the line.
+    RetryUsesUncommitted,
+    /// An inquiry answered for a committed load leaves it listed.
+    RetryKeepsCommitted,
+    /// A use adds 1 to every other age of the set.
+    UseAgesAll,
+    /// Bytes come from the oldest covering store.
+    ForwardFromOldest,
+    /// A store is forwarded only when it covers the whole load.
+    ForwardWholeOnly,
+    /// Address + width wraps at 32 bits.
+    AddressWraps,
+    /// A full store queue is judged before the input checks.
+    FullBeforeInput,
+    /// An abort leaves the last number as it is.
+    AbortKeepsLast,
+    /// A commit below the committed number is accepted.
+    CommitFallsBack,
+    /// A start keeps the cache bytes it finds.
+    StartKeepsCache,
+    /// Show line gives the set's first way.
+    ShowFirstWay,
+}
+
+impl Fault {
+    /// The clause of well-formedness that the faulty machine does not know, for
+    /// a fault that would else stop at the first state it spoils.
+    pub const fn unknown_clause(self) -> Option<Clause> {
+        match self {
+            Fault::LoadAlwaysWaits => Some(check::waiting_loads_lack_a_byte),
+            Fault::RequestForUncommitted => Some(check::request_wanted),
+            Fault::DroppedNumberOnly => Some(check::free_places_zero),
+            Fault::CommitKeepsLoads | Fault::RetryKeepsCommitted => {
+                Some(check::committed_loads_wait)
+            }
+            Fault::CopiesOnlyAtFlush
+            | Fault::FlushMissesWriteBack
+            | Fault::FillKeepsByte
+            | Fault::DrainLeavesClean => Some(check::clean_lines_equal_memory),
+            _ => None,
+        }
+    }
+}

@@ -1,0 +1,31 @@
+//! A model of the load/store unit, written from the paper alone, and the means
+//! to compare it with second, plain statements of the rules.
+//!
+//! - `types`: the data that all parts share.
+//! - `check`: the checks before a call, one function for each clause.
+//! - `model`: the machine, quick and in place.
+//! - `fault`: the named ways of making the machine wrong.
+//! - `plain`: the same state read into lists and maps, or found ill formed.
+//! - `rules`: each call's rule once more, slow and plain.
+//! - `flat`: demand 2, over whole runs.
+//! - `dropped`: demand 3, over whole runs.
+//! - `script`: the script player.
+//! - `random`: random runs.
+//! - `examine`: one run under all the checks.
+//! - `counts`: what runs met, and what they must meet.
+//!
+//! `cargo run --release --bin runs` plays random runs under all the checks,
+//! `cargo run --release --bin player` plays a script.
+
+pub mod check;
+pub mod counts;
+pub mod dropped;
+pub mod examine;
+pub mod fault;
+pub mod flat;
+pub mod model;
+pub mod plain;
+pub mod random;
+pub mod rules;
+pub mod script;
+pub mod types;

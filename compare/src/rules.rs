@@ -1,0 +1,383 @@
+//! The second, plain statement of each call's rule, as a relation between what
+//! stood before, the call, its answer and what stands after. It shares nothing
+//! but data types with the model.
+
+use std::collections::BTreeMap;
+
+use crate::plain::{self, covers, input_refusal, Present, View};
+use crate::types::{Answer, Call, LoadEntry, Part, Snapshot, State, StoreEntry};
+
+/// Where a byte of a load comes from.
+#[derive(Clone, Copy, Debug, PartialEq, Eq, PartialOrd, Ord)]
+pub enum Source {
+    /// The held store of this number.
+    Store(u32),
+    /// The cached line.
+    Line,
+}
+
+/// Holds when the answer and all that stands after are what the rules say.
+pub fn judge(before: Snapshot, call: Call, answer: Answer, after: Snapshot) -> Result<(), String> {
+    if let Call::Start { sets, ways } = call {
+        return judge_start(before, sets, ways, answer, after);
+    }
+    let view = match admitted(before, call) {
+        Ok(view) => view,
+        Err(no) => {
+            same_answer(refused(no, call), answer)?;
+            return unchanged(before, after);
+        }
+    };
+    let (expected, next) = outcome(view, call);
+    same_answer(expected, answer)?;
+    if !plain::figures_agree(after) {
+        return Err("figures or lengths changed".to_string());
+    }
+    let seen = plain::read(after).map_err(|clause| format!("not well formed after: {clause}"))?;
+    same_view(&next, &seen)
+}
+
+/// Start: way w has age w, all else is zero, memory stays as found.
+fn judge_start(
+    before: Snapshot,
+    sets: u32,
+    ways: u32,
+    answer: Answer,
+    after: Snapshot,
+) -> Result<(), String> {
+    if !plain::start_allowed(sets, ways, before.cache.len(), before.memory.len()) {
+        same_answer(Answer::Refused(1), answer)?;
+        return unchanged(Snapshot { state: &State::zero(), ..before }, after);
+    }
+    same_answer(Answer::Ready, answer)?;
+    if !plain::figures_agree(after) || after.cache.iter().any(|byte| *byte != 0) {
+        return Err("figures or cache bytes".to_string());
+    }
+    same_view(&started(sets, ways, before.memory), &plain::read(after)?)
+}
+
+/// What an accepted start leaves.
+fn started(sets: u32, ways: u32, memory: &[u8]) -> View {
+    View {
+        sets: sets as usize,
+        ways: ways as usize,
+        last: 0,
+        committed: 0,
+        request: None,
+        stores: vec![],
+        loads: vec![],
+        present: Default::default(),
+        recency: vec![(0..ways as usize).collect(); sets as usize],
+        memory: memory.to_vec(),
+    }
+}
+
+/// The state read, or the first refusal in the paper's order that applies.
+fn admitted(before: Snapshot, call: Call) -> Result<View, u32> {
+    if !plain::figures_agree(before) {
+        return Err(1);
+    }
+    let view = plain::read(before).map_err(|_| 10u32)?;
+    match conditions(&view, call).into_iter().flatten().next() {
+        Some(no) => Err(no),
+        None => Ok(view),
+    }
+}
+
+/// The first refusal that applies to a call other than a start, if any.
+pub fn first_refusal(before: Snapshot, call: Call) -> Option<u32> {
+    admitted(before, call).err()
+}
+
+/// The answer that a refused call gives.
+fn refused(no: u32, call: Call) -> Answer {
+    match call {
+        Call::ShowLine { .. } => Answer::Shown(Part::default()),
+        _ => Answer::Refused(no),
+    }
+}
+
+/// The refusals that apply to a call on a well-formed state, in order.
+fn conditions(view: &View, call: Call) -> Vec<Option<u32>> {
+    let length = view.memory.len() as u64;
+    let spent = when(13, view.last == 4294967295);
+    match call {
+        Call::Load { address, width } => {
+            let full = when(12, view.loads.len() == 8);
+            vec![input_refusal(length, address, width, None), spent, full]
+        }
+        Call::Store { address, width, value } => {
+            let full = when(11, view.stores.len() == 16);
+            vec![input_refusal(length, address, width, Some(value)), spent, full]
+        }
+        Call::Retry { number } => {
+            let mut waiting = view.loads.iter().filter(|load| !load.answered);
+            vec![when(14, !waiting.any(|load| load.number == number))]
+        }
+        Call::Commit { number } => {
+            let allowed = view.committed..=view.last;
+            vec![when(15, !allowed.contains(&(number as u64)))]
+        }
+        Call::Abort { number } => {
+            let allowed = view.committed + 1..=view.last + 1;
+            vec![when(16, !allowed.contains(&(number as u64)))]
+        }
+        Call::Reply => vec![when(17, view.request.is_none())],
+        Call::Flush => {
+            let mut held = view.stores.iter().map(|store| store.number as u64);
+            vec![when(18, held.any(|number| number <= view.committed))]
+        }
+        Call::Idle | Call::ShowLine { .. } | Call::Start { .. } => vec![],
+    }
+}
+
+/// A refusal under its condition.
+fn when(no: u32, applies: bool) -> Option<u32> {
+    if applies {
+        Some(no)
+    } else {
+        None
+    }
+}
+
+/// What an accepted call answers and leaves.
+fn outcome(view: View, call: Call) -> (Answer, View) {
+    match call {
+        Call::Load { address, width } => load(view, address, width),
+        Call::Store { address, width, value } => store(view, address, width, value),
+        Call::Retry { number } => retry(view, number),
+        Call::Commit { number } => commit(view, number),
+        Call::Abort { number } => abort(view, number),
+        Call::Idle => idle(view),
+        Call::Reply => reply(view),
+        Call::Flush => flush(view),
+        Call::ShowLine { address } => (Answer::Shown(shown(&view, address)), view),
+        Call::Start { .. } => (Answer::Ready, view),
+    }
+}
+
+/// Where load `number` finds the byte at an address: the youngest held store
+/// with a smaller number that covers it, else the cached line.
+pub fn source(view: &View, number: u32, address: u32) -> Option<Source> {
+    let mut youngest = None;
+    for held in &view.stores {
+        if held.number < number && covers(held, address as u64) {
+            youngest = Some(Source::Store(held.number));
+        }
+    }
+    let line = view.present.get(&(address / 16)).map(|_| Source::Line);
+    youngest.or(line)
+}
+
+/// That byte itself.
+fn byte(view: &View, number: u32, address: u32) -> Option<u8> {
+    match source(view, number, address)? {
+        Source::Line => Some(view.present[&(address / 16)].bytes[address as usize % 16]),
+        Source::Store(found) => {
+            let held = view.stores.iter().find(|s| s.number == found)?;
+            Some((held.value as u64 / 256u64.pow(address - held.address) % 256) as u8)
+        }
+    }
+}
+
+/// The value that load `number` has, unless a byte is missing.
+fn value(view: &View, number: u32, address: u32, width: u32) -> Option<u32> {
+    let mut sum = 0;
+    for k in 0..width {
+        sum += byte(view, number, address + k)? as u64 * 256u64.pow(k);
+    }
+    Some(sum as u32)
+}
+
+/// Use: the line's way becomes the most recent of its set.
+fn use_line(view: &mut View, line: u32) {
+    let Some(present) = view.present.get(&line) else {
+        return;
+    };
+    let order = &mut view.recency[present.set];
+    order.retain(|way| *way != present.way);
+    order.insert(0, present.way);
+}
+
+/// The answer of a load or an inquiry.
+fn load_answer(number: u32, found: Option<u32>) -> Answer {
+    match found {
+        Some(value) => Answer::Value { number, value },
+        None => Answer::Waits(number),
+    }
+}
+
+fn load(mut view: View, address: u32, width: u32) -> (Answer, View) {
+    let number = view.last as u32 + 1;
+    let found = value(&view, number, address, width);
+    view.loads.push(LoadEntry { number, address, width, answered: found.is_some() });
+    view.last += 1;
+    (load_answer(number, found), view)
+}
+
+fn store(mut view: View, address: u32, width: u32, value: u32) -> (Answer, View) {
+    let number = view.last as u32 + 1;
+    view.stores.push(StoreEntry { number, address, width, value });
+    view.last += 1;
+    (Answer::Stored(number), view)
+}
+
+fn retry(mut view: View, number: u32) -> (Answer, View) {
+    let asked = |load: &LoadEntry| load.number == number;
+    let entry = *view.loads.iter().find(|l| asked(l)).expect("it waits");
+    let found = value(&view, number, entry.address, entry.width);
+    if found.is_some() && number as u64 <= view.committed {
+        view.loads.retain(|load| !asked(load));
+        use_line(&mut view, entry.address / 16);
+    } else if found.is_some() {
+        for load in view.loads.iter_mut().filter(|l| asked(l)) {
+            load.answered = true;
+        }
+    }
+    (load_answer(number, found), view)
+}
+
+fn commit(mut view: View, k: u32) -> (Answer, View) {
+    view.committed = k as u64;
+    let leaving = |load: &LoadEntry| load.answered && load.number <= k;
+    let uses: Vec<u32> =
+        view.loads.iter().filter(|load| leaving(load)).map(|load| load.address / 16).collect();
+    for line in uses {
+        use_line(&mut view, line);
+    }
+    view.loads.retain(|load| !leaving(load));
+    (Answer::Committed(k), view)
+}
+
+fn abort(mut view: View, n: u32) -> (Answer, View) {
+    view.stores.retain(|store| store.number < n);
+    view.loads.retain(|load| load.number < n);
+    view.last = n as u64 - 1;
+    (Answer::Kept(n - 1), view)
+}
+
+fn idle(mut view: View) -> (Answer, View) {
+    let ready = view.ready_store();
+    if let Some(store) = ready {
+        if view.present.contains_key(&(store.address / 16)) {
+            return drain(view, store);
+        }
+    }
+    if view.request.is_some() {
+        return (Answer::Idle, view);
+    }
+    let waiting = view.loads.iter().filter(|load| !load.answered);
+    let committed = waiting.filter(|load| load.number as u64 <= view.committed);
+    let mut wanted: Vec<u32> = committed.map(|load| load.address / 16).collect();
+    wanted.extend(ready.map(|store| store.address / 16));
+    wanted.retain(|line| !view.present.contains_key(line));
+    match wanted.first() {
+        None => (Answer::Idle, view),
+        Some(&line) => {
+            view.request = Some(line);
+            (Answer::Requested(line * 16), view)
+        }
+    }
+}
+
+/// Case (a) of idle: the oldest store is written to its present line.
+fn drain(mut view: View, store: StoreEntry) -> (Answer, View) {
+    let line = store.address / 16;
+    let present = view.present.get_mut(&line).expect("the line is present");
+    for k in 0..store.width {
+        let at = store.address as usize % 16 + k as usize;
+        present.bytes[at] = (store.value as u64 / 256u64.pow(k) % 256) as u8;
+    }
+    present.dirty = true;
+    use_line(&mut view, line);
+    view.stores.remove(0);
+    (Answer::Drained(store.number), view)
+}
+
+fn reply(mut view: View) -> (Answer, View) {
+    let line = view.request.take().expect("a line is requested");
+    let set = line as usize % view.sets;
+    let mut holders: BTreeMap<usize, u32> = BTreeMap::new();
+    for (held, present) in view.present.iter().filter(|(_, p)| p.set == set) {
+        holders.insert(present.way, *held);
+    }
+    let invalid = (0..view.ways).find(|way| !holders.contains_key(way));
+    let way = invalid.unwrap_or(view.recency[set][view.ways - 1]);
+    if let Some(old) = holders.get(&way) {
+        let gone = view.present.remove(old).expect("it is held");
+        if gone.dirty {
+            view.memory[*old as usize * 16..][..16].copy_from_slice(&gone.bytes);
+        }
+    }
+    let bytes = view.memory[line as usize * 16..][..16].to_vec();
+    view.present.insert(line, Present { set, way, dirty: false, bytes });
+    use_line(&mut view, line);
+    (Answer::Filled(line * 16), view)
+}
+
+fn flush(mut view: View) -> (Answer, View) {
+    let dirty = view.present.values().filter(|p| p.dirty).count();
+    for (at, byte) in view.memory.iter_mut().enumerate() {
+        if let Some(p) = view.present.get(&((at / 16) as u32)) {
+            if p.dirty {
+                *byte = p.bytes[at % 16];
+            }
+        }
+    }
+    for present in view.present.values_mut() {
+        present.dirty = false;
+    }
+    (Answer::Flushed(dirty as u32), view)
+}
+
+fn shown(view: &View, address: u32) -> Part {
+    if address as usize >= view.memory.len() {
+        return Part::default();
+    }
+    match view.present.get(&(address / 16)) {
+        None => Part::default(),
+        Some(p) => Part { place: (p.set * view.ways + p.way) * 16, length: 16 },
+    }
+}
+
+/// The answers agree.
+fn same_answer(expected: Answer, seen: Answer) -> Result<(), String> {
+    if expected == seen {
+        return Ok(());
+    }
+    Err(format!("answer: expected {expected:?}, seen {seen:?}"))
+}
+
+/// Nothing changed.
+fn unchanged(before: Snapshot, after: Snapshot) -> Result<(), String> {
+    if before == after {
+        return Ok(());
+    }
+    Err("a refused call changed the state, the cache or the memory".to_string())
+}
+
+/// What stands after agrees, field by field.
+fn same_view(expected: &View, seen: &View) -> Result<(), String> {
+    let (e, s) = (expected, seen);
+    agree("sets and ways", &(e.sets, e.ways), &(s.sets, s.ways))?;
+    agree("last", &e.last, &s.last)?;
+    agree("committed", &e.committed, &s.committed)?;
+    agree("request", &e.request, &s.request)?;
+    agree("stores", &e.stores, &s.stores)?;
+    agree("loads", &e.loads, &s.loads)?;
+    agree("lines present", &e.present, &s.present)?;
+    agree("order of uses", &e.recency, &s.recency)?;
+    let differs = (0..e.memory.len()).find(|at| e.memory.get(*at) != s.memory.get(*at));
+    match differs {
+        Some(at) => agree(&format!("memory at {at}"), &e.memory.get(at), &s.memory.get(at)),
+        None => Ok(()),
+    }
+}
+
+/// One field agrees.
+fn agree<T: PartialEq + std::fmt::Debug>(what: &str, e: &T, s: &T) -> Result<(), String> {
+    if e == s {
+        return Ok(());
+    }
+    Err(format!("{what}: expected {e:?}, seen {s:?}"))
+}

@@ -1,0 +1,169 @@
+//! The data of the machine: its state, the calls and the answers. Data only,
+//! so that the model and the plain rules can share it.
+
+/// Bytes of a line.
+pub const LINE: usize = 16;
+/// Places of the tag table.
+pub const RECORDS: usize = 256;
+/// Places of the store queue.
+pub const STORES: usize = 16;
+/// Places of the load queue.
+pub const LOADS: usize = 8;
+
+/// A place of the store queue: a held store, or free when its number is 0.
+#[derive(Clone, Copy, Debug, Default, PartialEq, Eq)]
+pub struct StoreEntry {
+    pub number: u32,
+    pub address: u32,
+    pub width: u32,
+    pub value: u32,
+}
+
+/// A place of the load queue: a listed load, or free when its number is 0.
+/// A listed load that is not answered waits.
+#[derive(Clone, Copy, Debug, Default, PartialEq, Eq)]
+pub struct LoadEntry {
+    pub number: u32,
+    pub address: u32,
+    pub width: u32,
+    pub answered: bool,
+}
+
+/// A tag record of one set and way. Age 0 is the line used last.
+#[derive(Clone, Copy, Debug, Default, PartialEq, Eq)]
+pub struct Tag {
+    pub valid: bool,
+    pub dirty: bool,
+    pub line: u32,
+    pub age: u32,
+}
+
+/// The miss register (the request register of the paper).
+#[derive(Clone, Copy, Debug, Default, PartialEq, Eq)]
+pub enum Request {
+    #[default]
+    Free,
+    Line(u32),
+}
+
+/// The state. Cache and memory bytes are lent beside it.
+#[derive(Clone, Debug, PartialEq, Eq)]
+pub struct State {
+    pub sets: u32,
+    pub ways: u32,
+    pub memory_length: u32,
+    /// The last operation number given.
+    pub last: u32,
+    /// The committed number, h in the paper.
+    pub committed: u32,
+    pub request: Request,
+    pub stores: [StoreEntry; STORES],
+    pub loads: [LoadEntry; LOADS],
+    pub tags: [Tag; RECORDS],
+}
+
+impl State {
+    /// The all-zero state, which a refused start hands back.
+    pub fn zero() -> State {
+        State {
+            sets: 0,
+            ways: 0,
+            memory_length: 0,
+            last: 0,
+            committed: 0,
+            request: Request::Free,
+            stores: [StoreEntry::default(); STORES],
+            loads: [LoadEntry::default(); LOADS],
+            tags: [Tag::default(); RECORDS],
+        }
+    }
+}
+
+/// State, cache and memory together, as they stand at one moment.
+#[derive(Clone, Copy, Debug, PartialEq, Eq)]
+pub struct Snapshot<'a> {
+    pub state: &'a State,
+    pub cache: &'a [u8],
+    pub memory: &'a [u8],
+}
+
+/// The ten calls with their arguments.
+#[derive(Clone, Copy, Debug, PartialEq, Eq)]
+pub enum Call {
+    Start {
+        sets: u32,
+        ways: u32,
+    },
+    Load {
+        address: u32,
+        width: u32,
+    },
+    Store {
+        address: u32,
+        width: u32,
+        value: u32,
+    },
+    /// The inquiry of the paper.
+    Retry {
+        number: u32,
+    },
+    Commit {
+        number: u32,
+    },
+    Abort {
+        number: u32,
+    },
+    Idle,
+    Reply,
+    Flush,
+    ShowLine {
+        address: u32,
+    },
+}
+
+/// A part of the lent cache. The empty part is place 0, length 0.
+#[derive(Clone, Copy, Debug, Default, PartialEq, Eq)]
+pub struct Part {
+    pub place: usize,
+    pub length: usize,
+}
+
+/// What a call answers.
+#[derive(Clone, Copy, Debug, PartialEq, Eq)]
+pub enum Answer {
+    Ready,
+    /// The store's number.
+    Stored(u32),
+    Value {
+        number: u32,
+        value: u32,
+    },
+    /// The load's number.
+    Waits(u32),
+    /// The committed number now in force.
+    Committed(u32),
+    /// The last number now in force.
+    Kept(u32),
+    /// The first address of the requested line.
+    Requested(u32),
+    /// The first address of the filled line.
+    Filled(u32),
+    /// The number of the store written to the cache.
+    Drained(u32),
+    Idle,
+    /// Lines written back.
+    Flushed(u32),
+    Shown(Part),
+    /// The number of the refusal.
+    Refused(u32),
+}
+
+impl Answer {
+    /// Accepted in the sense of the paper: no refusal.
+    pub fn accepted(&self) -> bool {
+        !matches!(self, Answer::Refused(_))
+    }
+}
+
+/// A machine: one call on a lent state, cache and memory.
+pub type Step = fn(&mut State, &mut [u8], &mut [u8], Call) -> Answer;

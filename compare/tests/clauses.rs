@@ -1,0 +1,431 @@
+//! Every clause of well-formedness, damaged alone; damaged figures and lengths;
+//! and random damage, judged by the plain rules.
+
+mod bench;
+
+use bench::Bench;
+use compare::check::{self, CLAUSES};
+use compare::model::Right;
+use compare::plain;
+use compare::random::{self, Rng};
+use compare::rules;
+use compare::types::{Answer, Call, Part, Request, Snapshot, State, Tag};
+
+/// A bench in which every part of the state is in use: line 0 dirty, line 2
+/// clean, set 1 invalid, stores 4, 5, 8, loads 3 (committed, waits), 6 (waits)
+/// and 7 (answered), line 1 requested, h 3 and last 8.
+fn rich() -> Bench {
+    let mut bench = Bench::new(2, 2, 128);
+    bench.store(0, 4, 0x0908_0706);
+    bench.commit(1);
+    bench.idle();
+    bench.reply();
+    bench.idle();
+    bench.bring(2);
+    bench.load(16, 1);
+    bench.commit(3);
+    bench.idle();
+    bench.store(48, 2, 500);
+    bench.store(4, 1, 9);
+    bench.load(64, 2);
+    bench.load(0, 2);
+    bench.store(64, 1, 77);
+    assert_eq!(bench.state.request, Request::Line(1));
+    assert_eq!((bench.state.committed, bench.state.last), (3, 8));
+    bench
+}
+
+/// One call of each kind but the start, all with arguments that would pass.
+fn calls() -> [Call; 9] {
+    [
+        Call::Load { address: 0, width: 1 },
+        Call::Store { address: 0, width: 1, value: 1 },
+        Call::Retry { number: 3 },
+        Call::Commit { number: 3 },
+        Call::Abort { number: 9 },
+        Call::Idle,
+        Call::Reply,
+        Call::Flush,
+        Call::ShowLine { address: 0 },
+    ]
+}
+
+/// Every call refuses by this number and changes nothing.
+fn all_refuse(bench: &Bench, no: u32, what: &str) {
+    for call in calls() {
+        let mut after = bench.clone();
+        let expected = match call {
+            Call::ShowLine { .. } => Answer::Shown(Part::default()),
+            _ => Answer::Refused(no),
+        };
+        assert_eq!(after.call(call), expected, "{what}: {call:?}");
+        assert_eq!(after, *bench, "{what}: {call:?}");
+    }
+    assert!(bench.shown(0).is_empty(), "{what}");
+}
+
+/// The names of the clauses that do not hold.
+fn broken(bench: &Bench) -> Vec<&'static str> {
+    CLAUSES
+        .iter()
+        .filter(|(_, clause)| !clause(&bench.state, &bench.cache, &bench.memory))
+        .map(|(name, _)| *name)
+        .collect()
+}
+
+/// A damaged bench breaks these clauses and no other, and refuses every call.
+fn breaks(names: &[&str], bench: Bench) {
+    assert_eq!(broken(&bench), names);
+    assert!(plain::read(bench.snapshot()).is_err(), "{names:?}");
+    all_refuse(&bench, 10, names[0]);
+}
+
+/// Damages a copy of the rich bench.
+fn damage(names: &[&str], change: impl Fn(&mut Bench)) {
+    let mut bench = rich();
+    assert_eq!(broken(&bench), Vec::<&str>::new());
+    change(&mut bench);
+    breaks(names, bench);
+}
+
+#[test]
+fn committed_at_most_last() {
+    let mut bench = Bench::new(1, 1, 32);
+    bench.state.committed = 1;
+    breaks(&["committed at most last"], bench);
+}
+
+#[test]
+fn unused_records() {
+    let names = ["unused records zero"];
+    damage(&names, |b| b.state.tags[4].valid = true);
+    damage(&names, |b| b.state.tags[4].dirty = true);
+    damage(&names, |b| b.state.tags[100].line = 1);
+    damage(&names, |b| b.state.tags[255].age = 1);
+}
+
+#[test]
+fn free_places() {
+    let names = ["free places zero"];
+    damage(&names, |b| b.state.stores[3].address = 1);
+    damage(&names, |b| b.state.stores[9].width = 1);
+    damage(&names, |b| b.state.stores[15].value = 1);
+    damage(&names, |b| b.state.stores[4] = b.state.stores[2]);
+    damage(&names, |b| b.state.loads[3].address = 1);
+    damage(&names, |b| b.state.loads[5].width = 1);
+    damage(&names, |b| b.state.loads[7].answered = true);
+    damage(&names, |b| b.state.stores[2].number = 0);
+}
+
+#[test]
+fn ages() {
+    let names = ["ages complete"];
+    damage(&names, |b| b.state.tags[0].age = b.state.tags[1].age);
+    damage(&names, |b| b.state.tags[3].age = 2);
+    damage(&names, |b| b.state.tags[3].age = u32::MAX);
+}
+
+#[test]
+fn valid_lines() {
+    damage(&["valid lines in memory"], |b| b.state.tags[0].line = 8);
+    damage(&["valid lines in memory"], |b| b.state.tags[0].line = 1 << 28);
+    damage(&["valid lines in memory"], |b| b.state.tags[1].line = u32::MAX - 1);
+    damage(&["valid lines in own set"], |b| b.state.tags[0].line = 3);
+    damage(&["valid lines once"], |b| {
+        b.state.tags[1].line = 0;
+        b.state.tags[1].dirty = true;
+    });
+}
+
+#[test]
+fn invalid_records() {
+    damage(&["only valid lines dirty"], |b| b.state.tags[2].dirty = true);
+    damage(&["invalid records zero"], |b| b.state.tags[3].line = 5);
+    damage(&["invalid bytes zero"], |b| b.cache[32] = 1);
+    damage(&["invalid bytes zero"], |b| b.cache[63] = 1);
+}
+
+#[test]
+fn clean_lines() {
+    damage(&["clean lines equal memory"], |b| b.cache[16 + 5] ^= 1);
+    damage(&["clean lines equal memory"], |b| b.memory[32 + 15] ^= 128);
+    damage(&["clean lines equal memory"], |b| b.state.tags[0].dirty = false);
+}
+
+#[test]
+fn listed_numbers() {
+    damage(&["numbers rising"], |b| b.state.stores[1].number = 4);
+    damage(&["numbers rising"], |b| b.state.stores[0].number = 5);
+    damage(&["numbers rising"], |b| b.state.loads[1].number = 3);
+    damage(&["numbers rising"], |b| b.state.loads.swap(1, 2));
+    damage(&["numbers up to last"], |b| b.state.last = 7);
+    damage(&["numbers up to last"], |b| b.state.stores[2].number = u32::MAX);
+    damage(&["numbers in one list"], |b| b.state.stores[1].number = 6);
+}
+
+#[test]
+fn listed_accesses() {
+    let names = ["accesses pass checks"];
+    for width in [0, 3, 5, 8, u32::MAX] {
+        damage(&names, |b| b.state.stores[0].width = width);
+        damage(&names, |b| b.state.loads[2].width = width);
+    }
+    damage(&names, |b| b.state.stores[0].address = 49);
+    damage(&names, |b| b.state.stores[0].address = 128);
+    damage(&names, |b| b.state.stores[0].address = u32::MAX - 1);
+    damage(&names, |b| b.state.stores[0].value = 65536);
+    damage(&names, |b| b.state.stores[1].value = 256);
+    damage(&names, |b| b.state.loads[2].address = 1);
+    damage(&names, |b| b.state.loads[2].address = 128);
+    damage(&names, |b| b.state.loads[2].address = u32::MAX - 1);
+}
+
+#[test]
+fn listed_loads() {
+    damage(&["committed loads wait"], |b| b.state.committed = 7);
+    damage(&["waiting loads lack a byte"], |b| {
+        b.state.stores[1].address = 64;
+        b.state.stores[1].width = 2;
+    });
+    damage(&["waiting loads lack a byte"], |b| {
+        b.state.stores[0] = b.state.stores[2];
+        b.state.stores[0].number = 4;
+        b.state.stores[1].address = 65;
+    });
+}
+
+#[test]
+fn requested_lines() {
+    damage(&["request absent"], |b| {
+        b.state.tags[2].valid = true;
+        b.state.tags[2].line = 1;
+        let line: Vec<u8> = b.memory[16..32].to_vec();
+        b.cache[32..48].copy_from_slice(&line);
+    });
+    damage(&["request wanted"], |b| b.state.request = Request::Line(5));
+    // The oldest store's line: uncommitted, then committed behind load 3.
+    damage(&["request wanted"], |b| b.state.request = Request::Line(3));
+    damage(&["request wanted"], |b| {
+        b.state.request = Request::Line(3);
+        b.state.committed = 4;
+    });
+    // The line of an uncommitted waiting load.
+    damage(&["request wanted"], |b| b.state.request = Request::Line(4));
+    // A line that passing accesses want lies in memory, so this clause cannot
+    // fail alone: either the want fails too, or an access does.
+    let outside = ["request in memory", "request wanted"];
+    damage(&outside, |b| b.state.request = Request::Line(8));
+    damage(&outside, |b| b.state.request = Request::Line(u32::MAX));
+    damage(&["accesses pass checks", "request in memory"], |b| {
+        b.state.request = Request::Line(8);
+        b.state.loads[0].address = 128;
+    });
+}
+
+#[test]
+fn waiting_load_with_its_line_present() {
+    let mut bench = rich();
+    bench.reply();
+    assert_eq!(broken(&bench), Vec::<&str>::new());
+    assert_eq!(bench.retry(3), bench::value(3, 17));
+}
+
+#[test]
+fn figures_of_the_state() {
+    for sets in [0, 1, 3, 4, 128, u32::MAX] {
+        figures(|b| b.state.sets = sets);
+    }
+    for ways in [0, 1, 3, 5, 256, u32::MAX] {
+        figures(|b| b.state.ways = ways);
+    }
+    for length in [0, 16, 127, 129, 144, 65552, u32::MAX] {
+        figures(|b| b.state.memory_length = length);
+    }
+}
+
+#[test]
+fn lent_lengths() {
+    for length in [0, 16, 63, 65, 80, 4096, 100_000] {
+        figures(|b| b.cache.resize(length, 0));
+    }
+    for length in [0, 16, 112, 127, 129, 144, 65536, 100_000] {
+        figures(|b| b.memory.resize(length, 0));
+    }
+    // Lengths that agree with figures that are not allowed.
+    for length in [0, 8, 24, 65552] {
+        figures(|b| {
+            b.state.memory_length = length;
+            b.memory.resize(length as usize, 0);
+        });
+    }
+    for (sets, ways) in [(0, 2), (3, 2), (128, 2), (2, 0), (2, 5)] {
+        figures(|b| {
+            (b.state.sets, b.state.ways) = (sets, ways);
+            b.cache.resize((sets * ways * 16) as usize, 0);
+        });
+    }
+}
+
+/// Damaged figures or lengths give 1, whatever else is damaged.
+fn figures(change: impl Fn(&mut Bench)) {
+    let mut bench = rich();
+    change(&mut bench);
+    all_refuse(&bench, 1, "figures");
+    bench.state.tags[0].age = 9;
+    bench.state.committed = 99;
+    all_refuse(&bench, 1, "figures and clauses");
+}
+
+/// A number that is likely to matter somewhere.
+fn odd_number(rng: &mut Rng) -> u32 {
+    let any = rng.word() as u32;
+    rng.pick(&[0, 1, 2, 3, 4, 5, 7, 8, 15, 16, 17, 255, 256, 65536, u32::MAX - 1, u32::MAX, any])
+}
+
+/// Damages one field, byte or length at random.
+fn damage_at_random(bench: &mut Bench, rng: &mut Rng) {
+    let number = odd_number(rng);
+    let state = &mut bench.state;
+    match rng.below(12) {
+        0 => state.sets = number,
+        1 => state.ways = number,
+        2 => state.memory_length = number,
+        3 => state.last = number,
+        4 => state.committed = number,
+        5 => state.request = rng.pick(&[Request::Line(number), Request::Free]),
+        6 => bench.cache.resize(rng.below(200) as usize, 1),
+        7 => bench.memory.resize(rng.below(200) as usize, 1),
+        8 => flip(&mut bench.cache, rng),
+        9 => flip(&mut bench.memory, rng),
+        _ => damage_entry(bench, number, rng),
+    }
+}
+
+/// Damages one field of a tag record or of a queue, mostly of the first ones.
+fn damage_entry(bench: &mut Bench, number: u32, rng: &mut Rng) {
+    let few = rng.pick(&[1, 2, 4, 8, 256]);
+    let tag = &mut bench.state.tags[rng.below(few) as usize];
+    let store = &mut bench.state.stores[rng.below(few.min(16)) as usize];
+    let load = &mut bench.state.loads[rng.below(few.min(8)) as usize];
+    match rng.below(13) {
+        0 => tag.valid = !tag.valid,
+        1 => tag.dirty = !tag.dirty,
+        2 => tag.line = number,
+        3 => tag.age = number,
+        4 => *tag = Tag::default(),
+        5 => store.number = number,
+        6 => store.address = number,
+        7 => store.width = number,
+        8 => store.value = number,
+        9 => load.number = number,
+        10 => load.address = number,
+        11 => load.width = number,
+        _ => load.answered = !load.answered,
+    }
+}
+
+/// Changes one byte.
+fn flip(bytes: &mut [u8], rng: &mut Rng) {
+    if !bytes.is_empty() {
+        let at = rng.below(bytes.len() as u64) as usize;
+        bytes[at] ^= 1 << rng.below(8);
+    }
+}
+
+/// A call of any kind with odd arguments.
+fn odd_call(rng: &mut Rng) -> Call {
+    let (number, address) = (odd_number(rng), odd_number(rng));
+    let (width, value) = (rng.pick(&[1, 2, 4, 4, number]), odd_number(rng));
+    match rng.below(10) {
+        0 => Call::Start { sets: number, ways: width },
+        1 => Call::Load { address, width },
+        2 => Call::Store { address, width, value },
+        3 => Call::Retry { number },
+        4 => Call::Commit { number },
+        5 => Call::Abort { number },
+        6 => Call::Idle,
+        7 => Call::Reply,
+        8 => Call::Flush,
+        _ => Call::ShowLine { address },
+    }
+}
+
+/// The bench in the middle of the run of a seed.
+fn middle_of_run(seed: u64, rng: &mut Rng) -> Bench {
+    let run = random::run(seed);
+    let (mut state, mut cache, mut memory) = run.begin(Right::step);
+    let length = rng.below(run.calls.len() as u64) as usize;
+    for &call in &run.calls[..length] {
+        Right::step(&mut state, &mut cache, &mut memory, call);
+    }
+    Bench { state, cache, memory }
+}
+
+#[test]
+fn random_damage() {
+    let mut seen = [0u32; 3];
+    for seed in 0..3000 {
+        let mut rng = Rng::new(seed ^ 0xDA3A_6E00);
+        let mut bench = middle_of_run(seed, &mut rng);
+        for _ in 0..1 + rng.below(2) {
+            damage_at_random(&mut bench, &mut rng);
+        }
+        match check::refusal(&bench.state, &bench.cache, &bench.memory) {
+            None => seen[0] += 1,
+            Some(1) => seen[1] += 1,
+            _ => seen[2] += 1,
+        }
+        for _ in 0..6 {
+            judged(&bench, odd_call(&mut rng), seed);
+        }
+    }
+    assert!(seen.iter().all(|count| *count > 200), "{seen:?}");
+}
+
+/// The model's answer on a damaged bench is what the plain rules say.
+fn judged(bench: &Bench, call: Call, seed: u64) {
+    let mut after = bench.clone();
+    let answer = Right::step(&mut after.state, &mut after.cache, &mut after.memory, call);
+    let now = Snapshot { state: &after.state, cache: &after.cache, memory: &after.memory };
+    if let Err(what) = rules::judge(bench.snapshot(), call, answer, now) {
+        panic!("seed {seed}, {call:?}: {what}");
+    }
+}
+
+/// A bench with rubbish in every field, and figures that often agree.
+fn rubbish(rng: &mut Rng) -> Bench {
+    let mut bench = Bench {
+        state: State::zero(),
+        cache: vec![1; rng.below(300) as usize],
+        memory: vec![1; rng.below(300) as usize],
+    };
+    for _ in 0..400 {
+        let number = odd_number(rng);
+        damage_entry(&mut bench, number, rng);
+    }
+    bench.state.last = odd_number(rng);
+    bench.state.committed = odd_number(rng);
+    bench.state.request = Request::Line(odd_number(rng));
+    (bench.state.sets, bench.state.ways) = (odd_number(rng), odd_number(rng));
+    bench.state.memory_length = odd_number(rng);
+    if rng.one_in(2) {
+        let (sets, ways) = (rng.pick(&[1, 2, 4, 64]), 1 + rng.below(4) as u32);
+        (bench.state.sets, bench.state.ways) = (sets, ways);
+        bench.cache.resize((sets * ways * 16) as usize, 1);
+        bench.state.memory_length = 64;
+        bench.memory.resize(64, 1);
+    }
+    bench
+}
+
+#[test]
+fn rubbish_is_refused() {
+    for seed in 0..2000 {
+        let mut rng = Rng::new(seed ^ 0x0B15);
+        let bench = rubbish(&mut rng);
+        broken(&bench);
+        for _ in 0..4 {
+            judged(&bench, odd_call(&mut rng), seed);
+        }
+    }
+}

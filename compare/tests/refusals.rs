@@ -1,0 +1,223 @@
+//! Every refusal and the order of refusals: all the conditions that can hold at
+//! once are made to hold together, and the first in the paper's order wins.
+
+mod bench;
+
+use bench::Bench;
+use compare::types::{Answer, Call, LoadEntry, Part, State, StoreEntry};
+
+/// Every list of some of the numbers, in their order.
+fn subsets(numbers: &[u32]) -> Vec<Vec<u32>> {
+    let mut all = vec![vec![]];
+    for number in numbers {
+        let with = all.clone().into_iter().map(|mut list: Vec<u32>| {
+            list.push(*number);
+            list
+        });
+        all = all.iter().cloned().chain(with).collect();
+    }
+    all
+}
+
+/// Makes the state refuse by 13, 11 or 12, and last by 10 and 1.
+fn spoil(bench: &mut Bench, bad: &[u32]) {
+    let has = |no| bad.contains(&no);
+    if has(13) {
+        bench.state.last = u32::MAX;
+    }
+    let first = if has(13) { u32::MAX - 15 } else { 1 };
+    for place in 0..if has(11) { 16 } else { 0 } {
+        let number = first + place as u32;
+        bench.state.stores[place] = StoreEntry { number, address: 0, width: 1, value: 1 };
+        bench.state.last = bench.state.last.max(number);
+    }
+    for place in 0..if has(12) { 8 } else { 0 } {
+        let number = first + place as u32;
+        bench.state.loads[place] = LoadEntry { number, address: 0, width: 1, answered: false };
+        bench.state.last = bench.state.last.max(number);
+    }
+    if has(10) {
+        bench.state.tags[200].age = 1;
+    }
+    if has(1) {
+        bench.memory.push(0);
+    }
+}
+
+/// Address, width and value that are bad in the named ways and in no other.
+fn access(bad: &[u32]) -> (u32, u32, u32) {
+    let has = |no| bad.contains(&no);
+    let width = if has(2) { 3 } else { 2 };
+    let inside = if has(4) { 36 } else { 6 };
+    let address = inside + u32::from(has(3));
+    let value = if has(5) { 256u32.pow(width) } else { 1 };
+    (address, width, value)
+}
+
+/// A refusal of the first number, or an accepted call, and nothing else.
+fn expect(mut bench: Bench, call: Call, bad: &[u32]) {
+    let before = bench.clone();
+    let answer = bench.call(call);
+    match bad.first() {
+        Some(no) => {
+            assert_eq!(answer, Answer::Refused(*no), "{call:?} {bad:?}");
+            assert_eq!(bench, before, "{call:?} {bad:?}");
+        }
+        None => assert!(answer.accepted(), "{call:?} {answer:?}"),
+    }
+}
+
+#[test]
+fn store_refusals_in_order() {
+    for bad in subsets(&[1, 10, 2, 3, 4, 5, 13, 11]) {
+        let mut bench = Bench::new(1, 1, 32);
+        spoil(&mut bench, &bad);
+        let (address, width, value) = access(&bad);
+        let call = Call::Store { address, width, value };
+        expect(bench, call, &bad);
+    }
+}
+
+#[test]
+fn load_refusals_in_order() {
+    for bad in subsets(&[1, 10, 2, 3, 4, 13, 12]) {
+        let mut bench = Bench::new(1, 1, 32);
+        spoil(&mut bench, &bad);
+        let (address, width, _) = access(&bad);
+        expect(bench, Call::Load { address, width }, &bad);
+    }
+}
+
+/// A bench with h 1 and last 3, whose load 1 waits, whose store 2 is held and
+/// whose load 3 is answered; the register names line 1.
+fn busy() -> Bench {
+    let mut bench = Bench::new(1, 1, 48);
+    bench.load(16, 1);
+    bench.store(0, 1, 7);
+    bench.load(0, 1);
+    bench.commit(1);
+    bench.idle();
+    bench
+}
+
+#[test]
+fn other_refusals_in_order() {
+    for bad in subsets(&[1, 10]) {
+        expect_others(&bad, 14, &[1], &[0, 2, 3, 4, u32::MAX], |number| Call::Retry { number });
+        expect_others(&bad, 15, &[1, 2, 3], &[0, 4, u32::MAX], |number| Call::Commit { number });
+        expect_others(&bad, 16, &[2, 3, 4], &[0, 1, 5, u32::MAX], |number| Call::Abort { number });
+    }
+}
+
+/// A call with a number: good numbers, and bad ones that add a refusal.
+fn expect_others(bad: &[u32], no: u32, good: &[u32], wrong: &[u32], call: fn(u32) -> Call) {
+    for &number in good {
+        let mut bench = busy();
+        spoil(&mut bench, bad);
+        expect(bench, call(number), bad);
+    }
+    for &number in wrong {
+        let mut bench = busy();
+        spoil(&mut bench, bad);
+        let with: Vec<u32> = bad.iter().copied().chain([no]).collect();
+        expect(bench, call(number), &with);
+    }
+}
+
+#[test]
+fn idle_reply_and_flush_refusals_in_order() {
+    for bad in subsets(&[1, 10]) {
+        let spoilt = |mut bench: Bench| {
+            spoil(&mut bench, &bad);
+            bench
+        };
+        let with = |no| bad.iter().copied().chain([no]).collect::<Vec<u32>>();
+        expect(spoilt(busy()), Call::Idle, &bad);
+        expect(spoilt(busy()), Call::Reply, &bad);
+        expect(spoilt(Bench::new(1, 1, 32)), Call::Reply, &with(17));
+        expect(spoilt(busy()), Call::Flush, &bad);
+        let mut committed = busy();
+        committed.commit(2);
+        expect(spoilt(committed), Call::Flush, &with(18));
+    }
+}
+
+#[test]
+fn show_line_names_no_refusal() {
+    let mut bench = Bench::new(2, 2, 64);
+    bench.bring(1);
+    bench.bring(3);
+    let shown = |bench: &Bench, address| {
+        let mut bench = bench.clone();
+        bench.call(Call::ShowLine { address })
+    };
+    let part = |place, length| Answer::Shown(Part { place, length });
+    for address in 16..32 {
+        assert_eq!(shown(&bench, address), part(32, 16));
+    }
+    assert_eq!(shown(&bench, 63), part(48, 16));
+    for address in [0, 47, 64, 80, u32::MAX] {
+        assert_eq!(shown(&bench, address), part(0, 0));
+    }
+    for bad in [1, 10] {
+        let mut spoilt = bench.clone();
+        spoil(&mut spoilt, &[bad]);
+        assert_eq!(shown(&spoilt, 16), part(0, 0));
+        assert!(spoilt.shown(16).is_empty());
+    }
+}
+
+#[test]
+fn start_refuses_by_1_alone() {
+    for sets in 0..=130 {
+        for ways in 0..=6 {
+            for length in [0, 15, 16, 17, 24, 32, 65536, 65552] {
+                start_with(sets, ways, (sets * ways * 16) as usize, length);
+            }
+            start_with(sets, ways, (sets * ways * 16) as usize + 1, 32);
+            start_with(sets, ways, (sets * ways * 16).saturating_sub(16) as usize, 32);
+        }
+    }
+    for figure in [1 << 16, 1 << 28, 1 << 31, u32::MAX] {
+        start_with(figure, 1, 16, 32);
+        start_with(1, figure, 16, 32);
+        start_with(figure, figure, 0, 32);
+    }
+}
+
+/// A start over a state that holds rubbish, judged; refused, it leaves all zero.
+fn start_with(sets: u32, ways: u32, cache: usize, memory: usize) {
+    let mut bench = Bench { state: busy().state, cache: vec![9; cache], memory: vec![9; memory] };
+    let allowed = [1, 2, 4, 8, 16, 32, 64].contains(&sets)
+        && (1..=4).contains(&ways)
+        && [16, 32, 65536].contains(&memory)
+        && cache == (sets * ways * 16) as usize;
+    let answer = bench.call(Call::Start { sets, ways });
+    if allowed {
+        assert_eq!(answer, Answer::Ready);
+        assert_eq!(bench.memory, vec![9; memory]);
+    } else {
+        assert_eq!(answer, Answer::Refused(1), "{sets} {ways} {cache} {memory}");
+        assert_eq!(bench.state, State::zero());
+        assert_eq!(bench.cache, vec![9; cache]);
+        assert_eq!(bench.call(Call::Idle), Answer::Refused(1));
+        assert_eq!(bench.call(Call::ShowLine { address: 0 }), Answer::Shown(Part::default()));
+    }
+}
+
+#[test]
+fn numbers_end_at_the_last_one() {
+    let mut bench = Bench::new(1, 1, 32);
+    bench.state.last = u32::MAX - 2;
+    bench.state.committed = u32::MAX - 2;
+    assert_eq!(bench.store(0, 1, 1), Answer::Stored(u32::MAX - 1));
+    assert_eq!(bench.load(0, 1), bench::value(u32::MAX, 1));
+    assert_eq!(bench.load(0, 1), Answer::Refused(13));
+    assert_eq!(bench.store(0, 1, 1), Answer::Refused(13));
+    assert_eq!(bench.abort(u32::MAX - 2), Answer::Refused(16));
+    assert_eq!(bench.clone().abort(u32::MAX - 1), Answer::Kept(u32::MAX - 2));
+    assert_eq!(bench.abort(u32::MAX), Answer::Kept(u32::MAX - 1));
+    assert_eq!(bench.store(1, 1, 2), Answer::Stored(u32::MAX));
+    assert_eq!(bench.commit(u32::MAX), Answer::Committed(u32::MAX));
+    assert_eq!(bench.abort(u32::MAX), Answer::Refused(16));
+}

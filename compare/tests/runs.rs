@@ -1,0 +1,90 @@
+//! Random runs on the right model under all the checks, and the dropped
+//! stretches of small runs made by hand.
+
+use compare::counts::Counts;
+use compare::dropped::{self, Stretch};
+use compare::examine::{examine, Checks};
+use compare::fault::Fault;
+use compare::random::{self, Run};
+use compare::types::Call;
+
+#[test]
+fn right_model_passes() {
+    let mut counts = Counts::default();
+    for seed in 1_000_000..1_000_400 {
+        let run = random::run(seed);
+        match examine(&run, Fault::None.step(), Checks::ALL) {
+            Ok(met) => counts.add(&met),
+            Err(failure) => panic!("{failure}"),
+        }
+    }
+    assert_eq!(counts.lacking(), Vec::<String>::new());
+}
+
+#[test]
+fn every_figure_is_met() {
+    let mut met = std::collections::BTreeSet::new();
+    for seed in 0..1000 {
+        let run = random::run(seed);
+        met.insert((run.sets, run.ways));
+    }
+    assert_eq!(met.len(), 28);
+}
+
+const LOAD: Call = Call::Load { address: 0, width: 1 };
+const BAD_LOAD: Call = Call::Load { address: 0, width: 3 };
+
+/// The stretches of a run with these calls after a start.
+fn stretches(calls: &[Call]) -> Vec<(usize, usize, u32)> {
+    let run =
+        Run { seed: 0, sets: 1, ways: 1, found: vec![0; 32], numbered: 0, calls: calls.to_vec() };
+    let step = Fault::None.step();
+    let whole = dropped::play(&run, step, calls.iter().copied());
+    for stretch in dropped::stretches(1, &whole.given) {
+        dropped::compare(&run, step, &whole, stretch).unwrap();
+    }
+    let found = dropped::stretches(1, &whole.given).into_iter();
+    found.map(|Stretch { first, abort, n }| (first, abort, n)).collect()
+}
+
+fn abort(number: u32) -> Call {
+    Call::Abort { number }
+}
+
+#[test]
+fn stretches_of_small_runs() {
+    assert_eq!(stretches(&[]), []);
+    assert_eq!(stretches(&[LOAD, LOAD]), []);
+    // The abort alone.
+    assert_eq!(stretches(&[abort(1)]), [(0, 0, 1)]);
+    // A refused abort ends no stretch.
+    assert_eq!(stretches(&[LOAD, abort(0), abort(3)]), []);
+    assert_eq!(stretches(&[LOAD, abort(1)]), [(0, 1, 1)]);
+    // The first call may come before the loads.
+    assert_eq!(stretches(&[Call::Idle, LOAD, abort(1)]), [(1, 2, 1), (0, 2, 1)]);
+    // A refused load gives no number.
+    assert_eq!(stretches(&[BAD_LOAD, abort(1)]), [(1, 1, 1), (0, 1, 1)]);
+}
+
+#[test]
+fn nested_stretches() {
+    let calls = [LOAD, LOAD, abort(2), LOAD, abort(1), LOAD, abort(1)];
+    let expected = [(1, 2, 2), (0, 4, 1), (5, 6, 1), (0, 6, 1)];
+    assert_eq!(stretches(&calls), expected);
+    // An abort below n parts the stretches for n.
+    let calls = [LOAD, LOAD, abort(1), LOAD, LOAD, abort(2)];
+    assert_eq!(stretches(&calls), [(0, 2, 1), (4, 5, 2)]);
+}
+
+#[test]
+fn struck_calls() {
+    let retry = |number| Call::Retry { number };
+    let commit = Call::Commit { number: 5 };
+    let show = Call::ShowLine { address: 0 };
+    for call in [LOAD, BAD_LOAD, retry(3), retry(4), abort(3), abort(9)] {
+        assert!(dropped::struck(call, 3), "{call:?}");
+    }
+    for call in [retry(2), abort(2), commit, show, Call::Idle, Call::Reply, Call::Flush] {
+        assert!(!dropped::struck(call, 3), "{call:?}");
+    }
+}
