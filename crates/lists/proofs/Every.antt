@@ -1,20 +1,23 @@
 -- Tests that every entry of a list passes: what follows from them, and which changes of a queue keep them.
-use Prim.Native.Nat.{ℕ, zero, suc, _+_, _<_, _≤_}
-use mathlib.Core.Path.{_≡_, refl, sym, _∙_, ap, ap₂}
-use mathlib.Core.Bool.{Bool, true, false, cond, not, _&&_, _||_, true≢false, false≢true}
-use mathlib.Core.List.{List, [], _∷_, _++_, append-nil, append-assoc}
-use native.Mathlib.Omega.{arith}
-use lib.Dec.{ltb, leb, eqb}
-use lib.ListN.{length, getD, replicate, length-append}
-use borrow.Author.Tests.{ltb-true, ltb-false, leb-true, eqb-true, eqb-false, lt-ltb, eq-eqb, ne-eqb}
-use Rattle.lists.specs.Padded.{any, every, rising, first, final, filter, without, shifted, placed, changed}
-use Rattle.lists.proofs.Cond.{both, either, cases, and-left, and-right, and-both, or-left, or-right, or-one, or-two, none-or, wrong}
+use Prim.Native.Nat.{ℕ, zero, suc}
+use mathlib.Core.Path.{_≡_, refl}
+use mathlib.Core.Bool.{Bool, true, false, _&&_}
+use mathlib.Core.List.{List, [], _∷_, _++_}
+use lib.ListN.{getD, replicate}
+use Rattle.lists.specs.Padded.{every, first, filter, without, shifted, placed, changed}
+use Rattle.lists.proofs.Cond.{either, and-left, and-right, and-both}
 
 module _ {A : Type 0} where
   pub every-imp : (p r : A → Bool) → ((x : A) → p x ≡ true → r x ≡ true) → (l : List A) → every p l ≡ true → every r l ≡ true
   unfolding every
   every-imp p r h [] g = refl
   every-imp p r h (x ∷ l) g = and-both (r x) _ (h x (and-left _ _ g)) (every-imp p r h l (and-right (p x) _ g))
+
+  -- a test that all entries pass
+  pub every-all : (p : A → Bool) → ((x : A) → p x ≡ true) → (l : List A) → every p l ≡ true
+  unfolding every
+  every-all p h [] = refl
+  every-all p h (x ∷ l) = and-both (p x) _ (h x) (every-all p h l)
 
   pub every-imp₂ : (p o r : A → Bool) → ((x : A) → p x ≡ true → o x ≡ true → r x ≡ true) → (l : List A) → every p l ≡ true → every o l ≡ true → every r l ≡ true
   unfolding every
@@ -29,6 +32,12 @@ module _ {A : Type 0} where
   unfolding every
   every-append p [] ys e f = f
   every-append p (x ∷ xs) ys e f = and-both (p x) _ (and-left _ _ e) (every-append p xs ys (and-right (p x) _ e) f)
+
+  pub every-split : (p : A → Bool) (xs ys : List A) → every p (xs ++ ys) ≡ true → (every p xs ≡ true) × (every p ys ≡ true)
+  unfolding every
+  every-split p [] ys e = (refl, e)
+  every-split p (x ∷ xs) ys e =
+      let r = every-split p xs ys (and-right (p x) _ e) in (and-both (p x) _ (and-left _ _ e) (r .0), r .1)
 
   pub every-snoc : (p : A → Bool) (x : A) (l : List A) → p x ≡ true → every p l ≡ true → every p (l ++ x ∷ []) ≡ true
   unfolding every
@@ -81,3 +90,11 @@ module _ {A : Type 0} where
   unfolding filter every
   every-filter p r h [] = refl
   every-filter p r h (x ∷ xs) = either (λ (l : List A). every r l ≡ true) (p x) (λ e. and-both (r x) _ (h x e) (every-filter p r h xs)) (λ e. every-filter p r h xs)
+
+  -- some of the entries
+  pub every-chosen : (p r : A → Bool) (xs : List A) → every r xs ≡ true → every r (filter p xs) ≡ true
+  unfolding filter every
+  every-chosen p r [] e = refl
+  every-chosen p r (x ∷ xs) e =
+      either (λ (l : List A). every r l ≡ true) (p x) (λ t. and-both (r x) _ (and-left _ _ e) (every-chosen p r xs (and-right (r x) _ e)))
+      (λ t. every-chosen p r xs (and-right (r x) _ e))

@@ -1,16 +1,16 @@
 -- Numbers that rise along a queue, and the changes that keep the order.
-use Prim.Native.Nat.{ℕ, zero, suc, _+_, _<_, _≤_}
-use mathlib.Core.Path.{_≡_, refl, sym, _∙_, ap, ap₂}
-use mathlib.Core.Bool.{Bool, true, false, cond, not, _&&_, _||_, true≢false, false≢true}
-use mathlib.Core.List.{List, [], _∷_, _++_, append-nil, append-assoc}
+use Prim.Native.Nat.{ℕ, _<_, _≤_}
+use mathlib.Core.Path.{_≡_, refl}
+use mathlib.Core.Bool.{Bool, true, false, cond, _&&_, _||_}
+use mathlib.Core.List.{List, [], _∷_, _++_}
 use native.Mathlib.Omega.{arith}
 use lib.Dec.{ltb, leb, eqb}
-use lib.ListN.{length, getD, replicate, length-append}
-use borrow.Author.Tests.{ltb-true, ltb-false, leb-true, eqb-true, eqb-false, lt-ltb, le-leb, lt-leb, eq-eqb, ne-eqb}
-use Rattle.lists.specs.Padded.{any, every, ascending, freeLast, rising, first, final, filter, without, shifted, placed, changed}
-use Rattle.lists.proofs.Cond.{both, either, cases, and-left, and-right, and-both, or-left, or-right, or-one, or-two, none-or, wrong}
-use Rattle.lists.proofs.Every.{every-snoc, every-without, every-changed}
+use borrow.Author.Tests.{ltb-true, leb-true, eqb-true, lt-ltb, le-leb, lt-leb, eq-eqb, ne-eqb}
+use Rattle.lists.specs.Padded.{any, every, ascending, freeLast, rising, increasing, first, filter, without, shifted, placed, changed}
+use Rattle.lists.proofs.Cond.{either, cases, and-left, and-right, and-both, or-one, or-two, or-then, or-by, none-or, wrong}
+use Rattle.lists.proofs.Every.{every-imp, every-imp₂, every-snoc, every-without, every-changed}
 use Rattle.lists.proofs.Some.{any-snoc, none-every, without-none}
+use Rattle.lists.proofs.Selected.{inUse, none-used}
 use Rattle.lists.proofs.Sweep.{swept, sweep, sweep-every}
 
 module _ {A : Type 0} (number : A → ℕ) (free : A) (zero-free : number free ≡ 0) where
@@ -186,3 +186,81 @@ module _ {A : Type 0} (number : A → ℕ) (free : A) (zero-free : number free �
       cases (late x)
       (λ f. rw (f, eq-eqb (number free) 0 zero-free) (rest-goes (number x) l (leb-true n (number x) f) (and-right (ltb m (number x)) _ g′)))
       (λ f. rw (f, e) (and-both (ltb m (number x)) _ (and-left _ _ g′) (rise-swept (number x) l (and-right (ltb m (number x)) _ g′)))))
+
+-- ---- numbers that increase, with no free place
+
+module _ {A : Type 0} (number : A → ℕ) where
+  increase-lower : (m n : ℕ) (l : List A) → m ≤ n → increasing number n l ≡ true → increasing number m l ≡ true
+  unfolding increasing
+  increase-lower m n [] h g = refl
+  increase-lower m n (x ∷ l) h g =
+      and-both (ltb m (number x)) _ (lt-ltb m (number x) (omega (arith, ltb-true n (number x) (and-left _ _ g)))) (and-right (ltb n (number x)) _ g)
+
+  -- one more entry, whose number is above all others
+  pub increase-snoc :
+      (y : A) (top : ℕ) → top < number y → (m : ℕ) (l : List A) → m ≤ top → every (λ x. leb (number x) top) l ≡ true
+      → increasing number m l ≡ true → increasing number m (l ++ y ∷ []) ≡ true
+  unfolding increasing every
+  increase-snoc y top h m [] k f g = and-both (ltb m (number y)) true (lt-ltb m (number y) (omega arith)) refl
+  increase-snoc y top h m (x ∷ l) k f g =
+      and-both (ltb m (number x)) _ (and-left _ _ g)
+      (increase-snoc y top h (number x) l (leb-true (number x) top (and-left _ _ f)) (and-right (leb (number x) top) _ f) (and-right (ltb m (number x)) _ g))
+
+  -- some of the entries
+  pub increase-filter : (p : A → Bool) (m : ℕ) (l : List A) → increasing number m l ≡ true → increasing number m (filter p l) ≡ true
+  unfolding increasing filter
+  increase-filter p m [] g = refl
+  increase-filter p m (x ∷ l) g =
+      let above : m < number x = ltb-true m (number x) (and-left _ _ g) in
+      let rest : increasing number (number x) (filter p l) ≡ true = increase-filter p (number x) l (and-right (ltb m (number x)) _ g) in
+      either (λ (r : List A). increasing number m r ≡ true) (p x)
+      (λ t. and-both (ltb m (number x)) _ (and-left _ _ g) rest)
+      (λ t. increase-lower m (number x) (filter p l) (omega arith) rest)
+
+  -- the entries of a rising list that are not free
+  pub rising-increases : (m : ℕ) (l : List A) → rising number m l ≡ true → increasing number m (filter (inUse number) l) ≡ true
+  unfolding rising filter increasing
+  rising-increases m [] g = refl
+  rising-increases m (x ∷ l) g = cases (eqb (number x) 0)
+      (λ e. rw (e, none-used number l (rw e at g)))
+      (λ e.
+      let g′ : (ltb m (number x) && rising number (number x) l) ≡ true = rw e at g in
+      rw e (and-both (ltb m (number x)) _ (and-left _ _ g′) (rising-increases (number x) l (and-right (ltb m (number x)) _ g′))))
+
+-- ---- an entry of a rising list is found by its number
+
+module _ {A : Type 0} (number : A → ℕ) where
+  abbrev freeOrAbove : ℕ → A → Bool
+  freeOrAbove m x = eqb (number x) 0 || ltb m (number x)
+
+  above-rest : (m : ℕ) (l : List A) → rising number m l ≡ true → every (freeOrAbove m) l ≡ true
+  unfolding rising every
+  above-rest m [] g = refl
+  above-rest m (x ∷ l) g = cases (eqb (number x) 0)
+      (λ e. rw e (every-imp (λ y. eqb (number y) 0) (freeOrAbove m) (λ y t. or-one _ _ t) l (rw e at g)))
+      (λ e.
+      let g′ : (ltb m (number x) && rising number (number x) l) ≡ true = rw e at g in
+      let above : m < number x = ltb-true m (number x) (and-left _ _ g′) in
+      and-both (freeOrAbove m x) _ (or-two (eqb (number x) 0) _ (and-left _ _ g′))
+      (every-imp (freeOrAbove (number x)) (freeOrAbove m)
+      (λ y t. or-by (eqb (number y) 0) _ (λ f. lt-ltb m (number y) (omega (arith, ltb-true (number x) (number y) (or-then (eqb (number y) 0) _ t f)))))
+      l (above-rest (number x) l (and-right (ltb m (number x)) _ g′))))
+
+  module _ (d : A) (same : A → A → Bool) (same-refl : (x : A) → same x x ≡ true) where
+    -- x is free, or the first entry with its number is the same as x
+    abbrev pub foundIn : List A → A → Bool
+    foundIn l x = eqb (number x) 0 || same (first (λ y. eqb (number y) (number x)) d l) x
+
+    pub rising-found : (m : ℕ) (l : List A) → rising number m l ≡ true → every (foundIn l) l ≡ true
+    unfolding rising every first
+    rising-found m [] g = refl
+    rising-found m (x ∷ l) g = cases (eqb (number x) 0)
+        (λ e. and-both (foundIn (x ∷ l) x) _ (or-one _ _ e) (every-imp (λ y. eqb (number y) 0) (foundIn (x ∷ l)) (λ y t. or-one _ _ t) l (rw e at g)))
+        (λ e.
+        let g′ : (ltb m (number x) && rising number (number x) l) ≡ true = rw e at g in
+        let rest : rising number (number x) l ≡ true = and-right (ltb m (number x)) _ g′ in
+        and-both (foundIn (x ∷ l) x) _ (or-two (eqb (number x) 0) _ (rw (eq-eqb (number x) (number x) refl) (same-refl x)))
+        (every-imp₂ (foundIn l) (freeOrAbove (number x)) (foundIn (x ∷ l))
+        (λ y p q. or-by (eqb (number y) 0) _ (λ f.
+        rw (ne-eqb (number x) (number y) (λ z. omega (arith, ltb-true (number x) (number y) (or-then (eqb (number y) 0) _ q f)))) (or-then (eqb (number y) 0) _ p f)))
+        l (rising-found (number x) l rest) (above-rest (number x) l rest)))

@@ -1,14 +1,12 @@
 -- Selections: what `filter`, `any` and `final` say of one another, of two lists, and of the changes of a queue.
-use Prim.Native.Nat.{ℕ, zero, suc, _+_, _<_, _≤_}
-use mathlib.Core.Path.{_≡_, refl, sym, _∙_, ap, ap₂}
-use mathlib.Core.Bool.{Bool, true, false, cond, not, _&&_, _||_, true≢false, false≢true}
-use mathlib.Core.List.{List, [], _∷_, _++_, append-nil, append-assoc}
-use native.Mathlib.Omega.{arith}
-use lib.Dec.{ltb, leb, eqb}
-use lib.ListN.{length, getD, replicate, length-append}
-use borrow.Author.Tests.{ltb-true, ltb-false, leb-true, eqb-true, eqb-false, lt-ltb, eq-eqb, ne-eqb}
-use Rattle.lists.specs.Padded.{any, every, rising, first, final, filter, without, shifted, placed, changed}
-use Rattle.lists.proofs.Cond.{both, either, cases, and-left, and-right, and-both, or-left, or-right, or-one, or-two, none-or, wrong}
+use Prim.Native.Nat.{ℕ}
+use mathlib.Core.Path.{_≡_, refl, sym, _∙_, ap}
+use mathlib.Core.Bool.{Bool, true, false, cond, not, _&&_, _||_, false≢true}
+use mathlib.Core.List.{List, [], _∷_, _++_, append-nil}
+use lib.Dec.{ltb, eqb}
+use lib.ListN.{getD}
+use Rattle.lists.specs.Padded.{any, every, rising, final, filter, shifted, placed, changed}
+use Rattle.lists.proofs.Cond.{both, cases, and-left, and-right, or-left, or-right}
 
 module _ {A : Type 0} where
   -- ---- filter
@@ -71,7 +69,7 @@ module _ {A : Type 0} where
     abbrev pub inUse : A → Bool
     inUse x = not (eqb (number x) 0)
 
-    none-used : (xs : List A) → every (λ y. eqb (number y) 0) xs ≡ true → filter inUse xs ≡ []
+    pub none-used : (xs : List A) → every (λ y. eqb (number y) 0) xs ≡ true → filter inUse xs ≡ []
     unfolding every filter
     none-used [] e = refl
     none-used (x ∷ xs) e = rw (and-left (eqb (number x) 0) _ e) (none-used xs (and-right (eqb (number x) 0) _ e))
@@ -121,3 +119,11 @@ module _ {A : Type 0} where
   unfolding filter
   filter-same p r h [] = refl
   filter-same p r h (x ∷ xs) = rw (h x, filter-same p r h xs)
+
+  -- ---- the first place
+
+  -- a new entry goes to a later place
+  pub head-placed : (t : A → Bool) (e d : A) (l : List A) → t (getD l 0 d) ≡ false → getD (placed t e l) 0 d ≡ getD l 0 d
+  unfolding placed
+  head-placed t e d [] f = refl
+  head-placed t e d (x ∷ l) f = rw f

@@ -35,6 +35,11 @@ module _ {A : Type 0} where
   rising number m (x ∷ xs) =
       cond (eqb (number x) 0) (every (λ y. eqb (number y) 0) xs) (ltb m (number x) && rising number (number x) xs)
 
+  -- there is no free place, and the numbers are above m and strictly rise
+  unfoldable pub increasing : (A → ℕ) → ℕ → List A → Bool
+  increasing number m [] = true
+  increasing number m (x ∷ xs) = ltb m (number x) && increasing number (number x) xs
+
   -- ---- selections
 
   -- the first entry that passes the test, or d

@@ -45,6 +45,16 @@ module _ {A : Type 0} (refuse : ℕ → A) where
   guarded-by P (k ∷ ks) x r h =
       cases (k .applies) (λ e. rw e (r (k .number))) (λ e. rw e (guarded-by P ks x r (λ p. h (rw e p))))
 
+  -- a fact of the refusals whose numbers pass a test, as those of all the checks do
+  pub guarded-numbered :
+      (P : A → Type 0) (t : ℕ → Bool) (ks : List Check) (x : A) → every (λ k. t (k .number)) ks ≡ true → ((k : ℕ) → t k ≡ true → P (refuse k)) → P x
+      → P (guarded ks refuse x)
+  unfolding guarded every
+  guarded-numbered P t [] x n r h = h
+  guarded-numbered P t (k ∷ ks) x n r h =
+      either P (k .applies) (λ e. r (k .number) (and-left _ _ n))
+      (λ e. guarded-numbered P t ks x (and-right (t (k .number)) _ n) r h)
+
 pub guarded-map : {A B : Type 0} (f : A → B) (refuse : ℕ → A) (ks : List Check) (x : A) → f (guarded ks refuse x) ≡ guarded ks (λ k. f (refuse k)) (f x)
 unfolding guarded
 guarded-map f refuse [] x = refl
@@ -176,7 +186,7 @@ tried (k ∷ ks) = cases (k .applies)
     })
 
 -- a refusal's answer names its number
-refusal-number : (c : Call) (j k : ℕ) → refusal c j ≡ refused k → j ≡ k
+pub refusal-number : (c : Call) (j k : ℕ) → refusal c j ≡ refused k → j ≡ k
 refusal-number (load a w) j k e = cc
 refusal-number (store a w v) j k e = cc
 refusal-number (retry i) j k e = cc

@@ -17,6 +17,7 @@ use Rattle.rules.specs.Shape.{Queues, Hierarchy, World, world, noStore, 
 use Rattle.rules.specs.Calls.{Call, Answer, Outcome, abort, isAccepted, nextNumber, youngStore, youngLoad, squash, abortRule}
 use Rattle.rules.specs.WellFormed.{wellFormed}
 use Rattle.rules.specs.Runs.{outcome, answer, next, answers, after, startWorld}
+use Rattle.rules.specs.Kept.{Formed}
 use Rattle.rules.specs.Dropped.{struck, NoAbortBelow, Dropped, DroppedStretch, DroppedAfterStart}
 use Rattle.rules.proofs.Checks.{shut, malformed, outcome-by}
 use Rattle.rules.proofs.Parts.{parts, goodStore, goodLoad, store-low, load-low}
@@ -30,9 +31,6 @@ use Rattle.rules.proofs.RunLaws.{after-append, Agree, agree, Alone, wit
 -- the world without what is numbered n or more
 abbrev pub squashed : ℕ → World → World
 squashed n w = world (squash n (w .queues)) (w .hierarchy)
-
-abbrev Formed : World → Type 0
-Formed w = wellFormed (w .queues) (w .hierarchy) ≡ true
 
 -- where n is the next number, nothing is squashed
 squashed-self : (n : ℕ) (w : World) → Formed w → nextNumber (w .queues) ≡ n → squashed n w ≡ w

@@ -1,15 +1,17 @@
--- The shared table, 01's worked script, the states of well-formed, and dropped stretches, computed.
+-- The shared table, 01's worked script, the states of well-formed, dropped stretches, and runs beside flat memory, computed.
 use mathlib.Core.Path.{_≡_, refl}
-use mathlib.Core.Bool.{Bool, true, false}
-use Prim.Native.Nat.{ℕ}
-use mathlib.Core.List.{List, [], _∷_, _++_, map}
+use mathlib.Core.Bool.{true, false}
+use mathlib.Core.List.{[], _∷_, _++_, map}
 use lib.ListN.{replicate}
-use Rattle.rules.specs.Shape.{World, fits}
-use Rattle.rules.specs.Calls.{Call, Answer, abort, refused, stored, value, waits, committed, kept, drained, requested, filled, flushed, idled, shown}
+use Rattle.rules.specs.Shape.{fits}
+use Rattle.rules.specs.Calls.{abort, refused, stored, value, waits, committed, kept, drained, requested, filled, flushed, idled, shown}
 use Rattle.rules.specs.WellFormed.{wellFormed}
 use Rattle.rules.specs.Runs.{answers, after, startAnswer, startWorld, ready}
 use Rattle.rules.specs.Dropped.{Dropped}
-use Rattle.rules.specs.Examples.{Example, table, script, whole, seenAnswers, struckAnswers, seenEnd, struckEnd, evicting, inquiring, waitingOnly, draining}
+use Rattle.rules.specs.Lines.{dirtyLines}
+use Rattle.rules.specs.Flat.{flatBefore, flatCommitted}
+use Rattle.lists.specs.Bytes.{valueAt}
+use Rattle.rules.specs.Examples.{table, script, whole, seenAnswers, struckAnswers, seenEnd, struckEnd, evicting, inquiring, waitingOnly, draining, otherCache, beginning, past, flatValue, twoLines, reusing, overtaken, evictedFlush}
 use Rattle.rules.specs.States.{richTags, richCache, richStores, richLoads, richQueues, richLines, clauses, broken, brokenClauses, unfit}
 use Rattle.rules.specs.Computed.{computed}
 
@@ -146,3 +148,89 @@ draining-ends = refl
 pub draining-struck-ends : struckEnd draining ≡ 0 ∷ 0 ∷ 0 ∷ 0 ∷ 0 ∷ 0 ∷ 0 ∷ 1 ∷ 0 ∷ []
 unfolding computed draining
 draining-struck-ends = refl
+
+-- ---- runs beside flat memory
+
+-- the start of each is accepted
+pub two-lines-start : startAnswer 1 1 otherCache twoLines ≡ ready
+unfolding computed
+two-lines-start = refl
+
+-- a value answered after its number was used again: byte 4 is store 1's, byte 5 as found; the dropped store does not count
+pub reusing-answers :
+    answers (reusing .calls) (beginning reusing)
+    ≡ stored 1
+    ∷ waits 2
+    ∷ stored 3
+    ∷ kept 1
+    ∷ waits 2
+    ∷ committed 2
+    ∷ requested 0
+    ∷ filled 0
+    ∷ value 2 1543
+    ∷ []
+unfolding computed reusing
+reusing-answers = refl
+
+pub reusing-flat : flatValue 2 reusing ≡ 1543
+unfolding computed reusing
+reusing-flat = refl
+
+-- an inquiry answered after a younger store was accepted: the byte as found, and not the store's
+pub overtaken-answers :
+    answers (overtaken .calls) (beginning overtaken)
+    ≡ waits 1 ∷ stored 2 ∷ committed 2 ∷ requested 0 ∷ filled 0 ∷ value 1 1 ∷ []
+unfolding computed overtaken
+overtaken-answers = refl
+
+pub overtaken-flat : flatValue 1 overtaken ≡ 1
+unfolding computed overtaken
+overtaken-flat = refl
+
+-- a load numbered 3 would read the store
+pub overtaken-later : valueAt (flatBefore 3 (past overtaken) (overtaken .found)) 0 1 ≡ 9
+unfolding computed overtaken
+overtaken-later = refl
+
+-- a flush after an eviction
+pub evicted-answers :
+    answers (evictedFlush .calls) (beginning evictedFlush)
+    ≡ stored 1
+    ∷ committed 1
+    ∷ requested 0
+    ∷ filled 0
+    ∷ drained 1
+    ∷ waits 2
+    ∷ committed 2
+    ∷ requested 16
+    ∷ filled 16
+    ∷ value 2 17
+    ∷ stored 3
+    ∷ committed 3
+    ∷ drained 3
+    ∷ stored 4
+    ∷ flushed 1
+    ∷ []
+unfolding computed evictedFlush
+evicted-answers = refl
+
+-- memory after it: byte 0 was written by the eviction, byte 16 by the flush, byte 17 not at all
+pub evicted-memory :
+    after (evictedFlush .calls) (beginning evictedFlush) .hierarchy .memory
+    ≡ 9 ∷ 2 ∷ 3 ∷ 4 ∷ 5 ∷ 6 ∷ 7 ∷ 8 ∷ 9 ∷ 10 ∷ 11 ∷ 12 ∷ 13 ∷ 14 ∷ 15 ∷ 16
+    ∷ 5 ∷ 18 ∷ 19 ∷ 20 ∷ 21 ∷ 22 ∷ 23 ∷ 24 ∷ 25 ∷ 26 ∷ 27 ∷ 28 ∷ 29 ∷ 30 ∷ 31 ∷ 32 ∷ []
+unfolding computed evictedFlush
+evicted-memory = refl
+
+-- flat memory with the committed stores
+pub evicted-flat :
+    flatCommitted (past evictedFlush) (evictedFlush .found)
+    ≡ 9 ∷ 2 ∷ 3 ∷ 4 ∷ 5 ∷ 6 ∷ 7 ∷ 8 ∷ 9 ∷ 10 ∷ 11 ∷ 12 ∷ 13 ∷ 14 ∷ 15 ∷ 16
+    ∷ 5 ∷ 18 ∷ 19 ∷ 20 ∷ 21 ∷ 22 ∷ 23 ∷ 24 ∷ 25 ∷ 26 ∷ 27 ∷ 28 ∷ 29 ∷ 30 ∷ 31 ∷ 32 ∷ []
+unfolding computed evictedFlush
+evicted-flat = refl
+
+-- no record is dirty after it
+pub evicted-clean : dirtyLines (after (evictedFlush .calls) (beginning evictedFlush) .hierarchy) ≡ 0
+unfolding computed evictedFlush
+evicted-clean = refl

@@ -252,7 +252,12 @@ washed-memory c g h a =
     sym (flat-clean c g k a (p .valid) (p .line) (h k (used-slot c g k (p .valid)))))
     (λ e. sym (flat-gone c a e))
 
--- every dirty line is written back: no byte changes,
+-- every dirty line is written back: no record of a slot in use is dirty,
+pub back-clean :
+    (b : Hierarchy) → fits b ≡ true → linesFormed b ≡ true → (k : ℕ) → k < slots b → tagAt (writeBackAll b .tags) k .dirty ≡ false
+back-clean b f g k h = backed b f (good-tells b g) .washed k h
+
+-- no byte changes,
 pub back-flat : (b : Hierarchy) → fits b ≡ true → linesFormed b ≡ true → (a : ℕ) → flatByte (writeBackAll b) a ≡ flatByte b a
 back-flat b f g a = backed b f (good-tells b g) .same-flat a
 

@@ -12,3 +12,12 @@ pub mod SquashFormed
 pub mod Struck
 pub mod RunLaws
 pub mod Dropped
+pub mod Entries
+pub mod QueuesKept
+pub mod Kept
+pub mod Stored
+pub mod Waits
+pub mod FlatCalls
+pub mod History
+pub mod Values
+pub mod Flush

@@ -31,7 +31,7 @@ module _ (q : Queues) (b : Hierarchy) where
   retry-same i l none = refl
   retry-same i l (some v) = either Same (leb i (q .committed)) (λ e. refl) (λ e. refl)
 
-  rule-number : (c : Call) → passes (callChecks c q b) ≡ true → nextNumber (rule c q b .queues) ≡ numberAfter c (nextNumber q)
+  pub rule-number : (c : Call) → passes (callChecks c q b) ≡ true → nextNumber (rule c q b .queues) ≡ numberAfter c (nextNumber q)
   unfolding loadRule storeRule retryRule commitRule abortRule squash idleRule replyRule flushRule showRule every
   rule-number (load a w) p = refl
   rule-number (store a w v) p = refl

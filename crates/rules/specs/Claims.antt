@@ -6,6 +6,8 @@ use Rattle.rules.specs.Calls.{Call}
 use Rattle.rules.specs.Refusals.{RefusedKeeps, RefusedExactly}
 use Rattle.rules.specs.Numbers.{FirstNumber, NextNumber}
 use Rattle.rules.specs.Dropped.{DroppedStretch, DroppedAfterStart}
+use Rattle.rules.specs.Kept.{StartFormed, NextKept, RunKept, AdmittedAfterStart}
+use Rattle.rules.specs.Values.{AfterStart, FromState, ValuesRight, LoadWaits, RetryWaits, InquiriesRight, FlushCounts, FlushesRight, FlatCall, FlatAfter}
 
 -- a refused call changes nothing
 abbrev pub RefusedCallsKeep : Type 0
@@ -24,3 +26,34 @@ NumbersGiven =
 abbrev pub DroppedStretches : Type 0
 DroppedStretches =
     ((w : World) → DroppedStretch w) × ((sets ways : ℕ) (cache memory : List ℕ) → DroppedAfterStart sets ways cache memory)
+
+-- kept well formed, by a start, a call and a run; and no call of a run after a start is refused with 1 or 10
+pub record KeptWellFormed : Type 0 where
+  pub by-start : (sets ways : ℕ) (cache memory : List ℕ) → StartFormed sets ways cache memory
+  pub by-call : (c : Call) (w : World) → NextKept c w
+  pub by-run : (run : List Call) (w : World) → RunKept run w
+  pub admitted : (sets ways : ℕ) (cache memory : List ℕ) → AdmittedAfterStart sets ways cache memory
+
+-- demand 2: every value that a call answers, in every run after a start, and in every run from a well-formed state on
+pub record ValuesAreRight : Type 0 where
+  pub after-start : (sets ways : ℕ) (cache memory : List ℕ) → AfterStart ValuesRight sets ways cache memory
+  pub from-state : (w : World) → FromState ValuesRight w
+
+-- demand 2: an accepted load or inquiry waits exactly if a byte of it is lacking; in a run, the load of that number is the run's own
+pub record WaitsAreExact : Type 0 where
+  pub by-load : (a n : ℕ) (w : World) → LoadWaits a n w
+  pub by-inquiry : (i : ℕ) (w : World) → RetryWaits i w
+  pub after-start : (sets ways : ℕ) (cache memory : List ℕ) → AfterStart InquiriesRight sets ways cache memory
+  pub from-state : (w : World) → FromState InquiriesRight w
+
+-- demand 2: what an accepted flush counts, cleans and leaves in memory
+pub record FlushesAreExact : Type 0 where
+  pub by-flush : (w : World) → FlushCounts w
+  pub after-start : (sets ways : ℕ) (cache memory : List ℕ) → AfterStart FlushesRight sets ways cache memory
+  pub from-state : (w : World) → FromState FlushesRight w
+
+-- demand 2: flat memory of a state with its held stores on top, after each accepted call, and after a run
+pub record FlatMemoryIsKept : Type 0 where
+  pub by-call : (c : Call) (w : World) → FlatCall c w
+  pub after-start : (sets ways : ℕ) (cache memory : List ℕ) → AfterStart FlatAfter sets ways cache memory
+  pub from-state : (w : World) → FromState FlatAfter w

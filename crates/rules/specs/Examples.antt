@@ -1,17 +1,20 @@
 -- The shared table: 01's bench examples marked P, each as what the rules give beside what 01 says. And 01's worked script,
--- and dropped stretches.
-use Prim.Native.Nat.{ℕ}
-use mathlib.Core.Bool.{Bool, true, false}
+-- dropped stretches, and runs beside flat memory.
+use Prim.Native.Nat.{ℕ, _+_}
+use mathlib.Core.Bool.{Bool, true}
 use mathlib.Core.List.{List, [], _∷_, _++_, map}
 use lib.ListN.{getD, replicate}
 use Rattle.lists.specs.Padded.{select}
+use Rattle.lists.specs.Counted.{eachFrom}
+use Rattle.lists.specs.Bytes.{valueAt}
 use Rattle.rules.specs.Dropped.{remaining, struck}
 use Rattle.rules.specs.declared.StoreEntry.{StoreEntry}
 use Rattle.rules.specs.declared.Request.the-variants.{Free, Line}
 use Rattle.rules.specs.Shape.{World, Hierarchy, world, noStore, noLoad, tagAt, lineOf, setOf}
 use Rattle.rules.specs.Lines.{slotOf, useLine, writeStore, victim, fillLine}
 use Rattle.rules.specs.Calls.{Call, Answer, load, store, retry, commit, abort, idle, reply, flush, show, refused, stored, value, waits, committed, kept, drained, requested, idled, filled}
-use Rattle.rules.specs.Runs.{emptyQueues, started, answer, answers, after}
+use Rattle.rules.specs.Runs.{emptyQueues, started, startWorld, answer, answers, after}
+use Rattle.rules.specs.Flat.{History, noHistory, historyOf, loadOf, flatBefore}
 
 -- what an example shows: answers of calls, or figures
 pub data Shown : Type 0 where
@@ -235,4 +238,68 @@ draining = record {
   n = 1;
   body = store 16 1 9 ∷ idle ∷ [];
   later = show 16 ∷ [];
+}
+
+-- ---- runs beside flat memory
+
+-- a start with one set and one way, what it found, and a run after it
+pub record Run : Type 0 where
+  pub found : List ℕ
+  pub calls : List Call
+
+-- the start found other bytes in the cache, which it zeroes
+abbrev pub otherCache : List ℕ
+otherCache = replicate 16 255
+
+abbrev pub beginning : Run → World
+beginning r = startWorld 1 1 otherCache (r .found)
+
+abbrev pub past : Run → History
+past r = historyOf noHistory (r .calls) (beginning r)
+
+-- what flat memory holds for the load that last took number i
+abbrev pub flatValue : ℕ → Run → ℕ
+flatValue i r = valueAt (flatBefore i (past r) (r .found)) (loadOf i (past r) .address) (loadOf i (past r) .width)
+
+-- two lines, in which byte a is a + 1
+abbrev pub twoLines : List ℕ
+twoLines = eachFrom (λ a x. a + 1) 0 (replicate 32 0)
+
+-- Numbers 2 and 3 are dropped, a load and a store; number 2 is then a load of other bytes, one of them in store 1, and is answered
+-- when its line has come.
+unfoldable pub reusing : Run
+reusing = record {
+  found = twoLines;
+  calls =
+      store 4 1 7 ∷ load 16 1 ∷ store 4 1 8 ∷ abort 2 ∷ load 4 2 ∷ commit 2 ∷ idle ∷ reply ∷ retry 2 ∷ [];
+}
+
+-- A younger store to the byte is accepted, and committed, before load 1 is answered.
+unfoldable pub overtaken : Run
+overtaken = record {
+  found = twoLines;
+  calls = load 0 1 ∷ store 0 1 9 ∷ commit 2 ∷ idle ∷ reply ∷ retry 1 ∷ [];
+}
+
+-- Store 1 is drained to line 0, which line 1 evicts; store 3 is drained to line 1; store 4 is held, not committed; then a flush.
+unfoldable pub evictedFlush : Run
+evictedFlush = record {
+  found = twoLines;
+  calls =
+      store 0 1 9
+      ∷ commit 1
+      ∷ idle
+      ∷ reply
+      ∷ idle
+      ∷ load 16 1
+      ∷ commit 2
+      ∷ idle
+      ∷ reply
+      ∷ retry 2
+      ∷ store 16 1 5
+      ∷ commit 3
+      ∷ idle
+      ∷ store 17 1 6
+      ∷ flush
+      ∷ [];
 }

@@ -7,7 +7,9 @@ pub mod Runs
 pub mod Refusals
 pub mod Numbers
 pub mod Dropped
+pub mod Kept
 pub mod Flat
+pub mod Values
 pub mod Computed
 pub mod Examples
 pub mod States

@@ -1,4 +1,4 @@
-ghost use Rattle.rules.specs.Claims.{RefusedCallsKeep, RefusalsExact, NumbersGiven, DroppedStretches};
+ghost use Rattle.rules.specs.Claims.{RefusedCallsKeep, RefusalsExact, NumbersGiven, DroppedStretches, KeptWellFormed, ValuesAreRight, WaitsAreExact, FlushesAreExact, FlatMemoryIsKept};
 
 // The declared types of the load/store model: a tag record, an entry of each queue, and the miss register.
 // The rules over them stand in specs/, and what is claimed of the rules is promised here by functions that do nothing.
@@ -53,4 +53,30 @@ pub fn numbers_given()
 // Demand 3: a dropped stretch leaves no trace.
 pub fn dropped_stretches()
     ensures { λ r. ⌜ DroppedStretches ⌝ }
+{}
+
+// An accepted start leaves a well-formed state, and every call on a well-formed state leaves one; so no call of a run after a start
+// is refused with 1 or 10.
+pub fn kept_well_formed()
+    ensures { λ r. ⌜ KeptWellFormed ⌝ }
+{}
+
+// Demand 2: each value that a load or an inquiry answers is what flat memory holds, at its time.
+pub fn values_right()
+    ensures { λ r. ⌜ ValuesAreRight ⌝ }
+{}
+
+// Demand 2: an accepted load or inquiry answers "waits" exactly if some byte of it is in no older held store and its line is absent.
+pub fn waits_exact()
+    ensures { λ r. ⌜ WaitsAreExact ⌝ }
+{}
+
+// Demand 2: after an accepted flush memory holds exactly the committed stores, and its count is the number of dirty records before it.
+pub fn flush_exact()
+    ensures { λ r. ⌜ FlushesAreExact ⌝ }
+{}
+
+// Demand 2: flat memory of a state changes by accepted stores and aborts alone.
+pub fn flat_memory_kept()
+    ensures { λ r. ⌜ FlatMemoryIsKept ⌝ }
 {}
