@@ -1,13 +1,14 @@
 -- Laws of bytes, for a general width: bytes put into a list and read again, a value put together from known bytes.
 use Prim.Native.Nat.{ℕ, zero, suc, _+_, _*_, _-_, _/_, _%_, _^_, _≤_, _<_}
 use mathlib.Core.Path.{_≡_, refl, sym, _∙_, ap, ap₂}
-use mathlib.Core.Bool.{Bool, true, false, cond, not, _&&_, _||_}
+use mathlib.Core.Bool.{Bool, true, false, cond, not}
 use mathlib.Core.List.{List}
 use mathlib.Core.Option.{Option, some, none}
-use native.Mathlib.Nat.{pow-suc, pow-succ', div-div-eq-div-mul, div-one}
+use native.Mathlib.Nat.{pow-suc, pow-succ', pow-le-pow-right, div-div-eq-div-mul, div-one, div-eq-of-lt}
 use native.Mathlib.Omega.{arith}
 use lib.Dec.{ltb, leb, eqb}
-use lib.ListN.{length, getD, set, length-set}
+use lib.ListN.{length, getD, length-set}
+use lib.Pow.{pow-add}
 use lib.Seq.{getD-set-same, getD-set-other}
 use borrow.Author.Tests.{ltb-true, ltb-false, leb-true, eqb-true, eqb-false, lt-ltb, le-ltb, le-leb}
 use Rattle.lists.specs.Counted.{allFrom, someFrom}
@@ -100,3 +101,29 @@ put-value w a v m inside small = bytes-value w 0 a v (put w a v m) stands (omega
         let p : (a + k) - a ≡ 0 + k = omega arith in
         put-byte w a v m (a + k) (omega arith)
         ∙ rw (and-both (leb a (a + k)) (ltb (a + k) (a + w)) (le-leb a (a + k) (omega arith)) (lt-ltb (a + k) (a + w) (omega arith)), p)
+
+-- ---- bytes by a shift, and covered places by a difference
+
+byte-power : (k : ℕ) → 2 ^ (8 * k) ≡ 256 ^ k
+byte-power zero = refl
+byte-power (suc k) =
+    let e : 8 * suc k ≡ 8 * k + 8 = omega arith in
+    ap (λ (n : ℕ). 2 ^ n) e ∙ pow-add 2 (8 * k) 8 ∙ ap (λ (n : ℕ). n * 256) (byte-power k) ∙ sym (pow-suc 256 k)
+
+pub byte-shifted : (k v : ℕ) → v / 2 ^ (8 * k) % 256 ≡ byteOf k v
+unfolding byteOf
+byte-shifted k v = ap (λ (n : ℕ). v / n % 256) (byte-power k)
+
+-- a value of w bytes has no others
+pub byte-above : (w k v : ℕ) → v < 256 ^ w → w ≤ k → 0 ≡ byteOf k v
+unfolding byteOf
+byte-above w k v h l =
+    let some : 0 < 256 = omega arith in
+    let more : 256 ^ w ≤ 256 ^ k = pow-le-pow-right some l in
+    let less : v < 256 ^ k = omega arith in
+    sym (ap (λ (n : ℕ). n % 256) (div-eq-of-lt less))
+
+pub among-from : (p w j : ℕ) → p ≤ j → ltb (j - p) w ≡ among p w j
+among-from p w j h = rw (le-leb p j h) (cases (ltb (j - p) w)
+    (λ e. e ∙ sym (lt-ltb j (p + w) (omega (arith, ltb-true (j - p) w e))))
+    (λ e. e ∙ sym (le-ltb j (p + w) (omega (arith, ltb-false (j - p) w e)))))

@@ -11,7 +11,7 @@ use lib.ListN.{length, getD, drop, drop-of-length-le}
 use lib.Seq.{drop-cons}
 use Rattle.lists.specs.Padded.{every}
 use Rattle.lists.specs.Counted.{firstFrom, allFrom, greatestFrom, stepsFrom, eachFrom}
-use Rattle.lists.proofs.Cond.{either, cases, and-left, and-right, and-both}
+use Rattle.lists.proofs.Cond.{either, and-left, and-right, and-both}
 
 -- ---- the first
 

@@ -7,3 +7,5 @@ pub mod Selected
 pub mod Sweep
 pub mod Bytes
 pub mod Lengths
+pub mod Loops
+pub mod CountedLoops

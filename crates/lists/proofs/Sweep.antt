@@ -1,8 +1,7 @@
 -- Entries that pass a test c give up their places: what every other operation on the list sees of that.
 use mathlib.Core.Path.{_≡_, refl, sym, _∙_, ap, ap₂}
-use mathlib.Core.Bool.{Bool, true, false, cond, not, _&&_, _||_}
+use mathlib.Core.Bool.{Bool, true, false, cond, _||_}
 use mathlib.Core.List.{List, [], _∷_, _++_}
-use Prim.Native.Nat.{ℕ}
 use lib.ListN.{getD}
 use Rattle.lists.specs.Padded.{any, every, first, final, filter, without, shifted, placed, changed}
 use Rattle.lists.proofs.Cond.{both, either, cases, and-left, and-right, and-both}

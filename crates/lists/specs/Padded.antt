@@ -2,7 +2,7 @@
 -- No definition here looks at what an entry is; each change keeps the length.
 use mathlib.Core.Bool.{Bool, true, false, cond, _||_, _&&_}
 use mathlib.Core.List.{List, [], _∷_, _++_}
-use Prim.Native.Nat.{ℕ}
+use Prim.Native.Nat.{ℕ, suc}
 use lib.Dec.{eqb, ltb}
 
 module _ {A : Type 0} where
@@ -46,6 +46,11 @@ module _ {A : Type 0} where
   unfoldable pub first : (A → Bool) → A → List A → A
   first p d [] = d
   first p d (x ∷ xs) = cond (p x) x (first p d xs)
+
+  -- the place of the first entry that passes the test, or the length
+  unfoldable pub position : (A → Bool) → List A → ℕ
+  position p [] = 0
+  position p (x ∷ xs) = cond (p x) 0 (suc (position p xs))
 
   -- the last entry that passes the test, or d
   unfoldable pub final : (A → Bool) → A → List A → A

@@ -2,17 +2,17 @@
 -- exactly under its condition, when no earlier condition holds.
 use Prim.Native.Nat.{ℕ}
 use mathlib.Core.Path.{_≡_, refl, sym, _∙_, ap, subst}
-use mathlib.Core.Bool.{Bool, true, false, cond, not, _&&_, _||_, true≢false, false≢true}
+use mathlib.Core.Bool.{Bool, true, false, cond, _&&_, false≢true}
 use mathlib.Core.List.{List, [], _∷_, _++_}
 use mathlib.Core.Option.{Option, some, none}
 use lib.Dec.{leb, ltb}
 use Rattle.lists.specs.Padded.{every, first}
-use Rattle.lists.proofs.Cond.{either, cases, and-left, and-right, and-both, wrong}
+use Rattle.lists.proofs.Cond.{either, cases, and-left, and-right, wrong}
 use Rattle.rules.specs.declared.LoadEntry.{LoadEntry}
 use Rattle.rules.specs.Shape.{Queues, Hierarchy, World, fits, noLoad, lineOf}
 use Rattle.rules.specs.Lines.{present}
 use Rattle.rules.specs.Forward.{loadValue}
-use Rattle.rules.specs.Calls.{Call, Answer, Outcome, Check, load, store, retry, commit, abort, idle, reply, flush, show, refused, shown, isAccepted, unchanged, guarded, passes, callChecks, rule, isNone, loadAnswer, loadRule, storeRule, answerLoad, retryWith, retryRule, commitRule, abortRule, canDrain, canRequestLoad, canRequestStore, idleRule, replyRule, flushRule, showRule, waitingAt, nextNumber}
+use Rattle.rules.specs.Calls.{Call, Answer, Outcome, Check, load, store, retry, commit, abort, idle, reply, flush, show, refused, isAccepted, unchanged, guarded, passes, callChecks, rule, loadAnswer, loadRule, storeRule, answerLoad, retryWith, retryRule, commitRule, abortRule, canDrain, canRequestLoad, canRequestStore, idleRule, replyRule, flushRule, showRule, waitingAt, nextNumber}
 use Rattle.rules.specs.WellFormed.{wellFormed}
 use Rattle.rules.specs.Runs.{stateChecks, refusal, outcome, answer, next}
 use Rattle.rules.specs.Refusals.{namesRefusal, allChecks, FirstFailing, RefusedExactly, RefusedKeeps}

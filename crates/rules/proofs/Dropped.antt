@@ -1,29 +1,27 @@
 -- Demand 3: the dropped stretch leaves no trace.
 -- The struck run stands, at each call, at the whole run's world with everything numbered n or more squashed. A world that is not well
 -- formed refuses every call and stays as it is, so a stretch that ends in an accepted abort was well formed throughout.
-use Prim.Native.Nat.{ℕ, zero, suc, _+_, _-_, _≤_, _<_}
-use mathlib.Core.Path.{_≡_, refl, sym, _∙_, ap, ap₂, subst}
-use mathlib.Core.Bool.{Bool, true, false, not, _&&_, _||_, false≢true}
-use mathlib.Core.List.{List, [], _∷_, _++_}
+use Prim.Native.Nat.{ℕ, _+_, _-_, _≤_, _<_}
+use mathlib.Core.Path.{_≡_, refl, sym, ap, ap₂, subst}
+use mathlib.Core.Bool.{Bool, true, false, _||_, false≢true}
+use mathlib.Core.List.{List, [], _∷_}
 use native.Mathlib.Omega.{arith}
-use lib.Dec.{T, ltb, leb, eqb}
+use lib.Dec.{T, ltb, leb}
 use borrow.Author.Tests.{ltb-false, leb-false, lt-leb, not-true}
 use Rattle.lists.specs.Padded.{every}
 use Rattle.lists.proofs.Cond.{cases, and-left, or-left, or-right, truth}
 use Rattle.lists.proofs.Sweep.{sweep-none}
-use Rattle.rules.specs.declared.StoreEntry.{StoreEntry}
-use Rattle.rules.specs.declared.LoadEntry.{LoadEntry}
 use Rattle.rules.specs.Shape.{Queues, Hierarchy, World, world, noStore, noLoad, fits}
-use Rattle.rules.specs.Calls.{Call, Answer, Outcome, abort, isAccepted, nextNumber, youngStore, youngLoad, squash, abortRule}
+use Rattle.rules.specs.Calls.{Call, Outcome, abort, isAccepted, nextNumber, youngStore, youngLoad, squash, abortRule}
 use Rattle.rules.specs.WellFormed.{wellFormed}
-use Rattle.rules.specs.Runs.{outcome, answer, next, answers, after, startWorld}
+use Rattle.rules.specs.Runs.{outcome, answer, next, after, startWorld}
 use Rattle.rules.specs.Kept.{Formed}
 use Rattle.rules.specs.Dropped.{struck, NoAbortBelow, Dropped, DroppedStretch, DroppedAfterStart}
 use Rattle.rules.proofs.Checks.{shut, malformed, outcome-by}
 use Rattle.rules.proofs.Parts.{parts, goodStore, goodLoad, store-low, load-low}
 use Rattle.rules.proofs.Squash.{squashedOutcome}
 use Rattle.rules.proofs.SquashFormed.{squash-formed}
-use Rattle.rules.proofs.Struck.{Hidden, Above, Steady, outcome-steady, outcome-hidden, outcome-squash}
+use Rattle.rules.proofs.Struck.{Hidden, Above, outcome-steady, outcome-hidden, outcome-squash}
 use Rattle.rules.proofs.RunLaws.{after-append, Agree, agree, Alone, within}
 
 -- ---- worlds

@@ -1,7 +1,7 @@
 -- The next operation number, after a start and after each accepted call.
-use Prim.Native.Nat.{ℕ, _+_, _-_, _≤_, _<_}
+use Prim.Native.Nat.{ℕ, _+_, _-_, _<_}
 use mathlib.Core.Path.{_≡_, refl}
-use mathlib.Core.Bool.{Bool, true, false, cond, not, _&&_, _||_, false≢true}
+use mathlib.Core.Bool.{true, false, _||_, false≢true}
 use mathlib.Core.List.{List}
 use mathlib.Core.Option.{Option, some, none}
 use native.Mathlib.Omega.{arith}
@@ -13,7 +13,7 @@ use Rattle.rules.specs.declared.LoadEntry.{LoadEntry}
 use Rattle.rules.specs.Shape.{Queues, Hierarchy, World, noLoad}
 use Rattle.rules.specs.Forward.{loadValue}
 use Rattle.rules.specs.Calls.{Call, Outcome, load, store, retry, commit, abort, idle, reply, flush, show, isAccepted, passes, callChecks, rule, nextNumber, waitingAt, loadRule, storeRule, answerLoad, retryWith, retryRule, commitRule, squash, abortRule, canDrain, canRequestLoad, canRequestStore, idleRule, replyRule, flushRule, showRule}
-use Rattle.rules.specs.Runs.{started, unstarted, startAllowed, startWorld, refusal, outcome, answer, next}
+use Rattle.rules.specs.Runs.{started, unstarted, startAllowed, startWorld, refusal, answer, next}
 use Rattle.rules.specs.Numbers.{numberAfter, FirstNumber, NextNumber}
 use Rattle.rules.proofs.Checks.{outcome-by}
 

@@ -1,10 +1,9 @@
 -- What well-formed says of the queues, entry by entry: the view that the proofs use, and that it is the same.
-use Prim.Native.Nat.{ℕ, _+_, _*_, _≤_, _<_, _^_}
-use mathlib.Core.Path.{_≡_, refl, sym, _∙_, ap}
-use mathlib.Core.Bool.{Bool, true, false, cond, not, _&&_, _||_}
-use mathlib.Core.List.{List, [], _∷_}
-use native.Mathlib.Omega.{arith}
-use lib.Dec.{ltb, leb, eqb}
+use Prim.Native.Nat.{ℕ, _≤_}
+use mathlib.Core.Path.{_≡_, refl, ap}
+use mathlib.Core.Bool.{Bool, true, not, _&&_}
+use mathlib.Core.List.{List}
+use lib.Dec.{leb, eqb}
 use lib.ListN.{length}
 use borrow.Author.Tests.{leb-true, le-leb, eqb-true, eq-eqb, not-true}
 use Rattle.lists.specs.Padded.{every, ascending, freeLast, rising}
@@ -15,7 +14,7 @@ use Rattle.rules.specs.declared.StoreEntry.{StoreEntry}
 use Rattle.rules.specs.declared.LoadEntry.{LoadEntry}
 use Rattle.rules.specs.declared.Request.{Request}
 use Rattle.rules.specs.Shape.{Queues, Hierarchy, noStore, noLoad, isFreeStore, isFreeLoad, topNumber, fits}
-use Rattle.rules.specs.WellFormed.{freeStoreZero, freeLoadZero, queueLengths, freeZero, freePlacesLast, lastFits, committedUpToLast, numbersRise, numbersUpToLast, numbersApart, accessesPass, committedWait, waitingUncovered, alone, storePasses, loadPasses, committedWaitAt, waitingUncoveredAt, requestAbsent, requestInside, requestWanted, queueClauses, linesFormed, queuesFormed, wellFormed}
+use Rattle.rules.specs.WellFormed.{freeStoreZero, freeLoadZero, queueLengths, freeZero, freePlacesLast, lastFits, committedUpToLast, numbersRise, numbersUpToLast, numbersApart, accessesPass, committedWait, waitingUncovered, alone, storePasses, loadPasses, committedWaitAt, waitingUncoveredAt, requestAbsent, requestInside, requestWanted, linesFormed, queuesFormed, wellFormed}
 
 -- ---- the view
 
@@ -48,7 +47,7 @@ pub record Parts (q : Queues) (b : Hierarchy) : Type 0 where
 
 -- ---- three tests at once, and each of them
 
-stores-join :
+pub stores-join :
     (b : Hierarchy) (last : ℕ) (ss : List StoreEntry) → every freeStoreZero ss ≡ true → every (λ s. leb (s .number) last) ss ≡ true
     → every (storePasses b) ss ≡ true → every (goodStore b last) ss ≡ true
 unfolding goodStore
@@ -56,7 +55,7 @@ stores-join b last ss z g p =
     every-imp₂ freeStoreZero (λ s. leb (s .number) last && storePasses b s) (goodStore b last) (λ s x y. and-both _ _ x y) ss z
     (every-imp₂ (λ s. leb (s .number) last) (storePasses b) (λ s. leb (s .number) last && storePasses b s) (λ s x y. and-both _ _ x y) ss g p)
 
-loads-join :
+pub loads-join :
     (b : Hierarchy) (last h : ℕ) (ss : List StoreEntry) (ls : List LoadEntry) → every freeLoadZero ls ≡ true
     → every (λ l. leb (l .number) last) ls ≡ true → every (loadPasses b) ls ≡ true → every (committedWaitAt h) ls ≡ true
     → every (waitingUncoveredAt ss) ls ≡ true → every (goodLoad b last h ss) ls ≡ true

@@ -1,24 +1,21 @@
 -- What the checks and the rules see of queues from which the entries numbered n or more were squashed: a call that remains in a
 -- dropped stretch answers alike and leaves the squashed queues of what it would have left.
-use Prim.Native.Nat.{ℕ, zero, suc, _+_, _*_, _-_, _≤_, _<_}
-use mathlib.Core.Path.{_≡_, refl, sym, _∙_, ap, ap₂, fun-ext}
-use mathlib.Core.Bool.{Bool, true, false, cond, not, _&&_, _||_}
-use mathlib.Core.List.{List, [], _∷_}
+use Prim.Native.Nat.{ℕ, _+_, _-_, _≤_, _<_}
+use mathlib.Core.Path.{_≡_, refl, _∙_, ap, fun-ext}
+use mathlib.Core.Bool.{Bool, true, false, not, _&&_, _||_}
 use mathlib.Core.Option.{Option, some, none}
 use native.Mathlib.Omega.{arith}
-use lib.Dec.{ltb, leb, eqb}
-use lib.ListN.{getD}
+use lib.Dec.{ltb, leb}
 use borrow.Author.Tests.{ltb-true, leb-true, leb-false, eqb-true, lt-ltb, le-ltb, le-leb, lt-leb}
-use Rattle.lists.specs.Padded.{any, first, final, filter, without, shifted, changed}
+use Rattle.lists.specs.Padded.{any, first}
 use Rattle.lists.specs.Bytes.{gather}
 use Rattle.lists.proofs.Cond.{both, cases, and-left, and-right}
 use Rattle.lists.proofs.Sweep.{Untouched, sweep-any, sweep-first, sweep-final, sweep-filter, sweep-without, sweep-changed, sweep-shifted, sweep-head, stays, agrees}
-use Rattle.rules.specs.declared.StoreEntry.{StoreEntry}
 use Rattle.rules.specs.declared.LoadEntry.{LoadEntry}
 use Rattle.rules.specs.Shape.{Queues, Hierarchy, noStore, noLoad, isFreeStore, isFreeLoad, isFree, lineOf}
 use Rattle.rules.specs.Lines.{present}
 use Rattle.rules.specs.Forward.{olderCovers, loadByte, loadValue}
-use Rattle.rules.specs.Calls.{Check, Outcome, check, committedStore, waitingAt, answeredBy, waitsBelow, wantsLine, youngStore, youngLoad, squash, answered, answerLoad, retryWith, retryRule, useEach, commitRule, oldestStore, storeReady, canDrain, canRequestLoad, canRequestStore, idleRule, replyRule, flushRule, showRule}
+use Rattle.rules.specs.Calls.{Outcome, committedStore, waitingAt, answeredBy, waitsBelow, wantsLine, youngStore, youngLoad, squash, answered, answerLoad, retryWith, retryRule, commitRule, oldestStore, storeReady, canDrain, canRequestStore, idleRule, replyRule, flushRule, showRule}
 
 -- the outcome with its queues squashed
 abbrev pub squashedOutcome : ℕ → Outcome → Outcome

@@ -1,15 +1,13 @@
 -- Squashed queues are well formed, if the whole ones are.
-use Prim.Native.Nat.{ℕ, zero, suc, _+_, _*_, _-_, _≤_, _<_}
+use Prim.Native.Nat.{ℕ, _+_, _-_, _≤_, _<_}
 use mathlib.Core.Path.{_≡_, refl, sym, _∙_, ap, ap₂, fun-ext}
-use mathlib.Core.Bool.{Bool, true, false, cond, not, _&&_, _||_}
-use mathlib.Core.List.{List, [], _∷_}
+use mathlib.Core.Bool.{Bool, true, false, not, _&&_, _||_}
 use native.Mathlib.Omega.{arith}
-use lib.Dec.{ltb, leb, eqb}
-use lib.ListN.{getD}
-use borrow.Author.Tests.{ltb-true, leb-true, leb-false, eqb-true, eqb-false, lt-ltb, le-leb, lt-leb, ne-eqb, eq-eqb}
-use Rattle.lists.specs.Padded.{any, every, rising, changed}
+use lib.Dec.{eqb}
+use borrow.Author.Tests.{leb-true, leb-false, eqb-true, eqb-false, le-leb, lt-leb, ne-eqb}
+use Rattle.lists.specs.Padded.{any}
 use Rattle.lists.specs.Counted.{someFrom}
-use Rattle.lists.proofs.Cond.{either, cases, and-left, and-right, and-both}
+use Rattle.lists.proofs.Cond.{either, cases, and-left, and-right}
 use Rattle.lists.proofs.Lengths.{length-changed}
 use Rattle.lists.proofs.Sweep.{Untouched, swept, sweep-any, sweep-every}
 use Rattle.lists.proofs.Rising.{rise-swept}
@@ -18,11 +16,11 @@ use Rattle.rules.specs.declared.LoadEntry.{LoadEntry}
 use Rattle.rules.specs.declared.Request.{Request}
 use Rattle.rules.specs.declared.Request.the-variants.{Free, Line}
 use Rattle.rules.specs.Shape.{Queues, Hierarchy, noStore, noLoad, isFreeStore, isFreeLoad, lineOf}
-use Rattle.rules.specs.Forward.{olderCovers, someUncovered}
+use Rattle.rules.specs.Forward.{someUncovered}
 use Rattle.rules.specs.Calls.{youngStore, youngLoad, squash, oldestStore, storeReady}
 use Rattle.rules.specs.WellFormed.{freeStoreZero, freeLoadZero, storePasses, loadPasses, committedWaitAt, waitingUncoveredAt, alone, waitsFor, requestWanted, wellFormed}
 use Rattle.rules.proofs.Parts.{Parts, parts, whole, goodStore, goodLoad, goodRequest, store-zero, store-passes, good-store, load-zero, load-passes, load-waits, load-exposed, good-load}
-use Rattle.rules.proofs.Squash.{n-positive, covers-untouched, ready-squash, ready-committed, head-stays}
+use Rattle.rules.proofs.Squash.{covers-untouched, ready-squash, ready-committed, head-stays}
 
 module _ (n : ℕ) (q : Queues) (b : Hierarchy) (behind : q .committed < n) where
   store-stays : (s : StoreEntry) → goodStore b (q .last) s ≡ true → goodStore b (n - 1) (swept (youngStore n) noStore s) ≡ true

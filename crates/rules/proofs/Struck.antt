@@ -1,25 +1,25 @@
 -- One call of a dropped stretch: a struck one changes nothing of the squashed queues and nothing of the hierarchy; a remaining one does
 -- to the squashed queues what it does to the whole ones; none lowers h, or the next number below n.
-use Prim.Native.Nat.{ℕ, zero, suc, _+_, _*_, _-_, _≤_, _<_}
+use Prim.Native.Nat.{ℕ, _+_, _-_, _≤_, _<_}
 use mathlib.Core.Path.{_≡_, refl, sym, _∙_, ap, ap₂}
-use mathlib.Core.Bool.{Bool, true, false, cond, not, _&&_, _||_, true≢false, false≢true}
+use mathlib.Core.Bool.{Bool, true, false, not, _||_, true≢false, false≢true}
 use mathlib.Core.List.{List, [], _∷_}
 use mathlib.Core.Option.{Option, some, none}
 use native.Mathlib.Omega.{arith}
-use lib.Dec.{ltb, leb, eqb}
-use borrow.Author.Tests.{ltb-true, ltb-false, leb-true, leb-false, eqb-true, lt-ltb, le-ltb, le-leb, lt-leb, not-true}
-use Rattle.lists.specs.Padded.{any, every, first, placed, changed}
-use Rattle.lists.proofs.Cond.{either, cases, and-left, and-right, or-left, or-right, wrong}
+use lib.Dec.{ltb, leb}
+use borrow.Author.Tests.{ltb-false, leb-true, leb-false, eqb-true, lt-ltb, le-ltb, le-leb, lt-leb, not-true}
+use Rattle.lists.specs.Padded.{every, first, placed}
+use Rattle.lists.proofs.Cond.{either, cases, and-left, and-right, or-left, wrong}
 use Rattle.lists.proofs.Sweep.{sweep, sweep-hides, sweep-placed}
 use Rattle.rules.specs.declared.StoreEntry.{StoreEntry}
 use Rattle.rules.specs.declared.LoadEntry.{LoadEntry}
-use Rattle.rules.specs.Shape.{Queues, Hierarchy, noStore, noLoad, isFreeStore, isFreeLoad, isFree, fits}
+use Rattle.rules.specs.Shape.{Queues, Hierarchy, noStore, noLoad, isFreeStore, isFreeLoad, fits}
 use Rattle.rules.specs.Forward.{loadValue}
-use Rattle.rules.specs.Calls.{Call, Answer, Outcome, Check, load, store, retry, commit, abort, idle, reply, flush, show, isAccepted, unchanged, check, guarded, passes, callChecks, committedStore, waitingAt, youngStore, youngLoad, squash, answered, answerLoad, retryWith, retryRule, loadRule, storeRule, commitRule, abortRule, canDrain, canRequestLoad, canRequestStore, idleRule, replyRule, flushRule, showRule, rule}
+use Rattle.rules.specs.Calls.{Call, Answer, Outcome, Check, load, store, retry, commit, abort, idle, reply, flush, show, isAccepted, unchanged, check, guarded, passes, callChecks, waitingAt, youngStore, youngLoad, squash, answered, answerLoad, retryWith, retryRule, loadRule, storeRule, commitRule, abortRule, canDrain, canRequestLoad, canRequestStore, idleRule, replyRule, flushRule, showRule, rule}
 use Rattle.rules.specs.WellFormed.{wellFormed}
 use Rattle.rules.specs.Runs.{refusal, outcome}
 use Rattle.rules.specs.Dropped.{struck, abortsBelow}
-use Rattle.rules.proofs.Checks.{guarded-same, guarded-map, guarded-passes, shut, opened, checked, outcome-by, rule-accepts}
+use Rattle.rules.proofs.Checks.{guarded-same, guarded-map, shut, opened, checked, outcome-by, rule-accepts}
 use Rattle.rules.proofs.Parts.{parts, goodStore, goodLoad, free-store, free-load}
 use Rattle.rules.proofs.Squash.{squashedOutcome, n-positive, flush-check, flush-squash, reply-squash, show-squash, retry-check, retry-squash, commit-check, commit-squash, abort-check, idle-squash}
 

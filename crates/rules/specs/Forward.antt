@@ -1,9 +1,9 @@
 -- Forwarding (01: bypass): what each byte of a load is, and what a load numbered i reads.
-use Prim.Native.Nat.{ℕ, zero, suc, _+_, _-_}
-use mathlib.Core.Bool.{Bool, true, false, cond, not, _&&_, _||_}
+use Prim.Native.Nat.{ℕ, _-_}
+use mathlib.Core.Bool.{Bool, cond, not, _&&_}
 use mathlib.Core.List.{List}
-use mathlib.Core.Option.{Option, some, none}
-use lib.Dec.{ltb, leb, eqb}
+use mathlib.Core.Option.{Option, some}
+use lib.Dec.{ltb}
 use Rattle.lists.specs.Padded.{any, final}
 use Rattle.lists.specs.Counted.{someFrom}
 use Rattle.lists.specs.Bytes.{byteOf, among, gather}

@@ -2,7 +2,7 @@
 use Prim.Native.Nat.{ℕ}
 use mathlib.Core.Path.{_≡_}
 use mathlib.Core.Bool.{Bool, true, false}
-use mathlib.Core.List.{List, [], _∷_, _++_}
+use mathlib.Core.List.{List, _∷_, _++_}
 use Rattle.rules.specs.Shape.{World}
 use Rattle.rules.specs.Calls.{Call, Check, load, store, retry, commit, abort, idle, reply, flush, show, refused, isAccepted, passes, callChecks}
 use Rattle.rules.specs.Runs.{stateChecks, answer, next}

@@ -2,8 +2,8 @@
 -- The state with its cache and memory is two records here. `Queues`: last, h, the miss register and both queues. `Hierarchy`:
 -- geometry, tag records, cache and memory. An abort changes the first only.
 -- `q` is a Queues and `b` a Hierarchy throughout.
-use Prim.Native.Nat.{ℕ, _+_, _*_, _-_, _/_, _%_}
-use mathlib.Core.Bool.{Bool, true, false, cond, not, _&&_, _||_}
+use Prim.Native.Nat.{ℕ, _*_, _-_, _/_, _%_}
+use mathlib.Core.Bool.{Bool, true, false, _&&_, _||_}
 use mathlib.Core.List.{List}
 use lib.Dec.{ltb, leb, eqb}
 use lib.ListN.{length, getD}

@@ -1,15 +1,15 @@
 -- States that show what well-formed asks: a rich one that keeps every clause, and for each clause one that breaks it.
 use Prim.Native.Nat.{ℕ, _+_}
 use mathlib.Core.Bool.{Bool, true, false}
-use mathlib.Core.List.{List, [], _∷_, _++_, map}
-use lib.ListN.{length, set, replicate, take}
+use mathlib.Core.List.{List, [], _∷_, _++_}
+use lib.ListN.{set, replicate}
 use Rattle.lists.specs.Counted.{eachFrom}
 use Rattle.rules.specs.declared.Tag.{Tag}
 use Rattle.rules.specs.declared.StoreEntry.{StoreEntry}
 use Rattle.rules.specs.declared.LoadEntry.{LoadEntry}
 use Rattle.rules.specs.declared.Request.{Request}
-use Rattle.rules.specs.declared.Request.the-variants.{Free, Line}
-use Rattle.rules.specs.Shape.{Queues, Hierarchy, World, noStore, noLoad, noTag, fits}
+use Rattle.rules.specs.declared.Request.the-variants.{Line}
+use Rattle.rules.specs.Shape.{Queues, Hierarchy, World, noStore, noLoad, noTag}
 use Rattle.rules.specs.WellFormed.{lineClauses, queueClauses}
 
 -- ---- building a state

@@ -1,0 +1,161 @@
+-- Calls by their checks: what a call's outcome is, when checks 1 and 10 refuse it, and when they pass and its own checks follow.
+use Prim.Native.Nat.{ℕ, _+_, _%_, _^_, _<_, _≤_}
+use mathlib.Core.Path.{_≡_, refl, sym, _∙_, ap}
+use mathlib.Core.Bool.{Bool, true, false, not}
+use mathlib.Core.List.{List, [], _∷_, _++_}
+use native.Mathlib.Omega.{arith}
+use lib.Dec.{ltb}
+use borrow.Author.Tests.{ltb-true, ltb-false, lt-ltb, le-ltb, le-leb, lt-leb, eq-eqb, ne-eqb}
+use Rattle.lists.proofs.Cond.{cases}
+use Rattle.rules.specs.Shape.{Queues, Hierarchy, fits, topNumber, isFreeStore, isFreeLoad}
+use Rattle.lists.specs.Padded.{any, every}
+use Rattle.rules.specs.Calls.{Call, Check, widthAllowed, load, store, refused, check, numberCheck, loadRule, storeRule, guarded, passes, unchanged, accessChecks, callChecks, rule}
+use Rattle.rules.specs.WellFormed.{wellFormed}
+use Rattle.rules.specs.Runs.{stateChecks, refusal, outcome}
+use Rattle.rules.proofs.Checks.{shut, malformed, opened, checked, guarded-append, guarded-passes}
+use Rattle.queues.specs.Good.{sized}
+use Rattle.model.specs.State.{checkedAccess, storeRest}
+use Rattle.model.specs.declared.access.Access.{Access}
+use Rattle.model.specs.declared.access.Checked.the-variants.{Passed, Failed}
+
+module _ (c : Call) (q : Queues) (b : Hierarchy) where
+  -- checks 1 and 10 pass
+  pub record Open : Type 0 where
+    pub fit : fits b ≡ true
+    pub formed : wellFormed q b ≡ true
+    pub does : outcome c q b ≡ checked c q b
+
+  -- what the number of checks 1 and 10 tells: the refusal, or that both pass
+  pub state-refuses : (k : ℕ) → k ≡ guarded (stateChecks q b) (λ j. j) 0 → (k ≡ 0 → ⊥) → outcome c q b ≡ unchanged (refusal c k) q b
+  unfolding guarded
+  state-refuses k e n =
+      cases (fits b)
+      (λ f. cases (wellFormed q b)
+      (λ g. let z : k ≡ 0 = rw (f, g) at e in absurd (n z))
+      (λ g. let z : k ≡ 10 = rw (f, g) at e in rw z (malformed c q b f g)))
+      (λ f. let z : k ≡ 1 = rw f at e in rw z (shut c q b f))
+
+  pub state-opens : (k : ℕ) → k ≡ guarded (stateChecks q b) (λ j. j) 0 → k ≡ 0 → Open
+  unfolding guarded
+  state-opens k e n =
+      cases (fits b)
+      (λ f. cases (wellFormed q b)
+      (λ g. record { fit = f; formed = g; does = opened c q b f g })
+      (λ g. let z : k ≡ 10 = rw (f, g) at e in let no : ⊥ = omega arith in absurd no))
+      (λ f. let z : k ≡ 1 = rw f at e in let no : ⊥ = omega arith in absurd no)
+
+-- ---- the checked access
+
+access-failed : {A : Type 0} (refuse : ℕ → A) (done : A) (ks : List Check) (x : Access) (k : ℕ) → guarded ks (λ j. Failed j) (Passed x) ≡ Failed k → guarded ks refuse done ≡ refuse k
+unfolding guarded
+access-failed refuse done [] x k e = let z : _≡_ {A = ℕ} 0 1 = cc in let no : ⊥ = omega arith in absurd no
+access-failed refuse done (c ∷ ks) x k e = cases (c .applies)
+    (λ t. let z : Failed (c .number) ≡ Failed k = rw t at e in let y : c .number ≡ k = cc in rw (t, y))
+    (λ t. rw t (access-failed refuse done ks x k (rw t at e)))
+
+access-passed : (ks : List Check) (x y : Access) → guarded ks (λ j. Failed j) (Passed x) ≡ Passed y → (passes ks ≡ true) × (x ≡ y)
+unfolding guarded every
+access-passed [] x y e = (refl, cc)
+access-passed (c ∷ ks) x y e = cases (c .applies)
+    (λ t. let z : Failed (c .number) ≡ Passed y = rw t at e in let n : _≡_ {A = ℕ} 0 1 = cc in let no : ⊥ = omega arith in absurd no)
+    (λ t. rw t (access-passed ks x y (rw t at e)))
+
+module _ (size a w : ℕ) (e : widthAllowed w ≡ true) where
+  pub access-uneven : (a % w ≡ 0 → ⊥) → Failed 3 ≡ checkedAccess size a w
+  unfolding checkedAccess guarded
+  access-uneven m = rw (e, ne-eqb (a % w) 0 m)
+
+  pub access-out : a % w ≡ 0 → size < a + w → Failed 4 ≡ checkedAccess size a w
+  unfolding checkedAccess guarded
+  access-out m o = rw (e, eq-eqb (a % w) 0 m, lt-ltb size (a + w) o)
+
+  pub access-in : a % w ≡ 0 → a + w ≤ size → Passed (record { address = a; width = w }) ≡ checkedAccess size a w
+  unfolding checkedAccess guarded
+  access-in m i = rw (e, eq-eqb (a % w) 0 m, le-ltb size (a + w) i)
+
+-- ---- load, store: the access, then the rest of the checks
+
+-- a call whose checks begin with those of an access
+module _ (c : Call) (q : Queues) (b : Hierarchy) (a w : ℕ) (rest : List Check) (starts : callChecks c q b ≡ accessChecks b a w ++ rest) (o : Open c q b) where
+  after-access : checked c q b ≡ guarded (accessChecks b a w) (λ k. unchanged (refusal c k) q b) (guarded rest (λ k. unchanged (refusal c k) q b) (rule c q b))
+  after-access =
+      ap (λ (ks : List Check). guarded ks (λ k. unchanged (refusal c k) q b) (rule c q b)) starts
+      ∙ guarded-append (λ k. unchanged (refusal c k) q b) (accessChecks b a w) rest (rule c q b)
+
+  pub access-refuses : (k : ℕ) → checkedAccess (b .size) a w ≡ Failed k → outcome c q b ≡ unchanged (refusal c k) q b
+  unfolding checkedAccess
+  access-refuses k e = o .does ∙ after-access ∙ access-failed _ _ (accessChecks b a w) (record { address = a; width = w }) k e
+
+  pub access-goes : (x : Access) → checkedAccess (b .size) a w ≡ Passed x → outcome c q b ≡ guarded rest (λ k. unchanged (refusal c k) q b) (rule c q b)
+  unfolding checkedAccess
+  access-goes x e =
+      o .does ∙ after-access
+      ∙ guarded-passes (λ k. unchanged (refusal c k) q b) (accessChecks b a w) _ (access-passed (accessChecks b a w) (record { address = a; width = w }) x e .0)
+
+-- ---- load
+
+module _ (a w : ℕ) (q : Queues) (b : Hierarchy) (o : Open (load a w) q b) (x : Access) (e : checkedAccess (b .size) a w ≡ Passed x) where
+  rest-of-load : outcome (load a w) q b ≡ guarded (numberCheck q ∷ check 12 (not (any isFreeLoad (q .loads))) ∷ []) (λ k. unchanged (refused k) q b) (loadRule a w q b)
+  rest-of-load = access-goes (load a w) q b a w _ refl o x e
+
+  pub load-numbers : q .last ≡ topNumber → outcome (load a w) q b ≡ unchanged (refused 13) q b
+  unfolding guarded
+  load-numbers t = rest-of-load ∙ rw (eq-eqb (q .last) topNumber t)
+
+  module _ (n : q .last ≡ topNumber → ⊥) where
+    pub load-full : any isFreeLoad (q .loads) ≡ false → outcome (load a w) q b ≡ unchanged (refused 12) q b
+    unfolding guarded
+    load-full t = rest-of-load ∙ rw (ne-eqb (q .last) topNumber n, t)
+
+    module _ (t : any isFreeLoad (q .loads) ≡ true) where
+      pub load-does : outcome (load a w) q b ≡ loadRule a w q b
+      unfolding guarded
+      load-does = rest-of-load ∙ rw (ne-eqb (q .last) topNumber n, t)
+
+-- ---- the calls with one check of their own, or none
+
+module _ (c : Call) (q : Queues) (b : Hierarchy) (o : Open c q b) where
+  pub one-refuses : (k : ℕ) (t : Bool) → callChecks c q b ≡ check k t ∷ [] → t ≡ true → outcome c q b ≡ unchanged (refusal c k) q b
+  unfolding guarded
+  one-refuses k t e f =
+      o .does ∙ ap (λ (ks : List Check). guarded ks (λ j. unchanged (refusal c j) q b) (rule c q b)) e ∙ rw f
+
+  pub one-does : (k : ℕ) (t : Bool) → callChecks c q b ≡ check k t ∷ [] → t ≡ false → outcome c q b ≡ rule c q b
+  unfolding guarded
+  one-does k t e f =
+      o .does ∙ ap (λ (ks : List Check). guarded ks (λ j. unchanged (refusal c j) q b) (rule c q b)) e ∙ rw f
+
+  pub none-does : callChecks c q b ≡ [] → outcome c q b ≡ rule c q b
+  unfolding guarded
+  none-does e = o .does ∙ ap (λ (ks : List Check). guarded ks (λ j. unchanged (refusal c j) q b) (rule c q b)) e
+
+-- ---- a store's checks after the access
+
+module _ (a w v : ℕ) (q : Queues) (b : Hierarchy) where
+  pub store-goes : (o : Open (store a w v) q b) (x : Access) → checkedAccess (b .size) a w ≡ Passed x → storeRest a w v q b ≡ outcome (store a w v) q b
+  unfolding storeRest
+  store-goes o x e = sym (access-goes (store a w v) q b a w _ refl o x e)
+
+  pub rest-values : ltb v (256 ^ w) ≡ false → unchanged (refused 5) q b ≡ storeRest a w v q b
+  unfolding storeRest guarded
+  rest-values t = rw (le-leb (256 ^ w) v (ltb-false v (256 ^ w) t))
+
+  module _ (s : ltb v (256 ^ w) ≡ true) where
+    pub rest-numbers : q .last ≡ topNumber → unchanged (refused 13) q b ≡ storeRest a w v q b
+    unfolding storeRest guarded
+    rest-numbers t = rw (lt-leb (256 ^ w) v (ltb-true v (256 ^ w) s), eq-eqb (q .last) topNumber t)
+
+    module _ (n : q .last ≡ topNumber → ⊥) where
+      pub rest-full : any isFreeStore (q .stores) ≡ false → unchanged (refused 11) q b ≡ storeRest a w v q b
+      unfolding storeRest guarded
+      rest-full t = rw (lt-leb (256 ^ w) v (ltb-true v (256 ^ w) s), ne-eqb (q .last) topNumber n, t)
+
+      pub rest-does : any isFreeStore (q .stores) ≡ true → storeRule a w v q b ≡ storeRest a w v q b
+      unfolding storeRest guarded
+      rest-does t = rw (lt-leb (256 ^ w) v (ltb-true v (256 ^ w) s), ne-eqb (q .last) topNumber n, t)
+
+-- the access that passed is the one that was checked
+pub passed-access : (size a w : ℕ) (x : Access) → checkedAccess size a w ≡ Passed x → (passes (accessChecks (sized size) a w) ≡ true) × (x ≡ record { address = a; width = w })
+unfolding checkedAccess
+passed-access size a w x e =
+    let p = access-passed (accessChecks (sized size) a w) (record { address = a; width = w }) x e in (p .0, sym (p .1))

@@ -1,0 +1,105 @@
+-- Checks 1 and 10 in the order of the code: figures and lengths, the queues' entries, the register, the lines.
+use Prim.Native.Nat.{ℕ, _+_, _≤_}
+use mathlib.Core.Path.{_≡_, refl, _∙_, ap}
+use mathlib.Core.Bool.{Bool, true, false, _&&_}
+use mathlib.Core.List.{List, [], _∷_, _++_}
+use lib.ListN.{length}
+use borrow.Author.Tests.{le-leb, eq-eqb}
+use Rattle.lists.specs.Padded.{every}
+use Rattle.rules.specs.declared.Request.{Request}
+use Rattle.rules.specs.declared.Request.the-variants.{Free, Line}
+use Rattle.rules.specs.Lines.{slotOf, present, useLine}
+use Rattle.rules.specs.Shape.{Queues, Hierarchy, fits, topNumber}
+use Rattle.rules.specs.Calls.{guarded, storeReady}
+use Rattle.rules.specs.WellFormed.{freeZero, freePlacesLast, committedUpToLast, numbersRise, numbersUpToLast, numbersApart, accessesPass, committedWait, waitingUncovered, storePasses, loadPasses, requestAbsent, requestInside, requestWanted, linesFormed, queuesFormed, wellFormed}
+use Rattle.rules.specs.Runs.{stateChecks}
+use Rattle.queues.specs.Good.{queuesGood, queuesWith, sized}
+use Rattle.model.specs.Tables.{tabled, usedTags}
+use Rattle.model.proofs.CacheLoops.{used-line}
+use Rattle.model.specs.State.{queuesOf, hierarchyOf}
+use Rattle.model.specs.declared.State.{State}
+
+and-swap : (a b c : Bool) → (a && (b && c)) ≡ (b && (c && a))
+and-swap true true true = refl
+and-swap true true false = refl
+and-swap true false c = refl
+and-swap false true true = refl
+and-swap false true false = refl
+and-swap false false c = refl
+
+every-join : (xs ys : List Bool) → every (λ t. t) (xs ++ ys) ≡ (every (λ t. t) xs && every (λ t. t) ys)
+unfolding every
+every-join [] ys = refl
+every-join (true ∷ xs) ys = every-join xs ys
+every-join (false ∷ xs) ys = refl
+
+and-true : (a b c : Bool) → (a && (b && (c && true))) ≡ (a && (b && c))
+and-true true true true = refl
+and-true true true false = refl
+and-true true false c = refl
+and-true false b c = refl
+
+-- all that is asked of the register
+abbrev pub requestGood : Queues → Hierarchy → Bool
+requestGood q b = requestAbsent (q .request) b && (requestInside (q .request) b && requestWanted (q .request) q)
+
+module _ (q : Queues) (b : Hierarchy) (ss : length (q .stores) ≡ 16) (ls : length (q .loads) ≡ 8) (top : q .last ≤ topNumber) where
+  -- the queues' clauses are those of their entries and those of the register
+  queues-parted : queuesFormed q b ≡ (queuesGood q b && requestGood q b)
+  unfolding queuesFormed queuesGood every
+  queues-parted =
+      let e : every (λ t. t) ((freeZero q ∷ freePlacesLast q ∷ committedUpToLast q ∷ numbersRise q ∷ numbersUpToLast q ∷ numbersApart q ∷ accessesPass q b ∷ committedWait q ∷ waitingUncovered q ∷ []) ++ (requestAbsent (q .request) b ∷ requestInside (q .request) b ∷ requestWanted (q .request) q ∷ [])) ≡ (queuesGood q b && (requestAbsent (q .request) b && (requestInside (q .request) b && (requestWanted (q .request) q && true)))) = every-join (freeZero q ∷ freePlacesLast q ∷ committedUpToLast q ∷ numbersRise q ∷ numbersUpToLast q ∷ numbersApart q ∷ accessesPass q b ∷ committedWait q ∷ waitingUncovered q ∷ []) (requestAbsent (q .request) b ∷ requestInside (q .request) b ∷ requestWanted (q .request) q ∷ []) in
+      rw (eq-eqb (length (q .stores)) 16 ss, eq-eqb (length (q .loads)) 8 ls, le-leb (q .last) topNumber top)
+      (e ∙ ap (λ (t : Bool). queuesGood q b && t) (and-true (requestAbsent (q .request) b) (requestInside (q .request) b) (requestWanted (q .request) q)))
+
+  pub formed-parted : fits b ≡ true → wellFormed q b ≡ (queuesGood q b && (requestGood q b && linesFormed b))
+  unfolding wellFormed
+  formed-parted f =
+      rw f (ap (λ (t : Bool). linesFormed b && t) queues-parted ∙ and-swap (linesFormed b) (queuesGood q b) (requestGood q b))
+
+  -- the number of checks 1 and 10, by what the code finds
+  pub state-fits : fits b ≡ true → (queuesGood q b && (requestGood q b && linesFormed b)) ≡ true → 0 ≡ guarded (stateChecks q b) (λ k. k) 0
+  unfolding guarded
+  state-fits f g = rw (f, formed-parted f ∙ g)
+
+  pub state-malformed : fits b ≡ true → (queuesGood q b && (requestGood q b && linesFormed b)) ≡ false → 10 ≡ guarded (stateChecks q b) (λ k. k) 0
+  unfolding guarded
+  state-malformed f g = rw (f, formed-parted f ∙ g)
+
+pub state-unfit : (q : Queues) (b : Hierarchy) → fits b ≡ false → 1 ≡ guarded (stateChecks q b) (λ k. k) 0
+unfolding guarded
+state-unfit q b f = rw f
+
+-- ---- what the functions look at is what the clauses look at
+
+module _ (s : State) (cache memory : List ℕ) where
+  pub entries-at :
+      queuesGood (record { last = s .last; committed = s .committed; request = Free; stores = s .stores; loads = s .loads }) (sized (s .size))
+      ≡ queuesGood (queuesOf s) (hierarchyOf s cache memory)
+  unfolding queuesGood storePasses loadPasses
+  entries-at = refl
+
+  pub request-at :
+      (r : Request)
+      → (requestAbsent r (tabled (s .sets) (s .ways) (s .tags)) && (requestInside r (sized (s .size)) && requestWanted r (queuesOf s)))
+      ≡ (requestAbsent r (hierarchyOf s cache memory) && (requestInside r (hierarchyOf s cache memory) && requestWanted r (queuesOf s)))
+  unfolding requestAbsent requestInside present slotOf
+  request-at Free = refl
+  request-at (Line l) = refl
+
+  pub wanted-at : (r : Request) → requestWanted r (queuesWith (s .committed) (s .stores) (s .loads)) ≡ requestWanted r (queuesOf s)
+  unfolding requestWanted storeReady
+  wanted-at Free = refl
+  wanted-at (Line l) = refl
+
+  pub ready-at : storeReady (queuesWith (s .committed) (s .stores) (s .loads)) ≡ storeReady (queuesOf s)
+  unfolding storeReady
+  ready-at = refl
+
+  pub present-at : (l : ℕ) → present (tabled (s .sets) (s .ways) (s .tags)) l ≡ present (hierarchyOf s cache memory) l
+  unfolding present slotOf
+  present-at l = refl
+
+  -- the records of a used line
+  pub used-at : (l : ℕ) → useLine l (hierarchyOf s cache memory) ≡ record { sets = s .sets; ways = s .ways; size = s .size; tags = usedTags (s .sets) (s .ways) l (s .tags); cache = cache; memory = memory }
+  used-at l = used-line l (hierarchyOf s cache memory)

@@ -1,0 +1,186 @@
+-- What the checks leave to the functions behind them, as facts on numbers.
+use Prim.Native.Nat.{ℕ, _+_, _*_, _-_, _%_, _<_, _≤_}
+use mathlib.Core.Path.{_≡_, refl, sym, _∙_, subst}
+use mathlib.Core.Bool.{Bool, true, false, not, _&&_}
+use mathlib.Core.List.{List, map}
+use native.Mathlib.Omega.{arith}
+use lib.Dec.{ltb, leb, eqb}
+use lib.ListN.{length, length-map}
+use borrow.Author.Tests.{ltb-true, ltb-false, leb-true, le-leb, eqb-true, not-true}
+use Rattle.lists.specs.Padded.{any, every, first}
+use Rattle.lists.specs.Counted.{firstFrom}
+use Rattle.lists.proofs.Cond.{cases, and-left, and-right, or-then}
+use Rattle.lists.proofs.Counting.{first-low, first-high}
+use Rattle.lists.proofs.Every.{every-first, every-head}
+use Rattle.lists.proofs.Some.{any-first}
+use Rattle.rules.specs.declared.Request.{Request}
+use Rattle.rules.specs.declared.Request.the-variants.{Line}
+use Rattle.rules.specs.Shape.{Queues, Hierarchy, setsAllowed, figuresAllowed, fits, noLoad, noStore, isFreeLoad, isFreeStore}
+use Rattle.rules.specs.Calls.{widthAllowed, passes, accessChecks, waitingAt, committedStore, oldestStore, storeReady}
+use Rattle.rules.specs.WellFormed.{wellFormed, loadPasses, storePasses, freeStoreZero, freeLoadZero, committedWaitAt, waitingUncoveredAt, requestAbsent, requestInside, requestWanted}
+use Rattle.rules.proofs.Parts.{Parts, parts, goodLoad, goodStore, goodRequest, load-passes, store-passes, good-load, good-store}
+use Rattle.model.specs.State.{queuesOf, hierarchyOf, Shaped, Fine}
+use Rattle.rules.proofs.LineFacts.{fits-tells, good-tells}
+use Rattle.model.specs.Tables.{DirtyInside}
+use Rattle.model.specs.declared.State.{State}
+use Rattle.model.proofs.CacheLoops.{dirty-inside}
+
+-- ---- widths and accesses
+
+-- an allowed width
+pub width-cases : (P : ℕ → Type 0) → P 1 → P 2 → P 4 → (w : ℕ) → widthAllowed w ≡ true → P w
+width-cases P one two four w e =
+    cases (eqb w 1) (λ h. subst P (sym (eqb-true w 1 h)) one) λ h₁.
+    cases (eqb w 2) (λ h. subst P (sym (eqb-true w 2 h)) two) λ h₂.
+    subst P (sym (eqb-true w 4 (rw (h₁, h₂) at e))) four
+
+twice : (t : Bool) → not (not t) ≡ true → t ≡ true
+twice true e = refl
+twice false e = e
+
+-- the width of an access that passes its checks
+pub access-width : (b : Hierarchy) (a w : ℕ) → passes (accessChecks b a w) ≡ true → widthAllowed w ≡ true
+unfolding every
+access-width b a w p = twice (widthAllowed w) (and-left (not (not (widthAllowed w))) _ p)
+
+-- it lies in one line of memory
+pub access-fine : (b : Hierarchy) (a w : ℕ) → b .size ≤ 65536 → passes (accessChecks b a w) ≡ true → Fine a w
+unfolding every
+access-fine b a w small p =
+    let p₂ = and-right (not (not (widthAllowed w))) _ p in
+    let p₃ = and-left (not (not (eqb (a % w) 0))) _ p₂ in
+    let p₄ = and-left (not (ltb (b .size) (a + w))) true (and-right (not (not (eqb (a % w) 0))) _ p₂) in
+    let inside : a + w ≤ b .size = ltb-false (b .size) (a + w) (not-true _ p₄) in
+    width-cases (λ w. a % w ≡ 0 → a + w ≤ b .size → Fine a w)
+    (λ m i. record { some-byte = omega arith; narrow = omega arith; one-line = omega arith; inside = omega arith })
+    (λ m i. record { some-byte = omega arith; narrow = omega arith; one-line = omega arith; inside = omega arith })
+    (λ m i. record { some-byte = omega arith; narrow = omega arith; one-line = omega arith; inside = omega arith })
+    w (access-width b a w p) (eqb-true (a % w) 0 (twice (eqb (a % w) 0) p₃)) inside
+
+-- ---- figures
+
+pub record Figured (sets ways size : ℕ) : Type 0 where
+  pub some-set : 0 < sets
+  pub most-sets : sets ≤ 64
+  pub some-way : 0 < ways
+  pub most-ways : ways ≤ 4
+  pub some-line : 16 ≤ size
+  pub whole-lines : size % 16 ≡ 0
+  pub most-size : size ≤ 65536
+
+sets-bound : (n : ℕ) → setsAllowed n ≡ true → (0 < n) × (n ≤ 64)
+unfolding setsAllowed
+sets-bound n e =
+    cases (eqb n 1) (λ h. let q = eqb-true n 1 h in (omega arith, omega arith)) λ h1.
+    cases (eqb n 2) (λ h. let q = eqb-true n 2 h in (omega arith, omega arith)) λ h2.
+    cases (eqb n 4) (λ h. let q = eqb-true n 4 h in (omega arith, omega arith)) λ h3.
+    cases (eqb n 8) (λ h. let q = eqb-true n 8 h in (omega arith, omega arith)) λ h4.
+    cases (eqb n 16) (λ h. let q = eqb-true n 16 h in (omega arith, omega arith)) λ h5.
+    cases (eqb n 32) (λ h. let q = eqb-true n 32 h in (omega arith, omega arith)) λ h6.
+    let q = eqb-true n 64 (rw (h1, h2, h3, h4, h5, h6) at e) in (omega arith, omega arith)
+
+pub figures-tell : (sets ways size : ℕ) → figuresAllowed sets ways size ≡ true → Figured sets ways size
+unfolding figuresAllowed
+figures-tell sets ways size e =
+    let s = sets-bound sets (and-left (setsAllowed sets) _ e) in
+    let e₁ = and-right (setsAllowed sets) _ e in
+    let w = and-left (leb 1 ways && leb ways 4) _ e₁ in
+    let e₂ = and-right (leb 1 ways && leb ways 4) _ e₁ in
+    let m = and-right (eqb (size % 16) 0) _ e₂ in
+    record {
+      some-set = s .0;
+      most-sets = s .1;
+      some-way = leb-true 1 ways (and-left _ _ w);
+      most-ways = leb-true ways 4 (and-right (leb 1 ways) _ w);
+      some-line = leb-true 16 size (and-left _ _ m);
+      whole-lines = eqb-true (size % 16) 0 (and-left _ _ e₂);
+      most-size = leb-true size 65536 (and-right (leb 16 size) _ m);
+    }
+
+module _ (s : State) (cache memory : List ℕ) (f : fits (hierarchyOf s cache memory) ≡ true) where
+  pub fit-figures : Figured (s .sets) (s .ways) (s .size)
+  unfolding fits
+  fit-figures = figures-tell (s .sets) (s .ways) (s .size) (and-left _ _ f)
+
+  pub fit-cache : length cache ≡ s .sets * s .ways * 16
+  unfolding fits
+  fit-cache =
+      eqb-true _ _ (and-right (eqb (length memory) (s .size)) _ (and-right (figuresAllowed (s .sets) (s .ways) (s .size)) _ f))
+
+  pub fit-memory : length memory ≡ s .size
+  unfolding fits
+  fit-memory = eqb-true _ _ (and-left _ _ (and-right (figuresAllowed (s .sets) (s .ways) (s .size)) _ f))
+
+  pub fit-shaped : Shaped s (length cache)
+  fit-shaped =
+      let g = fit-figures in
+      record { some-set = g .some-set; most-sets = g .most-sets; some-way = g .some-way; most-ways = g .most-ways; cache-long = fit-cache }
+
+-- the same, with no cache at hand
+pub shaped-self : (s : State) (n : ℕ) → Shaped s n → Shaped s (s .sets * s .ways * 16)
+shaped-self s n h =
+    record { some-set = h .some-set; most-sets = h .most-sets; some-way = h .some-way; most-ways = h .most-ways; cache-long = refl }
+
+-- ---- an array in a struct
+
+-- its length, from that of its values
+pub length-of : (X Y : Type 0) (f : X → Y) (l : List X) (n : ℕ) → length (map f l) ≡ n → length l ≡ n
+length-of X Y f l n e = sym (length-map l f) ∙ e
+
+-- ---- where a search ends
+
+pub found-low : (p : ℕ → Bool) (f n r : ℕ) → r ≡ firstFrom p f n → (f ≤ r) × (r ≤ f + n)
+found-low p f n r e = (omega (arith, first-low p n f), omega (arith, first-high p n f))
+
+-- ---- entries of a well-formed state
+
+module _ (q : Queues) (b : Hierarchy) (small : b .size ≤ 65536) (p : Parts q b) where
+  -- the access of the waiting load of number i
+  pub waiting-fine : (i : ℕ) → any (waitingAt i) (q .loads) ≡ true → Fine (first (waitingAt i) noLoad (q .loads) .address) (first (waitingAt i) noLoad (q .loads) .width)
+  unfolding waitingAt loadPasses freeLoadZero committedWaitAt waitingUncoveredAt
+  waiting-fine i e =
+      let l = first (waitingAt i) noLoad (q .loads) in
+      let w = any-first (waitingAt i) noLoad (q .loads) e in
+      let g = every-first (goodLoad b (q .last) (q .committed) (q .stores)) (waitingAt i) noLoad (q .loads)
+      (good-load b (q .last) (q .committed) (q .stores) noLoad refl (le-leb 0 (q .last) (omega arith)) refl refl refl) (p .loads-good) in
+      access-fine b (l .address) (l .width) small
+      (or-then (isFreeLoad l) _ (load-passes b (q .last) (q .committed) (q .stores) l g) (not-true (isFreeLoad l) (and-left _ _ w)))
+
+  -- the access of the oldest store, if it is ready
+  pub oldest-fine : storeReady q ≡ true → Fine (oldestStore q .address) (oldestStore q .width)
+  unfolding storeReady committedStore storePasses freeStoreZero
+  oldest-fine e =
+      let s = oldestStore q in
+      let held = not-true (isFreeStore s) (and-left _ _ (and-left _ _ e)) in
+      let g = every-head (goodStore b (q .last)) noStore (q .stores) (good-store b (q .last) noStore refl (le-leb 0 (q .last) (omega arith)) refl) (p .stores-good) in
+      access-fine b (s .address) (s .width) small
+      (and-left _ _ (or-then (isFreeStore s) _ (store-passes b (q .last) s g) held))
+
+  -- a requested line lies in memory
+  pub request-inside : (l : ℕ) → q .request ≡ Line l → 16 * l < b .size
+  unfolding goodRequest requestInside
+  request-inside l e =
+      let w : (requestAbsent (Line l) b && (requestInside (Line l) b && requestWanted (Line l) q)) ≡ true = subst (λ (r : Request). (requestAbsent r b && (requestInside r b && requestWanted r q)) ≡ true) e (p .wanted) in
+      ltb-true (16 * l) (b .size) (and-left _ _ (and-right (requestAbsent (Line l) b) _ w))
+
+-- what a well-formed state that requests line l leaves to the fill
+pub record Filling (s : State) (cache memory : List ℕ) (l : ℕ) : Type 0 where
+  pub fit : fits (hierarchyOf s cache memory) ≡ true
+  pub figures : Figured (s .sets) (s .ways) (s .size)
+  pub inside : 16 * l + 16 ≤ length memory
+  pub small : length memory ≤ 65536
+  pub dirty-lines : (n : ℕ) → DirtyInside (s .tags) n (length memory)
+
+pub filling :
+    (s : State) (cache memory : List ℕ) (l : ℕ) → wellFormed (queuesOf s) (hierarchyOf s cache memory) ≡ true → s .request ≡ Line l
+    → Filling s cache memory l
+filling s cache memory l g e =
+    let p = parts (queuesOf s) (hierarchyOf s cache memory) g in
+    let f = fit-figures s cache memory (p .fit) in
+    record {
+      fit = p .fit;
+      figures = f;
+      inside = omega (arith, request-inside (queuesOf s) (hierarchyOf s cache memory) (f .most-size) p l e, f .whole-lines, fit-memory s cache memory (p .fit));
+      small = omega (arith, f .most-size, fit-memory s cache memory (p .fit));
+      dirty-lines = dirty-inside (hierarchyOf s cache memory) (fits-tells _ (p .fit)) (good-tells _ (p .lines));
+    }

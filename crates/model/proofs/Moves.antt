@@ -1,0 +1,220 @@
+-- What the code makes of records and bytes is what the rules make of the hierarchy: idle, reply, flush, show line, start.
+use Prim.Native.Nat.{ℕ, zero, suc, _+_, _*_, _%_, _<_, _≤_}
+use mathlib.Core.Path.{_≡_, refl, sym, _∙_, ap}
+use mathlib.Core.Bool.{Bool, true, false, cond, _&&_}
+use mathlib.Core.List.{List, [], _∷_}
+use native.Mathlib.Omega.{arith}
+use lib.Dec.{ltb}
+use lib.ListN.{length, set, take, drop, length-take, length-drop}
+use lib.Seq.{set-set}
+use borrow.Author.Tests.{lt-ltb, le-ltb, eq-eqb, ne-eqb, not-true}
+use Rattle.lists.specs.Padded.{any, first, filter}
+use Rattle.lists.specs.Counted.{eachFrom}
+use Rattle.lists.proofs.Cond.{cases, and-left, wrong, or-left, or-right}
+use Rattle.lists.proofs.Some.{any-first}
+use Rattle.rules.specs.declared.Tag.{Tag}
+use Rattle.rules.specs.declared.LoadEntry.{LoadEntry}
+use Rattle.rules.specs.declared.Request.the-variants.{Free, Line}
+use Rattle.rules.specs.Shape.{Queues, Hierarchy, noLoad, isFreeLoad, lineOf, slots, firstSlot, tagAt, withDirty}
+use Rattle.rules.specs.Lines.{slotOf, present, placeOf, useSlot, writtenBackAt, writeBackSlot, copiedAt, install, victim, fillLine, writeBackAll}
+use Rattle.rules.specs.Calls.{Outcome, wantsLine, oldestStore, storeReady, requestLine, drainOldest, unchanged, idled, idleRule, replyRule, showRule, shown, emptyPart, answeredBy, useEach}
+use Rattle.rules.specs.Calls as rules
+use Rattle.rules.specs.Runs.{outcome, answer}
+use Rattle.rules.proofs.Checks.{outcome-by}
+use Rattle.model.specs.Tables.{hierarchy, tabled, usedTags, victimIn, usedBy, installedIn, flushedTags, flushedMemory}
+use Rattle.model.proofs.CacheLoops.{used-line, flushed-all, filledAt, fill-copies, victim-slot}
+use Rattle.model.specs.State.{queuesOf, hierarchyOf, worldOf, outcomeOf, idleRequest}
+use Rattle.model.specs.Shows.{partIn, shownPart}
+use Rattle.model.specs.declared.State.{State}
+use Rattle.model.specs.declared.Answer.the-variants.{Filled}
+
+-- ---- commit
+
+each-used :
+    (sets ways size : ℕ) (cache memory : List ℕ) (ls : List LoadEntry) (tags : List Tag)
+    → useEach ls (hierarchy sets ways size tags cache memory) ≡ hierarchy sets ways size (useEach ls (tabled sets ways tags) .tags) cache memory
+unfolding useEach
+each-used sets ways size cache memory [] tags = refl
+each-used sets ways size cache memory (l ∷ ls) tags =
+    ap (useEach ls) (used-line (lineOf (l .address)) (hierarchy sets ways size tags cache memory))
+    ∙ each-used sets ways size cache memory ls (usedTags sets ways (lineOf (l .address)) tags)
+    ∙ ap (λ (b : Hierarchy). hierarchy sets ways size (useEach ls b .tags) cache memory) (sym (used-line (lineOf (l .address)) (tabled sets ways tags)))
+
+-- the lines of the answered loads, one load further
+pub answered-step :
+    (sets ways k : ℕ) (l : LoadEntry) (ls : List LoadEntry) (tags : List Tag)
+    → useEach (filter (answeredBy k) (l ∷ ls)) (tabled sets ways tags) .tags ≡ useEach (filter (answeredBy k) ls) (tabled sets ways (usedBy sets ways k l tags)) .tags
+unfolding filter useEach usedBy
+answered-step sets ways k l ls tags = cases (answeredBy k l)
+    (λ t. rw t (ap (λ (b : Hierarchy). useEach (filter (answeredBy k) ls) b .tags) (used-line (lineOf (l .address)) (tabled sets ways tags))))
+    (λ t. rw t)
+
+-- ---- idle
+
+first-none : {A : Type 0} (p : A → Bool) (d : A) (l : List A) → any p l ≡ false → first p d l ≡ d
+unfolding any first
+first-none p d [] e = refl
+first-none p d (x ∷ l) e = rw (or-left (p x) _ e) (first-none p d l (or-right (p x) _ e))
+
+-- some load wants its line exactly if the lowest such load is no free place
+wanting-some : (b : Hierarchy) (h : ℕ) (ls : List LoadEntry) → isFreeLoad (first (wantsLine b h) noLoad ls) ≡ false → any (wantsLine b h) ls ≡ true
+wanting-some b h ls e = cases (any (wantsLine b h) ls) (λ t. t)
+    (λ t. wrong (ap isFreeLoad (first-none (wantsLine b h) noLoad ls t)) e)
+
+wanting-none : (b : Hierarchy) (h : ℕ) (ls : List LoadEntry) → isFreeLoad (first (wantsLine b h) noLoad ls) ≡ true → any (wantsLine b h) ls ≡ false
+unfolding wantsLine
+wanting-none b h ls e = cases (any (wantsLine b h) ls)
+    (λ t. wrong e (not-true _ (and-left _ _ (any-first (wantsLine b h) noLoad ls t)))) (λ t. t)
+
+module _ (s : State) (cache memory : List ℕ) where
+  -- the records once each load of a list has used its line
+  pub used-each : (ls : List LoadEntry) → useEach ls (hierarchyOf s cache memory) ≡ record { sets = s .sets; ways = s .ways; size = s .size; tags = useEach ls (tabled (s .sets) (s .ways) (s .tags)) .tags; cache = cache; memory = memory }
+  used-each ls = each-used (s .sets) (s .ways) (s .size) cache memory ls (s .tags)
+
+  abbrev q : Queues
+  q = queuesOf s
+
+  abbrev b : Hierarchy
+  b = hierarchyOf s cache memory
+
+  abbrev table : Hierarchy
+  table = tabled (s .sets) (s .ways) (s .tags)
+
+  pub idle-drains : storeReady q ≡ true → present table (lineOf (oldestStore q .address)) ≡ true → idleRule q b ≡ drainOldest q b
+  unfolding idleRule present slotOf
+  idle-drains r h = rw (r, h)
+
+  pub idle-unready : storeReady q ≡ false → idleRule q b ≡ idleRequest q b
+  unfolding idleRule idleRequest present slotOf
+  idle-unready r = rw r
+
+  pub idle-absent : present table (lineOf (oldestStore q .address)) ≡ false → idleRule q b ≡ idleRequest q b
+  unfolding idleRule idleRequest present slotOf
+  idle-absent h = cases (storeReady q) (λ t. rw (t, h)) (λ t. rw t)
+
+  pub idle-busy : (l : ℕ) → s .request ≡ Line l → unchanged idled q b ≡ idleRequest q b
+  unfolding idleRequest
+  idle-busy l e = rw e
+
+  module _ (free : s .request ≡ Free) (l : LoadEntry) (lowest : l ≡ first (wantsLine table (s .committed)) noLoad (s .loads)) where
+    pub idle-load : (l .number ≡ 0 → ⊥) → requestLine (l .address) q b ≡ idleRequest q b
+    unfolding idleRequest wantsLine present slotOf
+    idle-load n =
+        let e : isFreeLoad (first (wantsLine table (s .committed)) noLoad (s .loads)) ≡ false = ap isFreeLoad (sym lowest) ∙ ne-eqb (l .number) 0 n in
+        rw (free, wanting-some table (s .committed) (s .loads) e, lowest)
+
+    module _ (z : l .number ≡ 0) where
+      none : any (wantsLine table (s .committed)) (s .loads) ≡ false
+      none = wanting-none table (s .committed) (s .loads) (ap isFreeLoad (sym lowest) ∙ eq-eqb (l .number) 0 z)
+
+      pub idle-store : storeReady q ≡ true → present table (lineOf (oldestStore q .address)) ≡ false → requestLine (oldestStore q .address) q b ≡ idleRequest q b
+      unfolding idleRequest wantsLine present slotOf
+      idle-store r h = rw (none, r, h, free)
+
+      pub idle-here : present table (lineOf (oldestStore q .address)) ≡ true → unchanged idled q b ≡ idleRequest q b
+      unfolding idleRequest wantsLine present slotOf
+      idle-here h = cases (storeReady q) (λ t. rw (none, t, h, free)) (λ t. rw (none, t, free))
+
+      pub idle-nothing : storeReady q ≡ false → unchanged idled q b ≡ idleRequest q b
+      unfolding idleRequest wantsLine present slotOf
+      idle-nothing r = rw (none, r, free)
+
+-- ---- fill
+
+-- a record's age, read where it was written with its age kept
+set-age : (tags : List Tag) (v : ℕ) → tagAt (set tags v (withDirty false (tagAt tags v))) v .age ≡ tagAt tags v .age
+set-age [] v = refl
+set-age (t ∷ tags) zero = refl
+set-age (t ∷ tags) (suc v) = set-age tags v
+
+-- the records and bytes of a filled line, when v is the victim's slot
+pub fill-parts :
+    (b : Hierarchy) (l v : ℕ) → v ≡ victim b l
+    → fillLine l b
+    ≡ hierarchy (b .sets) (b .ways) (b .size) (installedIn (firstSlot b l) (b .ways) v l (b .tags))
+    (eachFrom (copiedAt (eachFrom (writtenBackAt (tagAt (b .tags) v) (b .cache) v) 0 (b .memory)) v l) 0 (b .cache))
+    (eachFrom (writtenBackAt (tagAt (b .tags) v) (b .cache) v) 0 (b .memory))
+unfolding fillLine install writeBackSlot useSlot installedIn
+fill-parts b l v e =
+    let t : Tag = withDirty false (tagAt (b .tags) v) in
+    let age : tagAt (set (b .tags) v t) v .age ≡ tagAt (b .tags) v .age = set-age (b .tags) v in
+    rw (← e, age, set-set (b .tags) v)
+
+-- the whole reply, from what each function made
+pub filled-whole :
+    (s : State) (cache memory : List ℕ) (l f v n : ℕ) (tags : List Tag) (cache′ memory′ : List ℕ)
+    → s .request ≡ Line l → f ≡ (l % s .sets) * s .ways → v ≡ victimIn (s .tags) f (s .ways)
+    → memory′ ≡ eachFrom (writtenBackAt (tagAt (s .tags) v) cache v) 0 memory
+    → n ≡ 16 → cache′ ≡ eachFrom (filledAt v (take n (drop (16 * l) memory′))) 0 cache
+    → tags ≡ installedIn f (s .ways) v l (s .tags)
+    → outcomeOf (record { answer = Filled (l * 16); next = record { sets = s .sets; ways = s .ways; size = s .size; last = s .last; committed = s .committed; request = Free; stores = s .stores; loads = s .loads; tags = tags } }) cache′ memory′
+    ≡ replyRule (queuesOf s) (hierarchyOf s cache memory)
+unfolding replyRule
+filled-whole s cache memory l f v n tags cache′ memory′ r at-first found m e c t =
+    let b : Hierarchy = hierarchyOf s cache memory in
+    let whole = fill-parts b l v (victim-slot b l f v at-first found) in
+    let copied : cache′ ≡ eachFrom (copiedAt memory′ v l) 0 cache = c ∙ rw e (fill-copies memory′ v l cache) in
+    rw (r, whole, t, copied, m, ← at-first)
+
+-- ---- flush
+
+pub flush-parts :
+    (b : Hierarchy)
+    → writeBackAll b
+    ≡ hierarchy (b .sets) (b .ways) (b .size) (flushedTags (slots b) (b .tags)) (b .cache) (flushedMemory (slots b) (b .tags) (b .cache) (b .memory))
+unfolding writeBackAll
+flush-parts b = flushed-all (slots b) b
+
+-- ---- show line
+
+take-again : (n : ℕ) (l : List ℕ) → take (length (take n l)) l ≡ take n l
+take-again zero l = refl
+take-again (suc n) [] = refl
+take-again (suc n) (x ∷ l) = ap (λ (r : List ℕ). x ∷ r) (take-again n l)
+
+module _ (a : ℕ) (s : State) (cache memory : List ℕ) where
+  -- the answer of show line by its part
+  abbrev Whole : Outcome → Type 0
+  Whole o =
+      o
+      ≡ unchanged (shown (partIn (o .answer) .start) (take (partIn (o .answer) .length) (drop (partIn (o .answer) .start) cache))) (queuesOf s) (hierarchyOf s cache memory)
+
+  pub show-step :
+      outcome (rules.show a) (queuesOf s) (hierarchyOf s cache memory)
+      ≡ unchanged
+      (shown (shownPart a (worldOf s cache memory) .start) (take (shownPart a (worldOf s cache memory) .length) (drop (shownPart a (worldOf s cache memory) .start) cache)))
+      (queuesOf s) (hierarchyOf s cache memory)
+  unfolding shownPart answer
+  show-step =
+      outcome-by (rules.show a) (queuesOf s) (hierarchyOf s cache memory) Whole (λ k. refl)
+      (λ f g p. unfold showRule in (go (ltb a (s .size) && present (hierarchyOf s cache memory) (lineOf a))))
+    where
+      p : ℕ
+      p = placeOf (hierarchyOf s cache memory) a
+
+      go :
+          (t : Bool)
+          → Whole (unchanged (cond t (shown p (take 16 (drop p cache))) emptyPart) (queuesOf s) (hierarchyOf s cache memory))
+      go true = ap (λ (bs : List ℕ). unchanged (shown p bs) (queuesOf s) (hierarchyOf s cache memory)) (sym (take-again 16 (drop p cache)))
+      go false = refl
+
+  pub show-refused : (k : ℕ) → outcome (rules.show a) (queuesOf s) (hierarchyOf s cache memory) ≡ unchanged emptyPart (queuesOf s) (hierarchyOf s cache memory) → record { start = 0; length = 0 } ≡ shownPart a (worldOf s cache memory)
+  unfolding shownPart answer
+  show-refused k e = sym (ap (λ (o : Outcome). partIn (o .answer)) e)
+
+  module _ (does : outcome (rules.show a) (queuesOf s) (hierarchyOf s cache memory) ≡ showRule a (queuesOf s) (hierarchyOf s cache memory)) where
+    pub show-outside : s .size ≤ a → record { start = 0; length = 0 } ≡ shownPart a (worldOf s cache memory)
+    unfolding shownPart answer showRule
+    show-outside h = sym (ap (λ (o : Outcome). partIn (o .answer)) does ∙ rw (le-ltb a (s .size) h))
+
+    pub show-absent : a < s .size → present (hierarchyOf s cache memory) (lineOf a) ≡ false → record { start = 0; length = 0 } ≡ shownPart a (worldOf s cache memory)
+    unfolding shownPart answer showRule
+    show-absent h t = sym (ap (λ (o : Outcome). partIn (o .answer)) does ∙ rw (lt-ltb a (s .size) h, t))
+
+    pub show-present :
+        (v : ℕ) → a < s .size → present (hierarchyOf s cache memory) (lineOf a) ≡ true → v ≡ slotOf (hierarchyOf s cache memory) (lineOf a) → 16 * v + 16 ≤ length cache
+        → record { start = 16 * v; length = 16 } ≡ shownPart a (worldOf s cache memory)
+    unfolding shownPart answer showRule placeOf
+    show-present v h t e r =
+        let n : length (take 16 (drop (16 * v) cache)) ≡ 16 = omega (arith, length-take 16 (drop (16 * v) cache), length-drop (16 * v) cache) in
+        sym (ap (λ (o : Outcome). partIn (o .answer)) does ∙ rw (lt-ltb a (s .size) h, t, ← e, n))

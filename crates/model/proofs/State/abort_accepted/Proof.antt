@@ -1,0 +1,25 @@
+-- `State::abort_accepted` meets its contract.
+use borrow.Author.Needs.{needs}
+use Rattle.rules.specs.Calls.{abortRule, squash}
+use Rattle.model.proofs.State.abort_accepted.Statement.{statement}
+use Rattle.model.proofs.State.abort_accepted.Tie as tie
+
+squash-stores-requires : tie.Need-squash-stores-requires
+squash-stores-requires c κs = search needs
+
+squash-loads-requires : tie.Need-squash-loads-requires
+squash-loads-requires c κs = search needs
+
+sub-t9 : tie.Need-sub-t9
+sub-t9 c = search needs
+
+sub-t11 : tie.Need-sub-t11
+sub-t11 c = search needs
+
+returns : tie.Need-returns
+unfolding abortRule squash
+returns c = λ k m. rw (c .before .squash-stores .ensures, c .squash-loads .ensures)
+
+pub abort-accepted-spec : {M : Type 1} → statement M
+abort-accepted-spec =
+    tie.close (tie.spec squash-stores-requires squash-loads-requires sub-t9 sub-t11 returns)

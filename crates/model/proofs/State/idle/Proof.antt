@@ -1,0 +1,107 @@
+-- `State::idle` meets its contract.
+use borrow.Author.Needs.{needs}
+use mathlib.Core.Path.{refl, sym, _∙_}
+use Rattle.rules.specs.Calls as rules
+use denote.Ref.{now}
+use Rattle.rules.specs.Shape.{lineOf}
+use Rattle.model.specs.State.{queuesOf, hierarchyOf}
+use Rattle.model.proofs.Checking.{ready-at}
+use Rattle.model.proofs.Moves.{idle-drains, idle-absent, idle-unready}
+use Rattle.model.proofs.Calls.{state-refuses, state-opens, none-does}
+use Rattle.model.proofs.Facts.{fit-shaped, fit-figures, shaped-self, oldest-fine}
+use Rattle.rules.proofs.Parts.{parts}
+use Rattle.model.proofs.State.idle.Statement.{statement}
+use Rattle.model.proofs.State.idle.Tie as tie
+
+state-refusal-requires : tie.Need-state-refusal-requires
+state-refusal-requires c κs = search needs
+
+refused-requires : tie.Need-refused-requires
+refused-requires c κs = search needs
+
+same-length : tie.Need-same-length
+same-length c = search needs
+
+same-length-2 : tie.Need-same-length-2
+same-length-2 c = search needs
+
+returns : tie.Need-returns
+returns c = rw (c .refused .ensures) (sym (state-refuses _ _ _ _ (c .before .before .state-refusal .ensures) (c .before .if1 .taken)))
+
+array-copy-out-s : tie.Need-array-copy-out-s
+array-copy-out-s c = search needs
+
+store-ready-requires : tie.Need-store-ready-requires
+store-ready-requires c κs = search needs
+
+is-present-requires : tie.Need-is-present-requires
+is-present-requires c κs = shaped-self _ _ (fit-shaped (c .before .before .before .before .before .before .before .before .before .before .before .args .self) (now (c .before .before .before .before .before .before .before .before .before .before .before .args .cache)) (now (c .before .before .before .before .before .before .before .before .before .before .before .args .memory)) ((state-opens rules.idle _ _ _ (c .before .before .before .before .before .before .state-refusal .ensures) (c .before .before .before .before .before .if1 .left)) .fit))
+
+drain-oldest-requires : tie.Need-drain-oldest-requires
+unfolding lineOf
+drain-oldest-requires c κs =
+    let o = state-opens rules.idle _ _ _ (c .before .before .before .before .before .before .before .before .before .before .state-refusal .ensures) (c .before .before .before .before .before .before .before .before .before .if1 .left) in
+    let f = fit-figures (c .before .before .before .before .before .before .before .before .before .before .before .before .before .before .before .args .self) (now (c .before .before .before .before .before .before .before .before .before .before .before .before .before .before .before .args .cache)) (now (c .before .before .before .before .before .before .before .before .before .before .before .before .before .before .before .args .memory)) (o .fit) in
+    (fit-shaped (c .before .before .before .before .before .before .before .before .before .before .before .before .before .before .before .args .self) (now (c .before .before .before .before .before .before .before .before .before .before .before .before .before .before .before .args .cache)) (now (c .before .before .before .before .before .before .before .before .before .before .before .before .before .before .before .args .memory)) (o .fit), oldest-fine (queuesOf (c .before .before .before .before .before .before .before .before .before .before .before .before .before .before .before .args .self)) (hierarchyOf (c .before .before .before .before .before .before .before .before .before .before .before .before .before .before .before .args .self) (now (c .before .before .before .before .before .before .before .before .before .before .before .before .before .before .before .args .cache)) (now (c .before .before .before .before .before .before .before .before .before .before .before .before .before .before .before .args .memory))) (f .most-size) (parts _ _ (o .formed)) (sym (c .before .before .before .before .before .store-ready .ensures ∙ ready-at (c .before .before .before .before .before .before .before .before .before .before .before .before .before .before .before .args .self) (now (c .before .before .before .before .before .before .before .before .before .before .before .before .before .before .before .args .cache)) (now (c .before .before .before .before .before .before .before .before .before .before .before .before .before .before .before .args .memory))) ∙ c .before .before .if2 .taken), refl, (sym (c .before .before .before .is-present .ensures) ∙ c .before .if3 .taken))
+
+same-length-3 : tie.Need-same-length-3
+same-length-3 c = search needs
+
+same-length-4 : tie.Need-same-length-4
+same-length-4 c = search needs
+
+returns-2 : tie.Need-returns-2
+unfolding lineOf
+returns-2 c = c .before .before .drain-oldest .ensures _ ∙ sym (none-does rules.idle _ _ (state-opens rules.idle _ _ _ (c .before .before .before .before .before .before .before .before .before .before .before .before .before .state-refusal .ensures) (c .before .before .before .before .before .before .before .before .before .before .before .before .if1 .left)) refl ∙ idle-drains (c .before .before .before .before .before .before .before .before .before .before .before .before .before .before .before .before .before .before .args .self) (now (c .before .before .before .before .before .before .before .before .before .before .before .before .before .before .before .before .before .before .args .cache)) (now (c .before .before .before .before .before .before .before .before .before .before .before .before .before .before .before .before .before .before .args .memory)) (sym (c .before .before .before .before .before .before .before .before .store-ready .ensures ∙ ready-at (c .before .before .before .before .before .before .before .before .before .before .before .before .before .before .before .before .before .before .args .self) (now (c .before .before .before .before .before .before .before .before .before .before .before .before .before .before .before .before .before .before .args .cache)) (now (c .before .before .before .before .before .before .before .before .before .before .before .before .before .before .before .before .before .before .args .memory))) ∙ c .before .before .before .before .before .if2 .taken) (sym (c .before .before .before .before .before .before .is-present .ensures) ∙ c .before .before .before .before .if3 .taken))
+
+idle-request-requires : tie.Need-idle-request-requires
+unfolding lineOf
+idle-request-requires c κs = (shaped-self _ _ (fit-shaped (c .before .before .before .before .before .before .before .before .before .before .before .before .before .before .args .self) (now (c .before .before .before .before .before .before .before .before .before .before .before .before .before .before .args .cache)) (now (c .before .before .before .before .before .before .before .before .before .before .before .before .before .before .args .memory)) ((state-opens rules.idle _ _ _ (c .before .before .before .before .before .before .before .before .before .state-refusal .ensures) (c .before .before .before .before .before .before .before .before .if1 .left)) .fit)), (c .before .before .before .before .store-ready .ensures ∙ ready-at (c .before .before .before .before .before .before .before .before .before .before .before .before .before .before .args .self) (now (c .before .before .before .before .before .before .before .before .before .before .before .before .before .before .args .cache)) (now (c .before .before .before .before .before .before .before .before .before .before .before .before .before .before .args .memory))), refl, c .before .before .is-present .ensures)
+
+same-length-5 : tie.Need-same-length-5
+same-length-5 c = search needs
+
+same-length-6 : tie.Need-same-length-6
+same-length-6 c = search needs
+
+returns-3 : tie.Need-returns-3
+unfolding lineOf
+returns-3 c = c .idle-request .ensures _ _ ∙ sym (none-does rules.idle _ _ (state-opens rules.idle _ _ _ (c .before .before .before .before .before .before .before .before .before .before .state-refusal .ensures) (c .before .before .before .before .before .before .before .before .before .if1 .left)) refl ∙ idle-absent (c .before .before .before .before .before .before .before .before .before .before .before .before .before .before .before .args .self) (now (c .before .before .before .before .before .before .before .before .before .before .before .before .before .before .before .args .cache)) (now (c .before .before .before .before .before .before .before .before .before .before .before .before .before .before .before .args .memory)) (sym (c .before .before .before .is-present .ensures) ∙ c .before .if3 .left))
+
+idle-request-requires-2 : tie.Need-idle-request-requires-2
+unfolding lineOf
+idle-request-requires-2 c κs = (shaped-self _ _ (fit-shaped (c .before .before .before .before .before .before .before .before .before .before .before .before .before .args .self) (now (c .before .before .before .before .before .before .before .before .before .before .before .before .before .args .cache)) (now (c .before .before .before .before .before .before .before .before .before .before .before .before .before .args .memory)) ((state-opens rules.idle _ _ _ (c .before .before .before .before .before .before .before .before .state-refusal .ensures) (c .before .before .before .before .before .before .before .if1 .left)) .fit)), (c .before .before .before .store-ready .ensures ∙ ready-at (c .before .before .before .before .before .before .before .before .before .before .before .before .before .args .self) (now (c .before .before .before .before .before .before .before .before .before .before .before .before .before .args .cache)) (now (c .before .before .before .before .before .before .before .before .before .before .before .before .before .args .memory))), refl, c .before .is-present .ensures)
+
+same-length-7 : tie.Need-same-length-7
+same-length-7 c = search needs
+
+same-length-8 : tie.Need-same-length-8
+same-length-8 c = search needs
+
+returns-4 : tie.Need-returns-4
+returns-4 c = c .idle-request2 .ensures _ _ ∙ sym (none-does rules.idle _ _ (state-opens rules.idle _ _ _ (c .before .before .before .before .before .before .before .before .before .state-refusal .ensures) (c .before .before .before .before .before .before .before .before .if1 .left)) refl ∙ idle-unready (c .before .before .before .before .before .before .before .before .before .before .before .before .before .before .args .self) (now (c .before .before .before .before .before .before .before .before .before .before .before .before .before .before .args .cache)) (now (c .before .before .before .before .before .before .before .before .before .before .before .before .before .before .args .memory)) (sym (c .before .before .before .before .store-ready .ensures ∙ ready-at (c .before .before .before .before .before .before .before .before .before .before .before .before .before .before .args .self) (now (c .before .before .before .before .before .before .before .before .before .before .before .before .before .before .args .cache)) (now (c .before .before .before .before .before .before .before .before .before .before .before .before .before .before .args .memory))) ∙ c .before .if2 .left))
+
+pub idle-spec : {M : Type 1} → statement M
+idle-spec =
+    tie.close
+    (tie.spec
+    state-refusal-requires
+    refused-requires
+    same-length
+    same-length-2
+    returns
+    array-copy-out-s
+    store-ready-requires
+    is-present-requires
+    drain-oldest-requires
+    same-length-3
+    same-length-4
+    returns-2
+    idle-request-requires
+    same-length-5
+    same-length-6
+    returns-3
+    idle-request-requires-2
+    same-length-7
+    same-length-8
+    returns-4)

@@ -1,0 +1,51 @@
+-- `State::idle_request` meets its contract.
+use borrow.Author.Needs.{needs}
+use mathlib.Core.Path.{sym, _∙_}
+use Rattle.model.proofs.Moves.{idle-busy, idle-load, idle-store, idle-here, idle-nothing}
+use Rattle.model.proofs.State.idle_request.Statement.{statement}
+use Rattle.model.proofs.State.idle_request.Tie as tie
+
+enum-told : tie.Need-enum-told
+enum-told c = search needs
+
+enum-told-2 : tie.Need-enum-told-2
+enum-told-2 c = search needs
+
+lowest-wanting-requires : tie.Need-lowest-wanting-requires
+lowest-wanting-requires c κs = search needs
+
+request-line-requires : tie.Need-request-line-requires
+request-line-requires c κs = search needs
+
+returns : tie.Need-returns
+returns c = λ k m. c .request-line .ensures k m ∙ idle-load _ _ _ (c .before .before .before .before .enum-told2 .given .1) _ (c .before .before .before .lowest-wanting .ensures) (c .before .if1 .taken)
+
+returns-2 : tie.Need-returns-2
+returns-2 c = λ k m. idle-here _ _ _ (c .before .before .before .before .before .enum-told2 .given .1) _ (c .before .before .before .before .lowest-wanting .ensures) (c .before .before .if1 .left) (rw (← (c .before .before .before .before .before .before .before .pre .2)) (sym (c .before .before .before .before .before .before .before .pre .3) ∙ c .if3 .taken))
+
+request-line-requires-2 : tie.Need-request-line-requires-2
+request-line-requires-2 c κs = search needs
+
+returns-3 : tie.Need-returns-3
+returns-3 c = λ k m. c .request-line2 .ensures k m ∙ rw (c .before .before .before .before .before .before .before .before .pre .2) (idle-store _ _ _ (c .before .before .before .before .before .before .enum-told2 .given .1) _ (c .before .before .before .before .before .lowest-wanting .ensures) (c .before .before .before .if1 .left) (sym (c .before .before .before .before .before .before .before .before .pre .1) ∙ c .before .before .if2 .taken) (rw (← (c .before .before .before .before .before .before .before .before .pre .2)) (sym (c .before .before .before .before .before .before .before .before .pre .3) ∙ c .before .if3 .left)))
+
+returns-4 : tie.Need-returns-4
+returns-4 c = λ k m. idle-busy _ _ _ _ (c .enum-told .given .1)
+
+returns-5 : tie.Need-returns-5
+returns-5 c = λ k m. idle-nothing _ _ _ (c .before .before .before .before .enum-told2 .given .1) _ (c .before .before .before .lowest-wanting .ensures) (c .before .if1 .left) (sym (c .before .before .before .before .before .before .pre .1) ∙ c .if2 .left)
+
+pub idle-request-spec : {M : Type 1} → statement M
+idle-request-spec =
+    tie.close
+    (tie.spec
+    enum-told
+    enum-told-2
+    lowest-wanting-requires
+    request-line-requires
+    returns
+    returns-2
+    request-line-requires-2
+    returns-3
+    returns-4
+    returns-5)

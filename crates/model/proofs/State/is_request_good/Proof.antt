@@ -1,0 +1,71 @@
+-- `State::is_request_good` meets its contract.
+use borrow.Author.Needs.{needs}
+use mathlib.Core.Path.{_≡_, sym, _∙_, ap}
+use mathlib.Core.Bool.{true}
+use mathlib.Core.List.{[]}
+use borrow.Author.Tests.{lt-ltb, le-ltb}
+use Rattle.rules.specs.declared.Request.{Request}
+use Rattle.rules.specs.WellFormed.{requestAbsent, requestInside, requestWanted}
+use Rattle.queues.specs.Good.{sized}
+use Rattle.model.specs.Tables.{tabled}
+use Rattle.model.specs.State.{queuesOf}
+use Rattle.model.proofs.Checking.{wanted-at}
+use Rattle.model.proofs.State.is_request_good.Statement.{statement}
+use Rattle.model.proofs.State.is_request_good.Tie as tie
+
+enum-told : tie.Need-enum-told
+enum-told c = search needs
+
+enum-known-request : tie.Need-enum-known-request
+enum-known-request c = search needs
+
+is-present-requires : tie.Need-is-present-requires
+is-present-requires c κs = search needs
+
+returns : tie.Need-returns
+unfolding requestAbsent
+returns c = rw (c .before .before .before .request .given .1, sym (c .before .is-present .ensures) ∙ c .if1 .taken)
+
+cast-if2 : tie.Need-cast-if2
+cast-if2 c = search needs
+
+cast-if2-2 : tie.Need-cast-if2-2
+cast-if2-2 c = search needs
+
+mul-if2 : tie.Need-mul-if2
+mul-if2 c = search needs
+
+returns-2 : tie.Need-returns-2
+unfolding requestAbsent requestInside
+returns-2 c = rw (c .before .before .before .before .before .request .given .1, sym (c .before .before .before .is-present .ensures) ∙ c .before .before .if1 .left, le-ltb _ _ (c .if2 .taken))
+
+request-wanted-requires : tie.Need-request-wanted-requires
+request-wanted-requires c κs = search needs
+
+returns-3 : tie.Need-returns-3
+unfolding requestAbsent requestInside requestWanted
+returns-3 c = rw (c .enum-told .given .1)
+
+returns-4 : tie.Need-returns-4
+unfolding requestAbsent requestInside
+returns-4 c =
+    let s = c .before .before .before .before .before .before .before .before .before .before .args .self in
+    let x : requestAbsent (s .request) (tabled (s .sets) (s .ways) (s .tags)) ≡ true = rw (c .before .before .before .before .before .before .before .before .request .given .1, sym (c .before .before .before .before .before .before .is-present .ensures) ∙ c .before .before .before .before .before .if1 .left) in
+    let y : requestInside (s .request) (sized (s .size)) ≡ true = rw (c .before .before .before .before .before .before .before .before .request .given .1, lt-ltb _ _ (c .before .before .before .if2 .left)) in
+    rw (x, y) (c .request-wanted .ensures ∙ wanted-at s [] [] _ ∙ ap (λ (r : Request). requestWanted r (queuesOf s)) (sym (c .before .before .before .before .before .before .before .before .request .given .1)))
+
+pub is-request-good-spec : {M : Type 1} → statement M
+is-request-good-spec =
+    tie.close
+    (tie.spec
+    enum-told
+    enum-known-request
+    is-present-requires
+    returns
+    cast-if2
+    cast-if2-2
+    mul-if2
+    returns-2
+    request-wanted-requires
+    returns-3
+    returns-4)

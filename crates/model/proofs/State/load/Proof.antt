@@ -1,0 +1,94 @@
+-- `State::load` meets its contract: each refusal by its check, else what an accepted load does.
+use borrow.Author.Needs.{needs}
+use mathlib.Core.Path.{refl, sym, _∙_}
+use native.Mathlib.Omega.{arith}
+use Rattle.rules.specs.Calls as rules
+use denote.Ref.{now}
+use Rattle.queues.specs.Good.{sized}
+use Rattle.model.proofs.Calls.{state-refuses, state-opens, access-refuses, load-numbers, load-full, load-does, passed-access}
+use Rattle.model.proofs.Facts.{access-fine, fit-shaped, fit-figures}
+use Rattle.rules.proofs.Parts.{parts}
+use Rattle.model.proofs.Facts.{access-fine, fit-shaped, fit-figures}
+use Rattle.model.proofs.State.load.Statement.{statement}
+use Rattle.model.proofs.State.load.Tie as tie
+
+state-refusal-requires : tie.Need-state-refusal-requires
+state-refusal-requires c κs = search needs
+
+refused-requires : tie.Need-refused-requires
+refused-requires c κs = search needs
+
+returns : tie.Need-returns
+returns c = rw (c .refused .ensures) (sym (state-refuses _ _ _ _ (c .before .before .state-refusal .ensures) (c .before .if1 .taken)))
+
+check-access-requires : tie.Need-check-access-requires
+check-access-requires c κs = search needs
+
+enum-known-checked : tie.Need-enum-known-checked
+enum-known-checked c = search needs
+
+enum-told : tie.Need-enum-told
+enum-told c = search needs
+
+failure-requires : tie.Need-failure-requires
+failure-requires c κs = search needs
+
+refused-requires-2 : tie.Need-refused-requires-2
+refused-requires-2 c κs = search needs
+
+returns-2 : tie.Need-returns-2
+returns-2 c =
+    rw (c .refused2 .ensures, c .before .failure .ensures, c .before .before .enum-told .given .1)
+    (sym (access-refuses _ _ _ _ _ _ refl (state-opens _ _ _ _ (c .before .before .before .before .before .before .state-refusal .ensures) (c .before .before .before .before .before .if1 .left)) _ (sym (c .before .before .before .before .check-access .ensures) ∙ c .before .before .enum-told .given .1)))
+
+refused-requires-3 : tie.Need-refused-requires-3
+refused-requires-3 c κs = search needs
+
+returns-3 : tie.Need-returns-3
+returns-3 c =
+    rw (c .refused3 .ensures)
+    (sym (load-numbers _ _ _ _ (state-opens _ _ _ _ (c .before .before .before .before .before .before .before .before .state-refusal .ensures) (c .before .before .before .before .before .before .before .if1 .left)) _ (sym (c .before .before .before .before .before .before .check-access .ensures) ∙ c .before .before .before .before .checked .given .1) (c .before .if2 .taken)))
+
+has-free-load-requires : tie.Need-has-free-load-requires
+has-free-load-requires c κs = search needs
+
+load-accepted-requires : tie.Need-load-accepted-requires
+load-accepted-requires c κs =
+    let o = state-opens rules.idle _ _ _ (c .before .before .before .before .before .before .before .before .before .before .state-refusal .ensures) (c .before .before .before .before .before .before .before .before .before .if1 .left) in
+    let p = passed-access _ _ _ _ (sym (c .before .before .before .before .before .before .before .before .check-access .ensures) ∙ c .before .before .before .before .before .before .checked .given .1) in
+    (fit-shaped (c .before .before .before .before .before .before .before .before .before .before .before .before .before .args .self) (now (c .before .before .before .before .before .before .before .before .before .before .before .before .before .args .cache)) (now (c .before .before .before .before .before .before .before .before .before .before .before .before .before .args .memory)) (o .fit), rw (p .1) (access-fine (sized (c .before .before .before .before .before .before .before .before .before .before .before .before .before .args .self .size)) _ _ (fit-figures (c .before .before .before .before .before .before .before .before .before .before .before .before .before .args .self) (now (c .before .before .before .before .before .before .before .before .before .before .before .before .before .args .cache)) (now (c .before .before .before .before .before .before .before .before .before .before .before .before .before .args .memory)) (o .fit) .most-size) (p .0)), omega (arith, parts _ _ (o .formed) .last-fits, c .before .before .before .if2 .left))
+
+refused-requires-4 : tie.Need-refused-requires-4
+refused-requires-4 c κs = search needs
+
+returns-4 : tie.Need-returns-4
+returns-4 c =
+    let o = state-opens _ _ _ _ (c .before .before .before .before .before .before .before .before .before .before .before .state-refusal .ensures) (c .before .before .before .before .before .before .before .before .before .before .if1 .left) in
+    let e = sym (c .before .before .before .before .before .before .before .before .before .check-access .ensures) ∙ c .before .before .before .before .before .before .before .checked .given .1 in
+    c .load-accepted .ensures _ ∙ rw (passed-access _ _ _ _ e .1) (sym (load-does _ _ _ _ o _ e (c .before .before .before .before .if2 .left) (sym (c .before .before .has-free-load .ensures) ∙ c .before .if3 .taken)))
+
+returns-5 : tie.Need-returns-5
+returns-5 c =
+    rw (c .refused4 .ensures)
+    (sym (load-full _ _ _ _ (state-opens _ _ _ _ (c .before .before .before .before .before .before .before .before .before .before .before .state-refusal .ensures) (c .before .before .before .before .before .before .before .before .before .before .if1 .left)) _ (sym (c .before .before .before .before .before .before .before .before .before .check-access .ensures) ∙ c .before .before .before .before .before .before .before .checked .given .1) (c .before .before .before .before .if2 .left) (sym (c .before .before .has-free-load .ensures) ∙ c .before .if3 .left)))
+
+pub load-spec : {M : Type 1} → statement M
+load-spec =
+    tie.close
+    (tie.spec
+    state-refusal-requires
+    refused-requires
+    returns
+    check-access-requires
+    enum-known-checked
+    enum-told
+    failure-requires
+    refused-requires-2
+    returns-2
+    refused-requires-3
+    returns-3
+    has-free-load-requires
+    load-accepted-requires
+    refused-requires-4
+    returns-4
+    returns-5)

@@ -1,0 +1,36 @@
+-- `State::load_accepted` meets its contract.
+use borrow.Author.Needs.{needs}
+use Rattle.rules.specs.Calls.{loadRule}
+use Rattle.model.proofs.Reading.{answer-read, lacking-read}
+use Rattle.model.proofs.State.load_accepted.Statement.{statement}
+use Rattle.model.proofs.State.load_accepted.Tie as tie
+
+add-i : tie.Need-add-i
+add-i c = search needs
+
+read-requires : tie.Need-read-requires
+read-requires c κs = search needs
+
+is-lacking-requires : tie.Need-is-lacking-requires
+is-lacking-requires c κs = search needs
+
+place-load-requires : tie.Need-place-load-requires
+place-load-requires c κs = search needs
+
+answer-to-requires : tie.Need-answer-to-requires
+answer-to-requires c κs = search needs
+
+returns : tie.Need-returns
+unfolding loadRule
+returns c = λ m. rw (c .answer-to .ensures, c .before .place-load .ensures, c .before .before .is-lacking .ensures, c .before .before .before .before .before .before .read .ensures m, answer-read, lacking-read)
+
+pub load-accepted-spec : {M : Type 1} → statement M
+load-accepted-spec =
+    tie.close
+    (tie.spec
+    add-i
+    read-requires
+    is-lacking-requires
+    place-load-requires
+    answer-to-requires
+    returns)

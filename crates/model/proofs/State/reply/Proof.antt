@@ -1,0 +1,73 @@
+-- `State::reply` meets its contract.
+use borrow.Author.Needs.{needs}
+use mathlib.Core.Path.{refl, sym, _∙_, ap}
+use Rattle.rules.specs.Calls as rules
+use Rattle.rules.specs.Shape.{isFree}
+use Rattle.model.proofs.Calls.{state-refuses, state-opens, one-refuses, one-does}
+use Rattle.model.proofs.State.reply.Statement.{statement}
+use Rattle.model.proofs.State.reply.Tie as tie
+
+state-refusal-requires : tie.Need-state-refusal-requires
+state-refusal-requires c κs = search needs
+
+refused-requires : tie.Need-refused-requires
+refused-requires c κs = search needs
+
+same-length : tie.Need-same-length
+same-length c = search needs
+
+same-length-2 : tie.Need-same-length-2
+same-length-2 c = search needs
+
+returns : tie.Need-returns
+returns c = rw (c .refused .ensures) (sym (state-refuses _ _ _ _ (c .before .before .state-refusal .ensures) (c .before .if1 .taken)))
+
+enum-told : tie.Need-enum-told
+enum-told c = search needs
+
+refused-requires-2 : tie.Need-refused-requires-2
+refused-requires-2 c κs = search needs
+
+enum-known-request : tie.Need-enum-known-request
+enum-known-request c = search needs
+
+fill-line-requires : tie.Need-fill-line-requires
+fill-line-requires c κs = ((state-opens rules.idle _ _ _ (c .before .before .before .before .before .before .state-refusal .ensures) (c .before .before .before .before .before .if1 .left)) .formed, c .before .before .before .request .given .1)
+
+same-length-3 : tie.Need-same-length-3
+same-length-3 c = search needs
+
+same-length-4 : tie.Need-same-length-4
+same-length-4 c = search needs
+
+returns-2 : tie.Need-returns-2
+returns-2 c = rw (c .refused2 .ensures) (sym (one-refuses _ _ _ (state-opens _ _ _ _ (c .before .before .before .before .state-refusal .ensures) (c .before .before .before .if1 .left)) _ _ refl (ap isFree (c .before .enum-told .given .1))))
+
+same-length-5 : tie.Need-same-length-5
+same-length-5 c = search needs
+
+same-length-6 : tie.Need-same-length-6
+same-length-6 c = search needs
+
+returns-3 : tie.Need-returns-3
+returns-3 c = c .before .before .before .before .fill-line .ensures ∙ sym (one-does _ _ _ (state-opens _ _ _ _ (c .before .before .before .before .before .before .before .before .before .before .before .state-refusal .ensures) (c .before .before .before .before .before .before .before .before .before .before .if1 .left)) _ _ refl (ap isFree (c .before .before .before .before .before .before .before .before .request .given .1)))
+
+pub reply-spec : {M : Type 1} → statement M
+reply-spec =
+    tie.close
+    (tie.spec
+    state-refusal-requires
+    refused-requires
+    same-length
+    same-length-2
+    returns
+    enum-told
+    refused-requires-2
+    enum-known-request
+    fill-line-requires
+    same-length-3
+    same-length-4
+    returns-2
+    same-length-5
+    same-length-6
+    returns-3)

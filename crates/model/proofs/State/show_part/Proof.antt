@@ -1,0 +1,81 @@
+-- `State::show_part` meets its contract.
+use borrow.Author.Needs.{needs}
+use mathlib.Core.Path.{refl, sym, _∙_}
+use native.Mathlib.Omega.{arith}
+use borrow.Author.Tests.{lt-ltb, le-ltb}
+use Rattle.rules.specs.Calls as rules
+use denote.Ref.{now}
+use Rattle.rules.specs.Shape.{lineOf}
+use Rattle.model.specs.State.{hierarchyOf}
+use Rattle.model.proofs.CacheLoops.{found-slot, found-present}
+use Rattle.model.proofs.Moves.{show-refused, show-outside, show-absent, show-present}
+use Rattle.model.proofs.Calls.{state-refuses, state-opens, none-does}
+use Rattle.model.proofs.Facts.{fit-shaped}
+use Rattle.model.proofs.Facts.{fit-shaped}
+use Rattle.model.proofs.State.show_part.Statement.{statement}
+use Rattle.model.proofs.State.show_part.Tie as tie
+
+state-refusal-requires : tie.Need-state-refusal-requires
+state-refusal-requires c κs = search needs
+
+returns : tie.Need-returns
+returns c = (show-refused _ _ _ _ 0 (state-refuses _ _ _ _ (c .before .state-refusal .ensures) (c .if1 .taken)), omega arith)
+
+returns-2 : tie.Need-returns-2
+returns-2 c = (show-outside _ _ _ _ (none-does _ _ _ (state-opens (rules.show (c .before .before .before .before .before .before .args .address)) _ _ _ (c .before .before .before .state-refusal .ensures) (c .before .before .if1 .left)) refl) (c .if2 .taken), omega arith)
+
+cast-ways : tie.Need-cast-ways
+cast-ways c = search needs
+
+first-slot-requires : tie.Need-first-slot-requires
+first-slot-requires c κs =
+    let o = state-opens (rules.show (c .before .before .before .before .before .before .before .before .args .address)) _ _ _ (c .before .before .before .before .before .state-refusal .ensures) (c .before .before .before .before .if1 .left) in
+    let f = fit-shaped (c .before .before .before .before .before .before .before .before .args .self) (now (c .before .before .before .before .before .before .before .before .args .cache)) (now (c .before .before .before .before .before .before .before .before .args .memory)) (o .fit) in
+    (f .some-set, f .most-sets, f .most-ways)
+
+find-requires : tie.Need-find-requires
+find-requires c κs =
+    let o = state-opens (rules.show (c .before .before .before .before .before .before .before .before .before .args .address)) _ _ _ (c .before .before .before .before .before .before .state-refusal .ensures) (c .before .before .before .before .before .if1 .left) in
+    let f = fit-shaped (c .before .before .before .before .before .before .before .before .before .args .self) (now (c .before .before .before .before .before .before .before .before .before .args .cache)) (now (c .before .before .before .before .before .before .before .before .before .args .memory)) (o .fit) in
+    omega arith
+
+add-if3 : tie.Need-add-if3
+add-if3 c =
+    let o = state-opens (rules.show (c .before .before .before .before .before .before .before .before .before .before .args .address)) _ _ _ (c .before .before .before .before .before .before .before .state-refusal .ensures) (c .before .before .before .before .before .before .if1 .left) in
+    let f = fit-shaped (c .before .before .before .before .before .before .before .before .before .before .args .self) (now (c .before .before .before .before .before .before .before .before .before .before .args .cache)) (now (c .before .before .before .before .before .before .before .before .before .before .args .memory)) (o .fit) in
+    omega arith
+
+mul-t13 : tie.Need-mul-t13
+mul-t13 c =
+    let o = state-opens (rules.show (c .before .before .before .before .before .before .before .before .before .before .before .args .address)) _ _ _ (c .before .before .before .before .before .before .before .before .state-refusal .ensures) (c .before .before .before .before .before .before .before .if1 .left) in
+    let f = fit-shaped (c .before .before .before .before .before .before .before .before .before .before .before .args .self) (now (c .before .before .before .before .before .before .before .before .before .before .before .args .cache)) (now (c .before .before .before .before .before .before .before .before .before .before .before .args .memory)) (o .fit) in
+    omega arith
+
+returns-3 : tie.Need-returns-3
+unfolding lineOf
+returns-3 c =
+    let o = state-opens (rules.show (c .before .before .before .before .before .before .before .before .before .before .before .args .address)) _ _ _ (c .before .before .before .before .before .before .before .before .state-refusal .ensures) (c .before .before .before .before .before .before .before .if1 .left) in
+    let f = fit-shaped (c .before .before .before .before .before .before .before .before .before .before .before .args .self) (now (c .before .before .before .before .before .before .before .before .before .before .before .args .cache)) (now (c .before .before .before .before .before .before .before .before .before .before .before .args .memory)) (o .fit) in
+    (show-present _ _ _ _ (none-does _ _ _ o refl) _ (c .before .before .before .before .before .if2 .left) (sym (found-present (hierarchyOf (c .before .before .before .before .before .before .before .before .before .before .before .args .self) (now (c .before .before .before .before .before .before .before .before .before .before .before .args .cache)) (now (c .before .before .before .before .before .before .before .before .before .before .before .args .memory))) (lineOf (c .before .before .before .before .before .before .before .before .before .before .before .args .address)) _ _ (c .before .before .first-slot .ensures .0) (c .before .find .ensures)) ∙ lt-ltb _ _ (c .if3 .taken)) (found-slot (hierarchyOf (c .before .before .before .before .before .before .before .before .before .before .before .args .self) (now (c .before .before .before .before .before .before .before .before .before .before .before .args .cache)) (now (c .before .before .before .before .before .before .before .before .before .before .before .args .memory))) (lineOf (c .before .before .before .before .before .before .before .before .before .before .before .args .address)) _ _ (c .before .before .first-slot .ensures .0) (c .before .find .ensures)) (omega (arith, f .cache-long)), omega (arith, f .cache-long))
+
+returns-4 : tie.Need-returns-4
+unfolding lineOf
+returns-4 c =
+    let o = state-opens (rules.show (c .before .before .before .before .before .before .before .before .before .before .before .args .address)) _ _ _ (c .before .before .before .before .before .before .before .before .state-refusal .ensures) (c .before .before .before .before .before .before .before .if1 .left) in
+    let f = fit-shaped (c .before .before .before .before .before .before .before .before .before .before .before .args .self) (now (c .before .before .before .before .before .before .before .before .before .before .before .args .cache)) (now (c .before .before .before .before .before .before .before .before .before .before .before .args .memory)) (o .fit) in
+    (show-absent _ _ _ _ (none-does _ _ _ o refl) (c .before .before .before .before .before .if2 .left) (sym (found-present (hierarchyOf (c .before .before .before .before .before .before .before .before .before .before .before .args .self) (now (c .before .before .before .before .before .before .before .before .before .before .before .args .cache)) (now (c .before .before .before .before .before .before .before .before .before .before .before .args .memory))) (lineOf (c .before .before .before .before .before .before .before .before .before .before .before .args .address)) _ _ (c .before .before .first-slot .ensures .0) (c .before .find .ensures)) ∙ le-ltb _ _ (c .if3 .left)), omega arith)
+
+pub show-part-spec : {M : Type 1} → statement M
+show-part-spec =
+    tie.close
+    (tie.spec
+    state-refusal-requires
+    returns
+    returns-2
+    cast-ways
+    first-slot-requires
+    find-requires
+    add-if3
+    mul-t13
+    returns-3
+    returns-4)

@@ -1,0 +1,64 @@
+-- `State::store` meets its contract.
+use borrow.Author.Needs.{needs}
+use mathlib.Core.Path.{refl, sym, _∙_}
+use Rattle.queues.specs.Good.{sized}
+use Rattle.model.proofs.Calls.{state-refuses, state-opens, access-refuses, store-goes, passed-access}
+use Rattle.model.proofs.Facts.{access-width}
+use Rattle.model.proofs.Facts.{access-width}
+use Rattle.model.proofs.State.store.Statement.{statement}
+use Rattle.model.proofs.State.store.Tie as tie
+
+state-refusal-requires : tie.Need-state-refusal-requires
+state-refusal-requires c κs = search needs
+
+refused-requires : tie.Need-refused-requires
+refused-requires c κs = search needs
+
+returns : tie.Need-returns
+returns c = rw (c .refused .ensures) (sym (state-refuses _ _ _ _ (c .before .before .state-refusal .ensures) (c .before .if1 .taken)))
+
+check-access-requires : tie.Need-check-access-requires
+check-access-requires c κs = search needs
+
+enum-known-checked : tie.Need-enum-known-checked
+enum-known-checked c = search needs
+
+enum-told : tie.Need-enum-told
+enum-told c = search needs
+
+failure-requires : tie.Need-failure-requires
+failure-requires c κs = search needs
+
+refused-requires-2 : tie.Need-refused-requires-2
+refused-requires-2 c κs = search needs
+
+returns-2 : tie.Need-returns-2
+returns-2 c =
+    rw (c .refused2 .ensures, c .before .failure .ensures, c .before .before .enum-told .given .1)
+    (sym (access-refuses _ _ _ _ _ _ refl (state-opens _ _ _ _ (c .before .before .before .before .before .before .state-refusal .ensures) (c .before .before .before .before .before .if1 .left)) _ (sym (c .before .before .before .before .check-access .ensures) ∙ c .before .before .enum-told .given .1)))
+
+store-checked-requires : tie.Need-store-checked-requires
+store-checked-requires c κs =
+    let p = passed-access _ _ _ _ (sym (c .before .before .before .check-access .ensures) ∙ c .before .checked .given .1) in
+    rw (p .1) (access-width (sized (c .before .before .before .before .before .before .before .before .args .self .size)) (c .before .before .before .before .before .before .before .before .args .address) (c .before .before .before .before .before .before .before .before .args .width) (p .0))
+
+returns-3 : tie.Need-returns-3
+returns-3 c =
+    let e = sym (c .before .before .before .before .check-access .ensures) ∙ c .before .before .checked .given .1 in
+    c .store-checked .ensures _ _ ∙ rw (passed-access _ _ _ _ e .1) (store-goes _ _ _ _ _ (state-opens _ _ _ _ (c .before .before .before .before .before .before .state-refusal .ensures) (c .before .before .before .before .before .if1 .left)) _ e)
+
+pub store-spec : {M : Type 1} → statement M
+store-spec =
+    tie.close
+    (tie.spec
+    state-refusal-requires
+    refused-requires
+    returns
+    check-access-requires
+    enum-known-checked
+    enum-told
+    failure-requires
+    refused-requires-2
+    returns-2
+    store-checked-requires
+    returns-3)

@@ -1,0 +1,37 @@
+-- `check_access` meets its contract: each return by the tests that led there.
+use mathlib.Core.Path.{sym, _∙_}
+use Prim.Native.Nat.{_<_}
+use native.Mathlib.Omega.{arith}
+use borrow.Author.Needs.{needs}
+use Rattle.rules.specs.Calls.{guarded}
+use Rattle.model.specs.State.{checkedAccess}
+use Rattle.model.proofs.Calls.{access-uneven, access-out, access-in}
+use Rattle.model.proofs.Facts.{width-cases}
+use Rattle.model.proofs.access.check_access.Statement.{statement}
+use Rattle.model.proofs.access.check_access.Tie as tie
+
+width-allowed-requires : tie.Need-width-allowed-requires
+width-allowed-requires c κs = search needs
+
+rem-if2 : tie.Need-rem-if2
+rem-if2 c = width-cases (λ w. 0 < w) (omega arith) (omega arith) (omega arith) _ (sym (c .before .width-allowed .ensures) ∙ c .if1 .taken)
+
+returns : tie.Need-returns
+returns c = access-uneven _ _ _ (sym (c .before .before .width-allowed .ensures) ∙ c .before .if1 .taken) (c .if2 .taken)
+
+returns-2 : tie.Need-returns-2
+returns-2 c = access-out _ _ _ (sym (c .before .before .before .width-allowed .ensures) ∙ c .before .before .if1 .taken) (c .before .if2 .left) (omega arith)
+
+returns-3 : tie.Need-returns-3
+returns-3 c = access-out _ _ _ (sym (c .before .before .before .before .width-allowed .ensures) ∙ c .before .before .before .if1 .taken) (c .before .before .if2 .left) (omega arith)
+
+returns-4 : tie.Need-returns-4
+returns-4 c = access-in _ _ _ (sym (c .before .before .before .before .width-allowed .ensures) ∙ c .before .before .before .if1 .taken) (c .before .before .if2 .left) (omega arith)
+
+returns-5 : tie.Need-returns-5
+unfolding checkedAccess guarded
+returns-5 c = rw (sym (c .before .width-allowed .ensures) ∙ c .if1 .left)
+
+pub check-access-spec : {M : Type 1} → statement M
+check-access-spec =
+    tie.close (tie.spec width-allowed-requires rem-if2 returns returns-2 returns-3 returns-4 returns-5)

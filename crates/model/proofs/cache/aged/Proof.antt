@@ -1,0 +1,23 @@
+-- `aged` meets its contract: each of its three answers is that case of `agedAt`.
+use borrow.Author.Needs.{needs}
+use Rattle.model.proofs.CacheLoops.{aged-hit, aged-grown, aged-kept}
+use Rattle.model.proofs.cache.aged.Statement.{statement}
+use Rattle.model.proofs.cache.aged.Tie as tie
+
+returns : tie.Need-returns
+returns c =
+    aged-hit _ _ _ _ _ _ (c .if1 .taken)
+
+add-t8 : tie.Need-add-t8
+add-t8 c = search needs
+
+returns-2 : tie.Need-returns-2
+returns-2 c =
+    aged-grown _ _ _ _ _ _ (c .before .before .before .if1 .left) (c .before .before .before .before .pre .0) (c .before .before .before .before .pre .1) (c .before .if2 .taken)
+
+returns-3 : tie.Need-returns-3
+returns-3 c =
+    aged-kept _ _ _ _ _ _ (c .before .before .if1 .left) (c .before .before .before .pre .0) (c .before .before .before .pre .1) (c .if2 .left)
+
+pub aged-spec : {M : Type 1} → statement M
+aged-spec = tie.close (tie.spec returns add-t8 returns-2 returns-3)

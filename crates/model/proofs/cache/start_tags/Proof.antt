@@ -1,0 +1,87 @@
+-- `start_tags` meets its contract. The records that are left to age give the whole table.
+use mathlib.Core.Path.{_≡_, sym, _∙_}
+use Prim.Native.Nat.{_≤_, _-_, _*_}
+use native.Mathlib.Nat.{mod-lt}
+use native.Mathlib.Omega.{arith}
+use borrow.Author.Needs.{needs}
+use Rattle.lists.specs.Counted.{stepsFrom}
+use Rattle.lists.proofs.CountedLoops.{change, steps-next, steps-end}
+use Rattle.rules.specs.Shape.{noTag}
+use Rattle.model.proofs.CacheLoops.{startAt, start-each, start-at}
+use Rattle.model.proofs.cache.start_tags.Statement.{statement}
+use Rattle.model.proofs.cache.start_tags.Tie as tie
+
+abbrev Inv-loop : tie.InvT-loop
+Inv-loop sets ways out₀ count n k₀ out k =
+    (k ≤ count) × (stepsFrom (change (startAt sets ways) noTag) 0 count out₀ ≡ stepsFrom (change (startAt sets ways) noTag) k (count - k) out)
+
+abbrev μ-loop : tie.MeasureT-loop
+μ-loop sets ways out₀ count n k₀ out k = count - k
+
+mul-count : tie.Need-mul-count Inv-loop μ-loop
+mul-count c = search needs
+
+cast-count : tie.Need-cast-count Inv-loop μ-loop
+cast-count c = search needs
+
+loop-holds : tie.Need-loop-holds Inv-loop μ-loop
+loop-holds c =
+    let n = c .args .sets * c .args .ways in
+    let e : n - 0 ≡ n = omega arith in
+    (omega arith, rw e)
+
+mul-t : tie.Need-mul-t Inv-loop μ-loop
+mul-t c = search needs
+
+array-copy-out-t : tie.Need-array-copy-out-t Inv-loop μ-loop
+array-copy-out-t c = search needs
+
+rem-t11 : tie.Need-rem-t11 Inv-loop μ-loop
+rem-t11 c = search needs
+
+cast-t15 : tie.Need-cast-t15 Inv-loop μ-loop
+cast-t15 c =
+    omega (arith, mod-lt (c .before .before .loop .k) (c .before .before .before .pre .1))
+
+mul-out : tie.Need-mul-out Inv-loop μ-loop
+mul-out c = search needs
+
+array-set-from-out : tie.Need-array-set-from-out Inv-loop μ-loop
+array-set-from-out c = search needs
+
+add-k : tie.Need-add-k Inv-loop μ-loop
+add-k c = search needs
+
+loop-less : tie.Need-loop-less Inv-loop μ-loop
+loop-less c = search needs
+
+loop-again : tie.Need-loop-again Inv-loop μ-loop
+loop-again c =
+    let a = c .before .before .before .args in
+    let l = c .before .before .loop in
+    let t = c .before .loop-test .taken in
+    (omega arith, l .inv .1 ∙ (steps-next _ _ _ _ t ∙ rw (start-at (a .sets) (a .ways) (l .k) _ t)))
+
+returns : tie.Need-returns Inv-loop μ-loop
+returns c =
+    sym (steps-end _ _ _ _ (c .loop-test .left)) ∙ (sym (c .before .loop .inv .1) ∙ start-each (c .before .before .args .sets) (c .before .before .args .ways))
+
+pub start-tags-spec : {M : Type 1} → statement M
+start-tags-spec =
+    tie.close
+    (tie.spec
+    Inv-loop
+    μ-loop
+    mul-count
+    cast-count
+    loop-holds
+    mul-t
+    array-copy-out-t
+    rem-t11
+    cast-t15
+    mul-out
+    array-set-from-out
+    add-k
+    loop-less
+    loop-again
+    returns)

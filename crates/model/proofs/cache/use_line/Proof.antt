@@ -1,0 +1,39 @@
+-- `use_line` meets its contract: the line is found in its set, or is not there.
+use mathlib.Core.Path.{_∙_}
+use native.Mathlib.Omega.{arith}
+use borrow.Author.Needs.{needs}
+use Rattle.lists.proofs.Counting.{first-low}
+use Rattle.rules.specs.Shape.{tagAt}
+use Rattle.rules.specs.Lines.{holdsLine}
+use Rattle.model.proofs.CacheLoops.{use-hit, use-miss}
+use Rattle.model.proofs.cache.use_line.Statement.{statement}
+use Rattle.model.proofs.cache.use_line.Tie as tie
+
+first-slot-requires : tie.Need-first-slot-requires
+first-slot-requires c κs = search needs
+
+find-requires : tie.Need-find-requires
+find-requires c κs = search needs
+
+add-if1 : tie.Need-add-if1
+add-if1 c = search needs
+
+use-slot-requires : tie.Need-use-slot-requires
+use-slot-requires c κs =
+    let p = c .before .before .first-slot in
+    let a = c .before .before .before .args in
+    let low = first-low (λ k. holdsLine (a .line) (tagAt (a .tags) k)) (a .ways) (p .result) in
+    (omega (arith, p .ensures .1, p .ensures .2), omega (arith, c .before .find .ensures, low), c .if1 .taken)
+
+returns : tie.Need-returns
+returns c =
+    c .use-slot .ensures ∙ use-hit _ _ _ _ _ _ (c .before .before .before .first-slot .ensures .0) (c .before .before .find .ensures) (c .before .if1 .taken)
+
+returns-2 : tie.Need-returns-2
+returns-2 c =
+    use-miss _ _ _ _ _ _ (c .before .before .first-slot .ensures .0) (c .before .find .ensures) (c .if1 .left)
+
+pub use-line-spec : {M : Type 1} → statement M
+use-line-spec =
+    tie.close
+    (tie.spec first-slot-requires find-requires add-if1 use-slot-requires returns returns-2)

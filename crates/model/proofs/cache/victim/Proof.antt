@@ -1,0 +1,25 @@
+-- `victim` meets its contract: the lowest invalid way if there is one, else the way of greatest age.
+use borrow.Author.Needs.{needs}
+use Rattle.model.proofs.CacheLoops.{victim-invalid, victim-oldest}
+use Rattle.model.proofs.cache.victim.Statement.{statement}
+use Rattle.model.proofs.cache.victim.Tie as tie
+
+first-invalid-requires : tie.Need-first-invalid-requires
+first-invalid-requires c κs = search needs
+
+add-if1 : tie.Need-add-if1
+add-if1 c = search needs
+
+returns : tie.Need-returns
+returns c =
+    victim-invalid _ _ _ _ (c .before .first-invalid .ensures) (c .if1 .taken)
+
+oldest-requires : tie.Need-oldest-requires
+oldest-requires c κs = search needs
+
+returns-2 : tie.Need-returns-2
+returns-2 c =
+    victim-oldest _ _ _ _ (c .before .before .first-invalid .ensures) _ (c .oldest .ensures) (c .before .before .before .pre .0) (c .before .if1 .left)
+
+pub victim-spec : {M : Type 1} → statement M
+victim-spec = tie.close (tie.spec first-invalid-requires add-if1 returns oldest-requires returns-2)

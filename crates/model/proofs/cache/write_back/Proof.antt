@@ -1,0 +1,57 @@
+-- `write_back` meets its contract: a dirty line is copied to its place in memory, and a clean one is memory as it was.
+use mathlib.Core.Path.{_≡_, _∙_}
+use Prim.Native.Nat.{_-_, _+_, _*_}
+use native.Mathlib.Omega.{arith}
+use borrow.Author.Needs.{needs}
+use Rattle.model.proofs.CacheLoops.{fill-saves, clean-saves}
+use Rattle.model.proofs.cache.write_back.Statement.{statement}
+use Rattle.model.proofs.cache.write_back.Tie as tie
+
+cast-line : tie.Need-cast-line
+cast-line c = search needs
+
+mul-from : tie.Need-mul-from
+mul-from c = search needs
+
+add-end : tie.Need-add-end
+add-end c = search needs
+
+sub-fill-slot : tie.Need-sub-fill-slot
+sub-fill-slot c = search needs
+
+part-fill-slot-start : tie.Need-part-fill-slot-start
+part-fill-slot-start c = search needs
+
+part-fill-slot-end : tie.Need-part-fill-slot-end
+part-fill-slot-end c = search needs
+
+fill-slot-requires : tie.Need-fill-slot-requires
+fill-slot-requires c κs =
+    (search needs, c .before .before .before .before .before .before .pre .1 (c .before .before .before .if1 .taken))
+
+same-length : tie.Need-same-length
+same-length c = search needs
+
+returns : tie.Need-returns
+returns c =
+    let e : 16 * c .before .before .before .before .before .before .before .before .before .args .v + 16 - 16 * c .before .before .before .before .before .before .before .before .before .args .v ≡ 16 = omega arith in
+    rw e at (c .before .before .fill-slot .ensures) ∙ fill-saves _ _ _ _ (c .before .before .before .before .before .before .if1 .taken)
+
+returns-2 : tie.Need-returns-2
+returns-2 c =
+    clean-saves _ _ _ _ (c .if1 .left)
+
+pub write-back-spec : {M : Type 1} → statement M
+write-back-spec =
+    tie.close
+    (tie.spec
+    cast-line
+    mul-from
+    add-end
+    sub-fill-slot
+    part-fill-slot-start
+    part-fill-slot-end
+    fill-slot-requires
+    same-length
+    returns
+    returns-2)

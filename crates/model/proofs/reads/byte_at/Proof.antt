@@ -1,0 +1,40 @@
+-- `byte_at` meets its contract.
+use borrow.Author.Needs.{needs}
+use mathlib.Core.Path.{sym, _∙_}
+use native.Mathlib.Omega.{arith}
+use Rattle.model.proofs.Reading.{known-byte, line-byte, no-byte}
+use Rattle.model.proofs.reads.byte_at.Statement.{statement}
+use Rattle.model.proofs.reads.byte_at.Tie as tie
+
+forward-requires : tie.Need-forward-requires
+forward-requires c κs = search needs
+
+enum-known-b : tie.Need-enum-known-b
+enum-known-b c = search needs
+
+enum-told : tie.Need-enum-told
+enum-told c = search needs
+
+shared-slice-read-t13 : tie.Need-shared-slice-read-t13
+shared-slice-read-t13 c = omega (arith, c .before .before .before .before .before .before .pre (c .before .if1 .taken))
+
+returns : tie.Need-returns
+returns c = known-byte _ _ _ _ _ _ _ (sym (c .before .before .before .forward .ensures) ∙ c .before .b .given .1)
+
+returns-2 : tie.Need-returns-2
+returns-2 c = line-byte _ _ _ _ _ _ (sym (c .before .before .before .before .forward .ensures) ∙ c .before .before .enum-told .given .1) (c .before .if1 .taken)
+
+returns-3 : tie.Need-returns-3
+returns-3 c = no-byte _ _ _ _ _ _ (sym (c .before .before .before .forward .ensures) ∙ c .before .enum-told .given .1) (c .if1 .left)
+
+pub byte-at-spec : {M : Type 1} → statement M
+byte-at-spec =
+    tie.close
+    (tie.spec
+    forward-requires
+    enum-known-b
+    enum-told
+    shared-slice-read-t13
+    returns
+    returns-2
+    returns-3)

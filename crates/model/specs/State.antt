@@ -1,0 +1,119 @@
+-- The state as a struct, beside the two halves of the rules; answers and calls of the code as those of the rules.
+use Prim.Native.Nat.{ℕ, _+_, _*_, _%_, _<_, _≤_}
+use mathlib.Core.Path.{_≡_}
+use mathlib.Core.Bool.{cond, not}
+use mathlib.Core.List.{List, [], _∷_}
+use lib.ListN.{take, drop}
+use Rattle.lists.specs.Padded.{any}
+use Rattle.rules.specs.Shape.{Queues, Hierarchy, World, world, isFreeStore}
+use Rattle.rules.specs.Calls.{Outcome, guarded, accessChecks}
+use Rattle.rules.specs.Calls as rules
+use Rattle.queues.specs.Good.{sized}
+use Rattle.model.specs.declared.State.{State}
+use Rattle.model.specs.declared.Step.{Step}
+use Rattle.model.specs.declared.Call.{Call}
+use Rattle.model.specs.declared.Call.the-variants.{Load, Store, Retry, Commit, Abort, Idle, Reply, Flush, Show}
+use Rattle.model.specs.declared.Answer.{Answer}
+use Rattle.model.specs.declared.Answer.the-variants.{Refused, Stored, Value, Waits, Committed, Kept, Drained, Requested, Idled, Filled, Flushed, Shown}
+use Rattle.model.specs.declared.access.Checked.{Checked}
+use Rattle.model.specs.declared.access.Checked.the-variants.{Passed, Failed}
+
+-- ---- the state
+
+abbrev pub queuesOf : State → Queues
+queuesOf s = record {
+  last = s .last;
+  committed = s .committed;
+  request = s .request;
+  stores = s .stores;
+  loads = s .loads;
+}
+
+abbrev pub hierarchyOf : State → List ℕ → List ℕ → Hierarchy
+hierarchyOf s cache memory = record {
+  sets = s .sets;
+  ways = s .ways;
+  size = s .size;
+  tags = s .tags;
+  cache = cache;
+  memory = memory;
+}
+
+abbrev pub worldOf : State → List ℕ → List ℕ → World
+worldOf s cache memory = world (queuesOf s) (hierarchyOf s cache memory)
+
+-- ---- answers, with 01's numbers and values for each case
+
+-- the part of the lent cache that show line gives stands beside its place
+abbrev pub answerOf : Answer → List ℕ → rules.Answer
+answerOf (Refused k) cache = rules.refused k
+answerOf (Stored i) cache = rules.stored i
+answerOf (Value i v) cache = rules.value i v
+answerOf (Waits i) cache = rules.waits i
+answerOf (Committed k) cache = rules.committed k
+answerOf (Kept k) cache = rules.kept k
+answerOf (Drained i) cache = rules.drained i
+answerOf (Requested a) cache = rules.requested a
+answerOf Idled cache = rules.idled
+answerOf (Filled a) cache = rules.filled a
+answerOf (Flushed k) cache = rules.flushed k
+answerOf (Shown p n) cache = rules.shown p (take n (drop p cache))
+
+-- what a call hands back, with the cache and the memory that it leaves
+abbrev pub outcomeOf : Step → List ℕ → List ℕ → Outcome
+outcomeOf r cache memory =
+    record { answer = answerOf (r .answer) cache; queues = queuesOf (r .next); hierarchy = hierarchyOf (r .next) cache memory }
+
+-- ---- calls
+
+abbrev pub callOf : Call → rules.Call
+callOf (Load a w) = rules.load a w
+callOf (Store a w v) = rules.store a w v
+callOf (Retry i) = rules.retry i
+callOf (Commit k) = rules.commit k
+callOf (Abort n) = rules.abort n
+callOf Idle = rules.idle
+callOf Reply = rules.reply
+callOf Flush = rules.flush
+callOf (Show a) = rules.show a
+
+-- ---- the checked access
+
+-- checks 2, 3 and 4: the access, or the refusal's number
+unfoldable pub checkedAccess : ℕ → ℕ → ℕ → Checked
+checkedAccess size a w = guarded (accessChecks (sized size) a w) (λ k. Failed k) (Passed (record { address = a; width = w }))
+
+-- the number of a failed check
+abbrev pub failureOf : Checked → ℕ
+failureOf (Passed a) = 0
+failureOf (Failed k) = k
+
+-- ---- what check 1 and the access checks leave to the functions behind them
+
+pub record Shaped (s : State) (cacheLength : ℕ) : Type 0 where
+  pub some-set : 0 < s .sets
+  pub most-sets : s .sets ≤ 64
+  pub some-way : 0 < s .ways
+  pub most-ways : s .ways ≤ 4
+  pub cache-long : cacheLength ≡ s .sets * s .ways * 16
+
+-- an access lies in one line of memory
+pub record Fine (a w : ℕ) : Type 0 where
+  pub some-byte : 0 < w
+  pub narrow : w ≤ 4
+  pub one-line : a % 16 + w ≤ 16
+  pub inside : a + w ≤ 65536
+
+-- ---- what follows the access checks of a store: checks 5, 13 and 11, then the rule
+
+unfoldable pub storeRest : ℕ → ℕ → ℕ → Queues → Hierarchy → Outcome
+storeRest a w v q b =
+    guarded (rules.valueCheck w v ∷ rules.numberCheck q ∷ rules.check 11 (not (any isFreeStore (q .stores))) ∷ [])
+    (λ k. rules.unchanged (rules.refused k) q b) (rules.storeRule a w v q b)
+
+-- ---- idle, where nothing drains: (b), (c) and (d)
+
+unfoldable pub idleRequest : Queues → Hierarchy → Outcome
+idleRequest q b =
+    cond (rules.canRequestLoad q b) (rules.requestLine (rules.lowestWanting q b .address) q b)
+    (cond (rules.canRequestStore q b) (rules.requestLine (rules.oldestStore q .address) q b) (rules.unchanged rules.idled q b))

@@ -1,0 +1,61 @@
+-- Tables of tag records by themselves, as the code has them: what the rules make of a hierarchy with these records.
+use Prim.Native.Nat.{ℕ, _+_, _*_, _<_, _≤_}
+use mathlib.Core.Path.{_≡_}
+use mathlib.Core.Bool.{true, false, cond, not}
+use lib.Dec.{ltb}
+use mathlib.Core.List.{List, []}
+use lib.ListN.{set}
+use Rattle.lists.specs.Counted.{firstFrom, greatestFrom, stepsFrom, eachFrom}
+use Rattle.rules.specs.declared.Tag.{Tag}
+use Rattle.rules.specs.Shape.{Hierarchy, tagAt, lineOf}
+use Rattle.rules.specs.Calls.{answeredBy}
+use Rattle.rules.specs.declared.LoadEntry.{LoadEntry}
+use Rattle.rules.specs.Lines.{agedAt, useLine, writeBackSlot}
+
+-- the hierarchy of these figures, records and bytes
+abbrev pub hierarchy : ℕ → ℕ → ℕ → List Tag → List ℕ → List ℕ → Hierarchy
+hierarchy sets ways size tags cache memory =
+    record { sets = sets; ways = ways; size = size; tags = tags; cache = cache; memory = memory }
+
+-- with no bytes
+abbrev pub tabled : ℕ → ℕ → List Tag → Hierarchy
+tabled sets ways tags = hierarchy sets ways 0 tags [] []
+
+-- the records once the line is used, if it is present
+unfoldable pub usedTags : ℕ → ℕ → ℕ → List Tag → List Tag
+usedTags sets ways l tags = useLine l (tabled sets ways tags) .tags
+
+-- "the lowest invalid way of the set, else the way of greatest age", as a slot, of the set from slot f on
+unfoldable pub victimIn : List Tag → ℕ → ℕ → ℕ
+victimIn tags f ways =
+    let k = firstFrom (λ k. not (tagAt tags k .valid)) f ways in
+    cond (ltb k (f + ways)) k (greatestFrom (λ k. tagAt tags k .age) f f ways)
+
+-- ---- flush
+
+-- with no figures, which a flush does not look at
+abbrev pub held : List Tag → List ℕ → List ℕ → Hierarchy
+held = hierarchy 0 0 0
+
+-- memory, and the records, once the first n slots are written back, slot by slot
+unfoldable pub flushedMemory : ℕ → List Tag → List ℕ → List ℕ → List ℕ
+flushedMemory n tags cache memory = stepsFrom writeBackSlot 0 n (held tags cache memory) .memory
+
+unfoldable pub flushedTags : ℕ → List Tag → List Tag
+flushedTags n tags = stepsFrom writeBackSlot 0 n (held tags [] []) .tags
+
+-- the dirty lines of the first n slots lie in a memory of so many bytes
+abbrev pub DirtyInside : List Tag → ℕ → ℕ → Type 0
+DirtyInside tags n size = (k : ℕ) → k < n → tagAt tags k .dirty ≡ true → 16 * tagAt tags k .line + 16 ≤ size
+
+-- ---- commit and fill
+
+-- the records once the line of an answered load numbered k or less is used, if it is present
+unfoldable pub usedBy : ℕ → ℕ → ℕ → LoadEntry → List Tag → List Tag
+usedBy sets ways k l tags = cond (answeredBy k l) (usedTags sets ways (lineOf (l .address)) tags) tags
+
+-- the records once line l is in slot v, valid and clean, and is used
+unfoldable pub installedIn : ℕ → ℕ → ℕ → ℕ → List Tag → List Tag
+installedIn f ways v l tags =
+    let t : Tag = record { valid = true; dirty = false; line = l; age = tagAt tags v .age } in
+    eachFrom (agedAt f ways v (tagAt (set tags v t) v .age)) 0 (set tags v t)

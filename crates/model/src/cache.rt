@@ -1,0 +1,505 @@
+// The cache: where a line stands, use, the victim, and the bytes of a line.
+// A record is named by its slot, s × ways + w for way w of set s; a set's records stand from its first slot on.
+ghost use mathlib.Core.Path.{_≡_};
+ghost use mathlib.Core.Bool.{cond, not, true};
+ghost use Prim.Native.Nat.{_+_, _*_, _/_, _%_, _<_, _≤_};
+ghost use lib.Dec.{eqb};
+ghost use lib.ListN.{length, getD, drop, replicate};
+ghost use Rattle.lists.specs.Padded.{every, filter};
+ghost use Rattle.lists.specs.Counted.{firstFrom, greatestFrom, eachFrom};
+ghost use Rattle.lists.specs.Bytes.{overlaid};
+ghost use Rattle.rules.specs.Shape.{tagAt, fits};
+ghost use Rattle.rules.specs.Lines.{holdsLine, agedAt, writtenBackAt};
+ghost use Rattle.rules.specs.WellFormed.{zeroTag, linesFormed};
+ghost use Rattle.rules.specs.Runs.{startTags};
+ghost use Rattle.model.specs.Tables.{hierarchy, usedTags, victimIn, flushedMemory, flushedTags, DirtyInside};
+ghost use Rattle.model.specs.SlotTests.{sameBytes, zeroBytes, validGood, invalidGood, slotGood, sameAgeOrLine, apartFrom};
+use rules::Tag;
+
+// The first slot of the line's set: "Set = line number modulo sets."
+pub(crate) fn first_slot(sets: u32, ways: u32, line: u32) -> usize
+    requires { ⌜ (0 < sets) × (sets ≤ 64) × (ways ≤ 4) ⌝ }
+    ensures { λ r. ⌜ (r ≡ (line % sets) * ways) × (r + ways ≤ sets * ways) × (sets * ways ≤ 256) ⌝ }
+{
+    ((line % sets) * ways) as usize
+}
+
+// A valid record that names the line.
+pub(crate) fn holds_line(t: Tag, line: u32) -> bool
+    ensures { λ r. ⌜ r ≡ holdsLine line t ⌝ }
+{
+    if t.valid {
+        (t.line as u32) == line
+    } else {
+        false
+    }
+}
+
+// The slot of the set that has the line; where none has it, the first slot after the set.
+pub(crate) fn find(tags: [Tag; 256], first: usize, ways: usize, line: u32) -> usize
+    requires { ⌜ first + ways ≤ 256 ⌝ }
+    ensures { λ r. ⌜ r ≡ firstFrom (λ k. holdsLine line (tagAt tags k)) first ways ⌝ }
+{
+    let end = first + ways;
+    let mut k = first;
+    while k < end {
+        let t = tags[k];
+        if holds_line(t, line) {
+            return k;
+        }
+        k += 1;
+    }
+    k
+}
+
+// The record of slot k, when slot v of the set is used, whose age was age.
+fn aged(t: Tag, first: usize, ways: usize, v: usize, age: u8, k: usize) -> Tag
+    requires { ⌜ (first ≤ k) × (k < first + ways) ⌝ }
+    ensures { λ r. ⌜ r ≡ agedAt first ways v age k t ⌝ }
+{
+    if k == v {
+        return Tag {
+            valid: t.valid,
+            dirty: t.dirty,
+            line: t.line,
+            age: 0,
+        };
+    }
+    if t.age < age {
+        return Tag {
+            valid: t.valid,
+            dirty: t.dirty,
+            line: t.line,
+            age: t.age + 1,
+        };
+    }
+    t
+}
+
+// "Use gives a line age 0 and adds 1 to each smaller age in its set": slot v is used.
+pub(crate) fn use_slot(tags: [Tag; 256], first: usize, ways: usize, v: usize) -> [Tag; 256]
+    requires { ⌜ (first + ways ≤ 256) × (first ≤ v) × (v < first + ways) ⌝ }
+    ensures { λ r. ⌜ r ≡ eachFrom (agedAt first ways v (tagAt tags v .age)) 0 tags ⌝ }
+{
+    let mut out = tags;
+    let used = tags[v];
+    let age = used.age;
+    let end = first + ways;
+    let mut k = first;
+    while k < end {
+        let t = out[k];
+        let a = aged(t, first, ways, v, age, k);
+        out[k] = a;
+        k += 1;
+    }
+    out
+}
+
+// The line is used, if it is present.
+pub(crate) fn use_line(tags: [Tag; 256], sets: u32, ways: u32, line: u32) -> [Tag; 256]
+    requires { ⌜ (0 < sets) × (sets ≤ 64) × (ways ≤ 4) ⌝ }
+    ensures { λ r. ⌜ r ≡ usedTags sets ways line tags ⌝ }
+{
+    let first = first_slot(sets, ways, line);
+    let n = ways as usize;
+    let v = find(tags, first, n, line);
+    if v < first + n {
+        return use_slot(tags, first, n, v);
+    }
+    tags
+}
+
+// The lowest invalid way of the set; where none is, the first slot after the set.
+fn first_invalid(tags: [Tag; 256], first: usize, ways: usize) -> usize
+    requires { ⌜ first + ways ≤ 256 ⌝ }
+    ensures { λ r. ⌜ r ≡ firstFrom (λ k. not (tagAt tags k .valid)) first ways ⌝ }
+{
+    let end = first + ways;
+    let mut k = first;
+    while k < end {
+        let t = tags[k];
+        if t.valid {
+            k += 1;
+        } else {
+            return k;
+        }
+    }
+    k
+}
+
+// The way of greatest age, the lowest of several.
+fn oldest(tags: [Tag; 256], first: usize, ways: usize) -> usize
+    requires { ⌜ (0 < ways) × (first + ways ≤ 256) ⌝ }
+    ensures { λ r. ⌜ r ≡ greatestFrom (λ k. tagAt tags k .age) first first ways ⌝ }
+{
+    let end = first + ways;
+    let mut best = first;
+    let mut k = first;
+    while k < end {
+        let t = tags[k];
+        let u = tags[best];
+        if u.age < t.age {
+            best = k;
+        }
+        k += 1;
+    }
+    best
+}
+
+// "the lowest invalid way of the set, else the way of greatest age"
+pub(crate) fn victim(tags: [Tag; 256], first: usize, ways: usize) -> usize
+    requires { ⌜ (0 < ways) × (first + ways ≤ 256) ⌝ }
+    ensures { λ r. ⌜ (r ≡ victimIn tags first ways) × (first ≤ r) × (r < first + ways) ⌝ }
+{
+    let k = first_invalid(tags, first, ways);
+    if k < first + ways {
+        return k;
+    }
+    oldest(tags, first, ways)
+}
+
+// The 16 bytes of src go into slot v: "the reply copies the line's 16 bytes out of the middle of memory".
+pub(crate) fn fill_slot(cache: &mut [u8], v: usize, src: &[u8])
+    requires { ⌜ (length (now src) ≡ 16) × (16 * v + 16 ≤ length (now cache)) ⌝ }
+    ensures { λ _. ⌜ now (cache .exit) ≡ eachFrom (λ j x. cond (eqb (j / 16) v) (getD (now (src .entry)) (j % 16) 0) x) 0 (now (cache .entry)) ⌝ }
+{
+    let at = 16 * v;
+    let mut i: usize = 0;
+    while i < 16 {
+        cache[at + i] = src[i];
+        i += 1;
+    }
+}
+
+// The line of record t, in slot v, is written to memory if it is dirty.
+pub(crate) fn write_back(t: Tag, v: usize, cache: &[u8], memory: &mut [u8])
+    requires { ⌜ (16 * v + 16 ≤ length (now cache)) × (t .dirty ≡ true → 16 * t .line + 16 ≤ length (now memory)) ⌝ }
+    ensures { λ _. ⌜ now (memory .exit) ≡ eachFrom (writtenBackAt t (now (cache .entry)) v) 0 (now (memory .entry)) ⌝ }
+{
+    if t.dirty {
+        let line = t.line as usize;
+        let from = 16 * v;
+        let end = from + 16;
+        fill_slot(memory, line, &cache[from..end]);
+    }
+}
+
+// The lowest bytes of the value, width of them, go to place at and the places after it.
+pub(crate) fn put_store(cache: &mut [u8], at: usize, width: u32, value: u32)
+    requires { ⌜ (width ≤ 4) × (at + width ≤ length (now cache)) ⌝ }
+    ensures { λ _. ⌜ now (cache .exit) ≡ eachFrom (overlaid at width value) 0 (now (cache .entry)) ⌝ }
+{
+    let n = width as usize;
+    let mut rest = value;
+    let mut i: usize = 0;
+    while i < n {
+        cache[at + i] = (rest % 256) as u8;
+        rest = rest / 256;
+        i += 1;
+    }
+}
+
+// "writes every dirty line to memory": the lines of the first count slots, slot by slot.
+pub(crate) fn write_back_all(tags: [Tag; 256], count: usize, cache: &[u8], memory: &mut [u8])
+    requires { ⌜ (count ≤ 256) × (16 * count ≤ length (now cache)) × DirtyInside tags count (length (now memory)) ⌝ }
+    ensures { λ _. ⌜ now (memory .exit) ≡ flushedMemory count tags (now (cache .entry)) (now (memory .entry)) ⌝ }
+{
+    let mut k: usize = 0;
+    while k < count {
+        let t = tags[k];
+        write_back(t, k, cache, memory);
+        k += 1;
+    }
+}
+
+// ".. marks it clean": the records of the first count slots.
+pub(crate) fn clean_all(tags: [Tag; 256], count: usize) -> [Tag; 256]
+    requires { ⌜ count ≤ 256 ⌝ }
+    ensures { λ r. ⌜ r ≡ flushedTags count tags ⌝ }
+{
+    let mut out = tags;
+    let mut k: usize = 0;
+    while k < count {
+        let t = out[k];
+        out[k] = Tag {
+            valid: t.valid,
+            dirty: false,
+            line: t.line,
+            age: t.age,
+        };
+        k += 1;
+    }
+    out
+}
+
+// 1 for a dirty record, else 0.
+fn dirty_one(t: Tag) -> u32
+    ensures { λ r. ⌜ (r ≡ cond (t .dirty) 1 0) × (r ≤ 1) ⌝ }
+{
+    if t.dirty { 1 } else { 0 }
+}
+
+// The number of dirty records.
+pub(crate) fn dirty_count(tags: [Tag; 256]) -> u32
+    ensures { λ r. ⌜ r ≡ length (filter (λ t. t .dirty) tags) ⌝ }
+{
+    let mut n: u32 = 0;
+    let mut k: usize = 0;
+    while k < 256 {
+        let t = tags[k];
+        n += dirty_one(t);
+        k += 1;
+    }
+    n
+}
+
+// "gives way w age w, invalidates every record": slot s × ways + w has age w; the other records are zero.
+pub(crate) fn start_tags(sets: u32, ways: u32) -> [Tag; 256]
+    requires { ⌜ (sets * ways ≤ 256) × (0 < ways) × (ways ≤ 4) ⌝ }
+    ensures { λ r. ⌜ r ≡ startTags sets ways ⌝ }
+{
+    let zero = Tag {
+        valid: false,
+        dirty: false,
+        line: 0,
+        age: 0,
+    };
+    let mut out = [zero; 256];
+    let count = (sets * ways) as usize;
+    let n = ways as usize;
+    let mut k: usize = 0;
+    while k < count {
+        let t = out[k];
+        out[k] = Tag {
+            valid: t.valid,
+            dirty: t.dirty,
+            line: t.line,
+            age: (k % n) as u8,
+        };
+        k += 1;
+    }
+    out
+}
+
+// "Start zeroes the cache bytes".
+pub(crate) fn zero_cache(cache: &mut [u8])
+    ensures { λ _. ⌜ now (cache .exit) ≡ replicate (length (now (cache .entry))) 0 ⌝ }
+{
+    let mut i: usize = 0;
+    while i < cache.len() {
+        cache[i] = 0;
+        i += 1;
+    }
+}
+
+// ---- the clauses of well-formed states that speak of the lines
+
+// The 16 bytes of the cache from place at on equal those of memory from place from on. (The loop has no early exit: in a
+// well-formed state none would be taken, and the compiler makes vector code of it.)
+fn same_bytes(cache: &[u8], at: usize, memory: &[u8], from: usize) -> bool
+    requires { ⌜ (at + 16 ≤ length (now cache)) × (from + 16 ≤ length (now memory)) ⌝ }
+    ensures { λ r. ⌜ r ≡ sameBytes (now (cache .entry)) at (now (memory .entry)) from ⌝ }
+{
+    let mut same = true;
+    let mut i: usize = 0;
+    while i < 16 {
+        if cache[at + i] != memory[from + i] {
+            same = false;
+        }
+        i += 1;
+    }
+    same
+}
+
+// The 16 bytes of the cache from place at on are zero.
+fn zero_bytes(cache: &[u8], at: usize) -> bool
+    requires { ⌜ at + 16 ≤ length (now cache) ⌝ }
+    ensures { λ r. ⌜ r ≡ zeroBytes (now (cache .entry)) at ⌝ }
+{
+    let mut zero = true;
+    let mut i: usize = 0;
+    while i < 16 {
+        if cache[at + i] != 0 {
+            zero = false;
+        }
+        i += 1;
+    }
+    zero
+}
+
+// A valid record t, in slot k of set s: "a valid line lies in memory, is in its own set", "clean lines equal memory".
+fn valid_good(t: Tag, s: u32, k: usize, sets: u32, size: u32, cache: &[u8], memory: &[u8]) -> bool
+    requires { ⌜ (0 < sets) × (16 * k + 16 ≤ length (now cache)) × (size % 16 ≡ 0) × (size ≤ length (now memory)) ⌝ }
+    ensures { λ r. ⌜ r ≡ validGood sets size (now (cache .entry)) (now (memory .entry)) s k t ⌝ }
+{
+    let line = t.line as u32;
+    if size <= 16 * line {
+        return false;
+    }
+    if line % sets != s {
+        return false;
+    }
+    if t.dirty {
+        return true;
+    }
+    same_bytes(cache, 16 * k, memory, 16 * (line as usize))
+}
+
+// An invalid record t, in slot k: "an invalid record is zero but for its age, with zero cache bytes".
+fn invalid_good(t: Tag, k: usize, cache: &[u8]) -> bool
+    requires { ⌜ 16 * k + 16 ≤ length (now cache) ⌝ }
+    ensures { λ r. ⌜ r ≡ invalidGood (now (cache .entry)) k t ⌝ }
+{
+    if t.dirty {
+        return false;
+    }
+    if t.line != 0 {
+        return false;
+    }
+    zero_bytes(cache, 16 * k)
+}
+
+// The record t of slot k, in set s, is well formed by itself.
+fn slot_good(
+    t: Tag,
+    s: u32,
+    k: usize,
+    sets: u32,
+    ways: u32,
+    size: u32,
+    cache: &[u8],
+    memory: &[u8],
+) -> bool
+    requires { ⌜ (0 < sets) × (16 * k + 16 ≤ length (now cache)) × (size % 16 ≡ 0) × (size ≤ length (now memory)) ⌝ }
+    ensures { λ r. ⌜ r ≡ slotGood sets ways size (now (cache .entry)) (now (memory .entry)) s k t ⌝ }
+{
+    if ways <= t.age as u32 {
+        return false;
+    }
+    if t.valid {
+        return valid_good(t, s, k, sets, size, cache, memory);
+    }
+    invalid_good(t, k, cache)
+}
+
+// The records have the same age, or are valid with the same line.
+fn alike(u: Tag, t: Tag) -> bool
+    ensures { λ r. ⌜ r ≡ sameAgeOrLine u t ⌝ }
+{
+    if u.age == t.age {
+        return true;
+    }
+    if t.valid {
+        return holds_line(u, t.line as u32);
+    }
+    false
+}
+
+// None of the first w records of the set has the age or the line of t.
+fn apart(set: [Tag; 8], w: usize, t: Tag) -> bool
+    requires { ⌜ w ≤ 8 ⌝ }
+    ensures { λ r. ⌜ r ≡ apartFrom set w t ⌝ }
+{
+    let mut j: usize = 0;
+    while j < w {
+        let u = set[j];
+        if alike(u, t) {
+            return false;
+        }
+        j += 1;
+    }
+    true
+}
+
+// A record that is all zero.
+fn zero_tag(t: Tag) -> bool
+    ensures { λ r. ⌜ r ≡ zeroTag t ⌝ }
+{
+    if t.valid {
+        return false;
+    }
+    if t.dirty {
+        return false;
+    }
+    if t.line != 0 {
+        return false;
+    }
+    t.age == 0
+}
+
+// "unused records are all zero": those from slot count on.
+fn unused_zero(tags: [Tag; 256], count: usize) -> bool
+    requires { ⌜ count ≤ 256 ⌝ }
+    ensures { λ r. ⌜ r ≡ every zeroTag (drop count tags) ⌝ }
+{
+    let mut k = count;
+    while k < 256 {
+        let t = tags[k];
+        if zero_tag(t) {
+            k += 1;
+        } else {
+            return false;
+        }
+    }
+    true
+}
+
+// The records of the slots in use, set by set, when the unused ones are zero. The first w places of the array have the
+// records of the set so far.
+fn slots_good(
+    tags: [Tag; 256],
+    sets: u32,
+    ways: u32,
+    size: u32,
+    cache: &[u8],
+    memory: &[u8],
+) -> bool
+    requires { ⌜ (fits (hierarchy sets ways size tags (now cache) (now memory)) ≡ true) × (every zeroTag (drop (sets * ways) tags) ≡ true) ⌝ }
+    ensures { λ r. ⌜ r ≡ linesFormed (hierarchy sets ways size tags (now (cache .entry)) (now (memory .entry))) ⌝ }
+{
+    let any = tags[0];
+    let mut set = [any; 8];
+    let count = (sets * ways) as usize;
+    let n = ways as usize;
+    let mut s: u32 = 0;
+    let mut w: usize = 0;
+    let mut k: usize = 0;
+    while k < count {
+        let t = tags[k];
+        if slot_good(t, s, k, sets, ways, size, cache, memory) {
+            if apart(set, w, t) {
+                set[w] = t;
+                k += 1;
+                w += 1;
+                if w == n {
+                    w = 0;
+                    s += 1;
+                }
+            } else {
+                return false;
+            }
+        } else {
+            return false;
+        }
+    }
+    true
+}
+
+// The clauses of the lines: all that well-formed asks of the records, the cache and memory.
+pub(crate) fn lines_good(
+    tags: [Tag; 256],
+    sets: u32,
+    ways: u32,
+    size: u32,
+    cache: &[u8],
+    memory: &[u8],
+) -> bool
+    requires { ⌜ fits (hierarchy sets ways size tags (now cache) (now memory)) ≡ true ⌝ }
+    ensures { λ r. ⌜ r ≡ linesFormed (hierarchy sets ways size tags (now (cache .entry)) (now (memory .entry))) ⌝ }
+{
+    let count = (sets * ways) as usize;
+    if unused_zero(tags, count) {
+        return slots_good(tags, sets, ways, size, cache, memory);
+    }
+    false
+}

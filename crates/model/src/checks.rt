@@ -1,0 +1,145 @@
+// Checks 1 and 10: whether the figures are allowed and the lent lengths agree, and whether the state is well formed.
+ghost use mathlib.Core.Path.{_≡_};
+ghost use mathlib.Core.Bool.{true, _&&_};
+ghost use Prim.Native.Nat.{_*_};
+ghost use Rattle.rules.specs.Shape.{setsAllowed, figuresAllowed, fits};
+ghost use Rattle.rules.specs.Lines.{present};
+ghost use Rattle.rules.specs.Calls.{guarded};
+ghost use Rattle.rules.specs.WellFormed.{requestAbsent, requestInside, requestWanted};
+ghost use Rattle.rules.specs.Runs.{stateChecks};
+ghost use Rattle.model.specs.Tables.{tabled};
+ghost use Rattle.queues.specs.Good.{sized};
+ghost use Rattle.model.specs.State.{queuesOf, hierarchyOf, Shaped};
+use crate::Answer;
+use crate::State;
+use crate::Step;
+use crate::cache;
+use rules::Request;
+
+// "Sets: 1, 2, 4, 8, 16, 32 or 64."
+fn sets_allowed(n: u32) -> bool
+    ensures { λ r. ⌜ r ≡ setsAllowed n ⌝ }
+{
+    if n == 1 {
+        return true;
+    }
+    if n == 2 {
+        return true;
+    }
+    if n == 4 {
+        return true;
+    }
+    if n == 8 {
+        return true;
+    }
+    if n == 16 {
+        return true;
+    }
+    if n == 32 {
+        return true;
+    }
+    n == 64
+}
+
+// The figures are allowed.
+pub(crate) fn figures_allowed(sets: u32, ways: u32, size: usize) -> bool
+    ensures { λ r. ⌜ r ≡ figuresAllowed sets ways size ⌝ }
+{
+    if sets_allowed(sets) {
+        if ways < 1 {
+            return false;
+        }
+        if 4 < ways {
+            return false;
+        }
+        if size % 16 != 0 {
+            return false;
+        }
+        if size < 16 {
+            return false;
+        }
+        size <= 65536
+    } else {
+        false
+    }
+}
+
+impl State {
+    // Check 1 passes.
+    fn is_fit(self, cache: &[u8], memory: &[u8]) -> bool
+        ensures { λ r. ⌜ r ≡ fits (hierarchyOf self (now (cache .entry)) (now (memory .entry))) ⌝ }
+    {
+        let size = self.size as usize;
+        if figures_allowed(self.sets, self.ways, size) {
+            if memory.len() != size {
+                return false;
+            }
+            cache.len() == ((self.sets * self.ways) as usize) * 16
+        } else {
+            false
+        }
+    }
+
+    // The line is present.
+    pub(crate) fn is_present(self, line: u32) -> bool
+        requires { ⌜ Shaped self (self .sets * self .ways * 16) ⌝ }
+        ensures { λ r. ⌜ r ≡ present (tabled (self .sets) (self .ways) (self .tags)) line ⌝ }
+    {
+        let tags = self.tags;
+        let ways = self.ways as usize;
+        let first = cache::first_slot(self.sets, self.ways, line);
+        cache::find(tags, first, ways, line) < first + ways
+    }
+
+    // A requested line is absent, lies in memory, and is wanted.
+    fn is_request_good(self) -> bool
+        requires { ⌜ Shaped self (self .sets * self .ways * 16) ⌝ }
+        ensures { λ r. ⌜ r ≡ (requestAbsent (self .request) (tabled (self .sets) (self .ways) (self .tags)) && (requestInside (self .request) (sized (self .size)) && requestWanted (self .request) (queuesOf self))) ⌝ }
+    {
+        let request = self.request;
+        match request {
+            Request::Free => true,
+            Request::Line(line) => {
+                if self.is_present(line) {
+                    return false;
+                }
+                if self.size as u64 <= 16 * (line as u64) {
+                    return false;
+                }
+                let stores = self.stores;
+                let loads = self.loads;
+                queues::request_wanted(request, stores, loads, self.committed)
+            }
+        }
+    }
+
+    // 0 where checks 1 and 10 pass, else the refusal's number.
+    pub(crate) fn state_refusal(self, cache: &[u8], memory: &[u8]) -> u32
+        ensures { λ r. ⌜ r ≡ guarded (stateChecks (queuesOf self) (hierarchyOf self (now (cache .entry)) (now (memory .entry)))) (λ k. k) 0 ⌝ }
+    {
+        if self.is_fit(cache, memory) {
+            let tags = self.tags;
+            let stores = self.stores;
+            let loads = self.loads;
+            if queues::queues_good(stores, loads, self.last, self.committed, self.size) {
+                if self.is_request_good() {
+                    if cache::lines_good(tags, self.sets, self.ways, self.size, cache, memory) {
+                        return 0;
+                    }
+                }
+            }
+            return 10;
+        }
+        1
+    }
+
+    // A refusal: the number alone.
+    pub(crate) fn refused(self, k: u32) -> Step
+        ensures { λ r. ⌜ r ≡ record { answer = Answer.Refused k; next = self } ⌝ }
+    {
+        Step {
+            answer: Answer::Refused(k),
+            next: self,
+        }
+    }
+}

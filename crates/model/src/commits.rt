@@ -1,0 +1,137 @@
+// Commit and abort.
+ghost use mathlib.Core.Path.{_≡_};
+ghost use mathlib.Core.List.{List};
+ghost use Prim.Native.Nat.{ℕ, _*_, _<_, _≤_};
+ghost use Rattle.lists.specs.Padded.{filter};
+ghost use Rattle.rules.specs.Calls.{answeredBy, useEach, commitRule, abortRule};
+ghost use Rattle.rules.specs.Calls as rules;
+ghost use Rattle.rules.specs.Runs.{outcome};
+ghost use Rattle.model.specs.Tables.{tabled, usedBy};
+ghost use Rattle.model.specs.State.{queuesOf, hierarchyOf, outcomeOf, Shaped};
+use crate::Answer;
+use crate::State;
+use crate::Step;
+use crate::cache;
+use rules::LoadEntry;
+use rules::Tag;
+
+// The line of an answered load numbered k or less is used, if it is present.
+fn use_answered(tags: [Tag; 256], sets: u32, ways: u32, l: LoadEntry, k: u32) -> [Tag; 256]
+    requires { ⌜ (0 < sets) × (sets ≤ 64) × (ways ≤ 4) ⌝ }
+    ensures { λ r. ⌜ r ≡ usedBy sets ways k l tags ⌝ }
+{
+    if queues::is_answered_by(l, k) {
+        return cache::use_line(tags, sets, ways, l.address / 16);
+    }
+    tags
+}
+
+// The lines of the answered loads numbered k or less are used, in number order.
+fn use_all_answered(
+    tags: [Tag; 256],
+    sets: u32,
+    ways: u32,
+    loads: [LoadEntry; 8],
+    k: u32,
+) -> [Tag; 256]
+    requires { ⌜ (0 < sets) × (sets ≤ 64) × (ways ≤ 4) ⌝ }
+    ensures { λ r. ⌜ r ≡ useEach (filter (answeredBy k) loads) (tabled sets ways tags) .tags ⌝ }
+{
+    let mut out = tags;
+    let mut j: usize = 0;
+    while j < 8 {
+        let l = loads[j];
+        let used = use_answered(out, sets, ways, l, k);
+        out = used;
+        j += 1;
+    }
+    out
+}
+
+impl State {
+    // "Commit k sets h to k. Answered loads numbered k or less leave the list in number order, each using its line if the line is present."
+    fn commit_accepted(self, k: u32) -> Step
+        requires { ⌜ Shaped self (self .sets * self .ways * 16) ⌝ }
+        ensures { λ r. ⌜ ((c m : List ℕ) → outcomeOf r c m ≡ commitRule k (queuesOf self) (hierarchyOf self c m)) ⌝ }
+    {
+        let loads = self.loads;
+        let stores = self.stores;
+        let tags = self.tags;
+        let request = self.request;
+        let used = use_all_answered(tags, self.sets, self.ways, loads, k);
+        let rest = queues::remove_answered(loads, k);
+        Step {
+            answer: Answer::Committed(k),
+            next: State {
+                sets: self.sets,
+                ways: self.ways,
+                size: self.size,
+                last: self.last,
+                committed: k,
+                request,
+                stores,
+                loads: rest,
+                tags: used,
+            },
+        }
+    }
+
+    pub fn commit(self, cache: &[u8], memory: &[u8], k: u32) -> Step
+        ensures { λ r. ⌜ outcomeOf r (now (cache .entry)) (now (memory .entry)) ≡ outcome (rules.commit k) (queuesOf self) (hierarchyOf self (now (cache .entry)) (now (memory .entry))) ⌝ }
+    {
+        let n = self.state_refusal(cache, memory);
+        if n != 0 {
+            return self.refused(n);
+        }
+        if k < self.committed {
+            return self.refused(15);
+        }
+        if self.last < k {
+            return self.refused(15);
+        }
+        self.commit_accepted(k)
+    }
+
+    // "removes every store and load numbered n or more and sets last to n − 1"
+    fn abort_accepted(self, n: u32) -> Step
+        requires { ⌜ 0 < n ⌝ }
+        ensures { λ r. ⌜ ((c m : List ℕ) → outcomeOf r c m ≡ abortRule n (queuesOf self) (hierarchyOf self c m)) ⌝ }
+    {
+        let loads = self.loads;
+        let stores = self.stores;
+        let tags = self.tags;
+        let request = self.request;
+        let held = queues::squash_stores(stores, n);
+        let listed = queues::squash_loads(loads, n);
+        Step {
+            answer: Answer::Kept(n - 1),
+            next: State {
+                sets: self.sets,
+                ways: self.ways,
+                size: self.size,
+                last: n - 1,
+                committed: self.committed,
+                request,
+                stores: held,
+                loads: listed,
+                tags,
+            },
+        }
+    }
+
+    pub fn abort(self, cache: &[u8], memory: &[u8], n: u32) -> Step
+        ensures { λ r. ⌜ outcomeOf r (now (cache .entry)) (now (memory .entry)) ≡ outcome (rules.abort n) (queuesOf self) (hierarchyOf self (now (cache .entry)) (now (memory .entry))) ⌝ }
+    {
+        let k = self.state_refusal(cache, memory);
+        if k != 0 {
+            return self.refused(k);
+        }
+        if n <= self.committed {
+            return self.refused(16);
+        }
+        if self.last < n - 1 {
+            return self.refused(16);
+        }
+        self.abort_accepted(n)
+    }
+}

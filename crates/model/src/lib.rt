@@ -1,0 +1,75 @@
+// The load/store unit: its state by value, and the ten calls as methods.
+// Each call takes any state, buffers of any length and numbers of any size, refuses what is bad by the paper's number and then
+// changes nothing. `answerOf` in specs/State.antt gives the paper's number and values for each answer.
+use rules::LoadEntry;
+use rules::Request;
+use rules::StoreEntry;
+use rules::Tag;
+
+mod access;
+mod cache;
+mod checks;
+mod commits;
+mod fills;
+mod idles;
+mod loads;
+mod reads;
+mod shows;
+mod starts;
+mod steps;
+mod stores;
+
+// The state. A free place of a queue and an unused record are all zero.
+pub struct State {
+    pub sets: u32,
+    pub ways: u32,
+    // the memory length
+    pub size: u32,
+    // the last number given
+    pub last: u32,
+    // the committed number, 01's h
+    pub committed: u32,
+    // the miss register (01: the request register)
+    pub request: Request,
+    // the store queue (01: the held stores)
+    pub stores: [StoreEntry; 16],
+    // the load queue (01: the list of loads)
+    pub loads: [LoadEntry; 8],
+    pub tags: [Tag; 256],
+}
+
+// What a call answers, with the paper's numbers.
+pub enum Answer {
+    Refused(u32),
+    Stored(u32),
+    Value(u32, u32),
+    Waits(u32),
+    Committed(u32),
+    Kept(u32),
+    Drained(u32),
+    Requested(u32),
+    Idled,
+    Filled(u32),
+    Flushed(u32),
+    // the place and the length of the part of the cache
+    Shown(usize, usize),
+}
+
+// What a call hands back: its answer and the next state.
+pub struct Step {
+    pub answer: Answer,
+    pub next: State,
+}
+
+// The calls of a run.
+pub enum Call {
+    Load(u32, u32),
+    Store(u32, u32, u32),
+    Retry(u32),
+    Commit(u32),
+    Abort(u32),
+    Idle,
+    Reply,
+    Flush,
+    Show(u32),
+}

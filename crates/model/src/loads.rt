@@ -1,0 +1,152 @@
+// Load and inquiry.
+ghost use mathlib.Core.Path.{_≡_};
+ghost use mathlib.Core.List.{List};
+ghost use Prim.Native.Nat.{ℕ, _*_, _<_};
+ghost use lib.ListN.{length};
+ghost use Rattle.lists.specs.Padded.{first};
+ghost use Rattle.rules.specs.Shape.{topNumber, noLoad};
+ghost use Rattle.rules.specs.Calls.{loadRule, waitingAt, answerLoad, retryRule};
+ghost use Rattle.rules.specs.Calls as rules;
+ghost use Rattle.rules.specs.Runs.{outcome};
+ghost use Rattle.model.specs.State.{queuesOf, hierarchyOf, outcomeOf, Shaped, Fine};
+use crate::Answer;
+use crate::State;
+use crate::Step;
+use crate::access;
+use crate::access::Access;
+use crate::access::Checked;
+use crate::cache;
+use crate::reads;
+use crate::reads::Read;
+use rules::LoadEntry;
+
+impl State {
+    // The state with other loads and other records.
+    pub(crate) fn with_loads(self, loads: [LoadEntry; 8], tags: [rules::Tag; 256]) -> State
+        ensures { λ r. ⌜ r ≡ record { sets = self .sets; ways = self .ways; size = self .size; last = self .last; committed = self .committed; request = self .request; stores = self .stores; loads = loads; tags = tags } ⌝ }
+    {
+        let stores = self.stores;
+        let request = self.request;
+        State {
+            sets: self.sets,
+            ways: self.ways,
+            size: self.size,
+            last: self.last,
+            committed: self.committed,
+            request,
+            stores,
+            loads,
+            tags,
+        }
+    }
+
+    // "Load takes last + 1 and joins the loads."
+    fn load_accepted(self, cache: &[u8], a: Access) -> Step
+        requires { ⌜ Shaped self (length (now cache)) × Fine (a .address) (a .width) × (self .last < topNumber) ⌝ }
+        ensures { λ r. ⌜ ((m : List ℕ) → outcomeOf r (now (cache .entry)) m ≡ loadRule (a .address) (a .width) (queuesOf self) (hierarchyOf self (now (cache .entry)) m)) ⌝ }
+    {
+        let i = self.last + 1;
+        let r = self.read(cache, i, a.address, a.width);
+        let loads = self.loads;
+        let stores = self.stores;
+        let tags = self.tags;
+        let request = self.request;
+        let entry = LoadEntry {
+            number: i,
+            address: a.address,
+            width: a.width,
+            waiting: reads::is_lacking(r),
+        };
+        let listed = queues::place_load(loads, entry);
+        Step {
+            answer: reads::answer_to(i, r),
+            next: State {
+                sets: self.sets,
+                ways: self.ways,
+                size: self.size,
+                last: i,
+                committed: self.committed,
+                request,
+                stores,
+                loads: listed,
+                tags,
+            },
+        }
+    }
+
+    pub fn load(self, cache: &[u8], memory: &[u8], address: u32, width: u32) -> Step
+        ensures { λ r. ⌜ outcomeOf r (now (cache .entry)) (now (memory .entry)) ≡ outcome (rules.load address width) (queuesOf self) (hierarchyOf self (now (cache .entry)) (now (memory .entry))) ⌝ }
+    {
+        let k = self.state_refusal(cache, memory);
+        if k != 0 {
+            return self.refused(k);
+        }
+        let checked = access::check_access(address, width, self.size);
+        let Checked::Passed(a) = checked else {
+            return self.refused(access::failure(checked));
+        };
+        if self.last == 4294967295 {
+            return self.refused(13);
+        }
+        let loads = self.loads;
+        if queues::has_free_load(loads) {
+            self.load_accepted(cache, a)
+        } else {
+            self.refused(12)
+        }
+    }
+
+    // "Once answered, a committed load leaves the list and uses its line if present; an uncommitted one is marked answered."
+    fn answer_load(self, i: u32, v: u32, l: LoadEntry) -> Step
+        requires { ⌜ Shaped self (self .sets * self .ways * 16) ⌝ }
+        ensures { λ r. ⌜ ((c m : List ℕ) → outcomeOf r c m ≡ answerLoad i v l (queuesOf self) (hierarchyOf self c m)) ⌝ }
+    {
+        let loads = self.loads;
+        let tags = self.tags;
+        if i <= self.committed {
+            let rest = queues::remove_waiting(loads, i);
+            let used = cache::use_line(tags, self.sets, self.ways, l.address / 16);
+            return Step {
+                answer: Answer::Value(i, v),
+                next: self.with_loads(rest, used),
+            };
+        }
+        let marked = queues::answer_waiting(loads, i);
+        Step {
+            answer: Answer::Value(i, v),
+            next: self.with_loads(marked, tags),
+        }
+    }
+
+    // "tries a waiting load again by the same rule"
+    fn retry_accepted(self, cache: &[u8], i: u32, l: LoadEntry) -> Step
+        requires { ⌜ Shaped self (length (now cache)) × Fine (l .address) (l .width) × (l ≡ first (waitingAt i) noLoad (self .loads)) ⌝ }
+        ensures { λ r. ⌜ ((m : List ℕ) → outcomeOf r (now (cache .entry)) m ≡ retryRule i (queuesOf self) (hierarchyOf self (now (cache .entry)) m)) ⌝ }
+    {
+        let r = self.read(cache, i, l.address, l.width);
+        match r {
+            Read::Lacking => Step {
+                answer: Answer::Waits(i),
+                next: self,
+            },
+            Read::Whole(v) => self.answer_load(i, v, l),
+        }
+    }
+
+    // Inquiry about number i.
+    pub fn retry(self, cache: &[u8], memory: &[u8], i: u32) -> Step
+        ensures { λ r. ⌜ outcomeOf r (now (cache .entry)) (now (memory .entry)) ≡ outcome (rules.retry i) (queuesOf self) (hierarchyOf self (now (cache .entry)) (now (memory .entry))) ⌝ }
+    {
+        let k = self.state_refusal(cache, memory);
+        if k != 0 {
+            return self.refused(k);
+        }
+        let loads = self.loads;
+        if queues::has_waiting(loads, i) {
+            let l = queues::waiting_load(loads, i);
+            self.retry_accepted(cache, i, l)
+        } else {
+            self.refused(14)
+        }
+    }
+}

@@ -1,0 +1,59 @@
+// Show line.
+ghost use mathlib.Core.Path.{_≡_};
+ghost use Prim.Native.Nat.{_+_, _*_, _<_, _≤_};
+ghost use lib.ListN.{length};
+ghost use Rattle.model.specs.State.{worldOf};
+ghost use Rattle.model.specs.Shows.{shownPart, PartOf};
+use crate::State;
+use crate::cache;
+
+// A part of the cache: where it begins, and its length, 16 or 0.
+pub struct Part {
+    pub start: usize,
+    pub length: usize,
+}
+
+impl State {
+    // Where the present line's bytes stand.
+    pub(crate) fn show_part(self, cache: &[u8], memory: &[u8], address: u32) -> Part
+        ensures { λ r. ⌜ (r ≡ shownPart address (worldOf self (now (cache .entry)) (now (memory .entry)))) × (r .start + r .length ≤ length (now (cache .entry))) ⌝ }
+    {
+        if self.state_refusal(cache, memory) != 0 {
+            return Part {
+                start: 0,
+                length: 0,
+            };
+        }
+        if self.size <= address {
+            return Part {
+                start: 0,
+                length: 0,
+            };
+        }
+        let tags = self.tags;
+        let ways = self.ways as usize;
+        let line = address / 16;
+        let first = cache::first_slot(self.sets, self.ways, line);
+        let slot = cache::find(tags, first, ways, line);
+        if slot < first + ways {
+            return Part {
+                start: 16 * slot,
+                length: 16,
+            };
+        }
+        Part {
+            start: 0,
+            length: 0,
+        }
+    }
+
+    // "gives the present line's bytes as a part of the lent cache", or an empty part.
+    pub fn show_line<'a>(self, cache: &'a [u8], memory: &[u8], address: u32) -> &'a [u8]
+        ensures { λ r. ⌜ PartOf (cache .entry) (shownPart address (worldOf self (now (cache .entry)) (now (memory .entry)))) r ⌝ }
+    {
+        let p = self.show_part(cache, memory, address);
+        let a = p.start;
+        let e = a + p.length;
+        &cache[a..e]
+    }
+}

@@ -1,0 +1,44 @@
+// One step over an enum of calls.
+ghost use mathlib.Core.Path.{_≡_};
+ghost use Rattle.rules.specs.Calls as rules;
+ghost use Rattle.rules.specs.Runs.{outcome};
+ghost use Rattle.model.specs.State.{queuesOf, hierarchyOf, outcomeOf, callOf};
+ghost use Rattle.model.specs.Benches.{DroppedOnBench};
+use crate::Answer;
+use crate::Call;
+use crate::State;
+use crate::Step;
+
+impl State {
+    pub fn step(self, call: Call, cache: &mut [u8], memory: &mut [u8]) -> Step
+        ensures { λ r. ⌜ outcomeOf r (now (cache .exit)) (now (memory .exit)) ≡ outcome (callOf call) (queuesOf self) (hierarchyOf self (now (cache .entry)) (now (memory .entry))) ⌝ }
+    {
+        match call {
+            Call::Load(address, width) => self.load(cache, memory, address, width),
+            Call::Store(address, width, value) => self.store(cache, memory, address, width, value),
+            Call::Retry(i) => self.retry(cache, memory, i),
+            Call::Commit(k) => self.commit(cache, memory, k),
+            Call::Abort(n) => self.abort(cache, memory, n),
+            Call::Idle => self.idle(cache, memory),
+            Call::Reply => self.reply(cache, memory),
+            Call::Flush => self.flush(cache, memory),
+            Call::Show(address) => self.show(cache, memory, address),
+        }
+    }
+
+    // Show line as a step: the place and the length of the part.
+    fn show(self, cache: &[u8], memory: &[u8], address: u32) -> Step
+        ensures { λ r. ⌜ outcomeOf r (now (cache .entry)) (now (memory .entry)) ≡ outcome (rules.show address) (queuesOf self) (hierarchyOf self (now (cache .entry)) (now (memory .entry))) ⌝ }
+    {
+        let p = self.show_part(cache, memory, address);
+        Step {
+            answer: Answer::Shown(p.start, p.length),
+            next: self,
+        }
+    }
+}
+
+// Demand 3, said of runs of `step`: a function that does nothing and promises it.
+pub fn dropped_on_bench()
+    ensures { λ r. ⌜ DroppedOnBench ⌝ }
+{}

@@ -1,0 +1,84 @@
+// Store.
+ghost use mathlib.Core.Path.{_≡_};
+ghost use mathlib.Core.List.{List};
+ghost use Prim.Native.Nat.{ℕ, _<_};
+ghost use Rattle.rules.specs.Shape.{topNumber};
+ghost use Rattle.rules.specs.Calls.{widthAllowed, storeRule};
+ghost use mathlib.Core.Bool.{true};
+ghost use Rattle.rules.specs.Calls as rules;
+ghost use Rattle.rules.specs.Runs.{outcome};
+ghost use Rattle.model.specs.State.{queuesOf, hierarchyOf, outcomeOf, storeRest};
+use crate::Answer;
+use crate::State;
+use crate::Step;
+use crate::access;
+use crate::access::Access;
+use crate::access::Checked;
+use rules::StoreEntry;
+
+impl State {
+    // "Store takes last + 1 as its number and joins the held stores, uncommitted."
+    fn store_accepted(self, a: Access, value: u32) -> Step
+        requires { ⌜ self .last < topNumber ⌝ }
+        ensures { λ r. ⌜ ((c m : List ℕ) → outcomeOf r c m ≡ storeRule (a .address) (a .width) value (queuesOf self) (hierarchyOf self c m)) ⌝ }
+    {
+        let i = self.last + 1;
+        let loads = self.loads;
+        let stores = self.stores;
+        let tags = self.tags;
+        let request = self.request;
+        let entry = StoreEntry {
+            number: i,
+            address: a.address,
+            width: a.width,
+            value,
+        };
+        let held = queues::place_store(stores, entry);
+        Step {
+            answer: Answer::Stored(i),
+            next: State {
+                sets: self.sets,
+                ways: self.ways,
+                size: self.size,
+                last: i,
+                committed: self.committed,
+                request,
+                stores: held,
+                loads,
+                tags,
+            },
+        }
+    }
+
+    // The rest of the checks, of an access that passed: 5, 13 and 11.
+    fn store_checked(self, a: Access, value: u32) -> Step
+        requires { ⌜ widthAllowed (a .width) ≡ true ⌝ }
+        ensures { λ r. ⌜ ((c m : List ℕ) → outcomeOf r c m ≡ storeRest (a .address) (a .width) value (queuesOf self) (hierarchyOf self c m)) ⌝ }
+    {
+        if access::value_fits(value, a.width) {
+            if self.last == 4294967295 {
+                return self.refused(13);
+            }
+            let stores = self.stores;
+            if queues::has_free_store(stores) {
+                return self.store_accepted(a, value);
+            }
+            return self.refused(11);
+        }
+        self.refused(5)
+    }
+
+    pub fn store(self, cache: &[u8], memory: &[u8], address: u32, width: u32, value: u32) -> Step
+        ensures { λ r. ⌜ outcomeOf r (now (cache .entry)) (now (memory .entry)) ≡ outcome (rules.store address width value) (queuesOf self) (hierarchyOf self (now (cache .entry)) (now (memory .entry))) ⌝ }
+    {
+        let k = self.state_refusal(cache, memory);
+        if k != 0 {
+            return self.refused(k);
+        }
+        let checked = access::check_access(address, width, self.size);
+        let Checked::Passed(a) = checked else {
+            return self.refused(access::failure(checked));
+        };
+        self.store_checked(a, value)
+    }
+}

@@ -1,0 +1,3 @@
+pub mod Forwarded
+pub mod Given
+pub mod Good

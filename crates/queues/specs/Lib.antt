@@ -1,0 +1,2 @@
+pub mod Forwarded
+pub mod Good
