@@ -1,7 +1,6 @@
-ghost use Rattle.rules.specs.Claims.{RefusedCallsKeep, RefusalsExact, NumbersGiven, DroppedStretches, KeptWellFormed, ValuesAreRight, WaitsAreExact, FlushesAreExact, FlatMemoryIsKept};
-
 // The declared types of the load/store model: a tag record, an entry of each queue, and the miss register.
 // The rules over them stand in specs/, and what is claimed of the rules is promised here by functions that do nothing.
+ghost use Rattle.rules.specs.Claims.{RefusedCallsKeep, RefusalsExact, NumbersGiven, DroppedStretches, KeptWellFormed, ValuesAreRight, WaitsAreExact, FlushesAreExact, FlatMemoryIsKept};
 
 // A tag record: one way of one set. (Memory has at most 4,096 lines, and an age is at most 3.)
 pub struct Tag {
