@@ -38,6 +38,24 @@ pub struct State {
     pub tags: [Tag; 256],
 }
 
+// The figures of a start.
+pub struct Figures {
+    pub sets: u32,
+    pub ways: u32,
+}
+
+// What a start answers: ready, or the refusal's number.
+pub enum StartAnswer {
+    Ready,
+    NotAllowed(u32),
+}
+
+// What a start hands back. The state of a refused start is all zero.
+pub struct Started {
+    pub answer: StartAnswer,
+    pub state: State,
+}
+
 // What a call answers, with the paper's numbers.
 pub enum Answer {
     Refused(u32),

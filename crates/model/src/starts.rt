@@ -6,6 +6,9 @@ ghost use Rattle.rules.specs.Shape.{noStore, noLoad, noTag};
 ghost use Rattle.rules.specs.Runs.{startAnswer, startWorld};
 ghost use Rattle.model.specs.State.{worldOf};
 ghost use Rattle.model.specs.Starts.{startAnswerOf};
+use crate::Figures;
+use crate::StartAnswer;
+use crate::Started;
 use crate::State;
 use crate::cache;
 use crate::checks;
@@ -13,24 +16,6 @@ use rules::LoadEntry;
 use rules::Request;
 use rules::StoreEntry;
 use rules::Tag;
-
-// The figures of a start.
-pub struct Figures {
-    pub sets: u32,
-    pub ways: u32,
-}
-
-// What a start answers: ready, or the refusal's number.
-pub enum StartAnswer {
-    Ready,
-    NotAllowed(u32),
-}
-
-// What a start hands back. The state of a refused start is all zero.
-pub struct Started {
-    pub answer: StartAnswer,
-    pub state: State,
-}
 
 // A state with these figures and records, and every place of the queues free.
 fn empty_state(sets: u32, ways: u32, size: u32, tags: [Tag; 256]) -> State
