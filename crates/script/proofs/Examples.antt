@@ -1,0 +1,35 @@
+-- 01's example played whole, and lines at the limits, computed.
+use mathlib.Core.Path.{_≡_, refl}
+use mathlib.Core.Bool.{true}
+use mathlib.Core.Option.{some}
+use Rattle.lists.specs.Padded.{every}
+use Rattle.rules.specs.Calls.{retry}
+use Rattle.rules.specs.Computed.{computed}
+use Rattle.script.specs.Lines.{make, words, decimal, numbers, commandOf}
+use Rattle.script.specs.Words.{digits, said, answerLine}
+use Rattle.script.specs.Play.{turn, byteOutput, afterByte, output, afterBytes, atEnd, played}
+use Rattle.script.specs.Example.{ended, exampleLines, exampleAnswers, edgeInput, edgeAnswers, badLines, longLine, largestLine}
+use Rattle.script.specs.Claims.{isBad, ExamplesPlayed}
+
+example-played : played (ended exampleLines) ≡ ended exampleAnswers
+unfolding computed words decimal numbers commandOf digits said answerLine turn byteOutput afterByte output afterBytes atEnd played ended
+example-played = refl
+
+edge-played : played edgeInput ≡ ended edgeAnswers
+unfolding computed words decimal numbers commandOf digits said answerLine turn byteOutput afterByte output afterBytes atEnd played ended
+edge-played = refl
+
+bad-lines : every (λ l. isBad (commandOf l)) badLines ≡ true
+unfolding computed words decimal numbers commandOf
+bad-lines = refl
+
+long-line : commandOf longLine ≡ some (make (retry 1))
+unfolding computed words decimal numbers commandOf
+long-line = refl
+
+largest-line : commandOf largestLine ≡ some (make (retry 4294967295))
+unfolding computed words decimal numbers commandOf
+largest-line = refl
+
+pub examples-played : ExamplesPlayed
+examples-played = record { example = example-played; edge = edge-played; bad = bad-lines; long = long-line; largest = largest-line }

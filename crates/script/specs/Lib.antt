@@ -1,0 +1,5 @@
+pub mod Lines
+pub mod Words
+pub mod Play
+pub mod Example
+pub mod Claims

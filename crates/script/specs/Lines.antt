@@ -1,0 +1,101 @@
+-- The script language: a line, as bytes before its LF, taken apart.
+use Prim.Native.Nat.{ℕ, _+_, _*_, _-_}
+use mathlib.Core.Bool.{Bool, cond, _&&_}
+use mathlib.Core.List.{List, [], _∷_}
+use mathlib.Core.Option.{Option, some, none}
+use lib.Dec.{ltb, leb, eqb}
+use lib.ListN.{length}
+use Rattle.lists.specs.Padded.{every}
+use Rattle.rules.specs.Shape.{topNumber}
+use Rattle.rules.specs.Calls.{Call, load, store, retry, commit, abort, idle, reply, flush}
+
+-- what a line asks for: a start (sets, ways, memory), or a call
+pub data Command : Type 0 where
+  start : ℕ → ℕ → ℕ → Command
+  make : Call → Command
+
+-- ---- bytes
+
+abbrev pub lineFeed : ℕ
+lineFeed = 10
+
+abbrev pub space : ℕ
+space = 32
+
+-- 0 to 9
+abbrev pub isDigit : ℕ → Bool
+isDigit b = leb 48 b && leb b 57
+
+-- "at most 64 bytes before it"
+abbrev pub longestLine : ℕ
+longestLine = 64
+
+-- ---- words: "separated by one space"
+
+abbrev pub joined : ℕ → List (List ℕ) → List (List ℕ)
+joined b [] = (b ∷ []) ∷ []
+joined b (w ∷ ws) = (b ∷ w) ∷ ws
+
+-- what stands between the spaces of a line; two spaces have an empty word between them
+unfoldable pub words : List ℕ → List (List ℕ)
+words [] = [] ∷ []
+words (b ∷ bs) = cond (eqb b space) ([] ∷ words bs) (joined b (words bs))
+
+-- ---- numbers: "unsigned decimals of 32 bits (leading zeros allowed)"
+
+-- the value of digits that follow the number v
+unfoldable pub decimal : ℕ → List ℕ → ℕ
+decimal v [] = v
+decimal v (b ∷ bs) = decimal (10 * v + (b - 48)) bs
+
+abbrev pub isNumber : List ℕ → Bool
+isNumber w = ltb 0 (length w) && (every isDigit w && leb (decimal 0 w) topNumber)
+
+abbrev pub alsoNumber : ℕ → Option (List ℕ) → Option (List ℕ)
+alsoNumber n none = none
+alsoNumber n (some ns) = some (n ∷ ns)
+
+-- the numbers of these words, if each is one
+unfoldable pub numbers : List (List ℕ) → Option (List ℕ)
+numbers [] = some []
+numbers (w ∷ ws) = cond (isNumber w) (alsoNumber (decimal 0 w) (numbers ws)) none
+
+-- ---- letters
+
+-- a letter with no number: I (idle), R (reply), F (flush)
+abbrev pub withNone : ℕ → Option Command
+withNone c = cond (eqb c 73) (some (make idle)) (cond (eqb c 82) (some (make reply)) (cond (eqb c 70) (some (make flush)) none))
+
+-- with one: A number (inquiry), C number (commit), X number (abort)
+abbrev pub withOne : ℕ → ℕ → Option Command
+withOne c n =
+    cond (eqb c 65) (some (make (retry n))) (cond (eqb c 67) (some (make (commit n))) (cond (eqb c 88) (some (make (abort n))) none))
+
+-- with two: L (load) address width
+abbrev pub withTwo : ℕ → ℕ → ℕ → Option Command
+withTwo c a w = cond (eqb c 76) (some (make (load a w))) none
+
+-- with three: G sets ways memory, S (store) address width value
+abbrev pub withThree : ℕ → ℕ → ℕ → ℕ → Option Command
+withThree c x y z = cond (eqb c 71) (some (start x y z)) (cond (eqb c 83) (some (make (store x y z))) none)
+
+abbrev pub named : ℕ → Option (List ℕ) → Option Command
+named c none = none
+named c (some []) = withNone c
+named c (some (x ∷ [])) = withOne c x
+named c (some (x ∷ y ∷ [])) = withTwo c x y
+named c (some (x ∷ y ∷ z ∷ [])) = withThree c x y z
+named c (some (x ∷ y ∷ z ∷ u ∷ ns)) = none
+
+-- ---- a line
+
+-- "A line is a letter and unsigned decimals"
+abbrev pub ofWords : List (List ℕ) → Option Command
+ofWords [] = none
+ofWords ([] ∷ ws) = none
+ofWords ((c ∷ []) ∷ ws) = named c (numbers ws)
+ofWords ((c ∷ d ∷ cs) ∷ ws) = none
+
+-- what a line asks for; none of "an empty line, a longer one" and a malformed one
+unfoldable pub commandOf : List ℕ → Option Command
+commandOf line = cond (ltb longestLine (length line)) none (ofWords (words line))

@@ -1,0 +1,80 @@
+-- The script player: a line played, and a whole input as a fold over its bytes.
+use Prim.Native.Nat.{ℕ, _*_}
+use mathlib.Core.Bool.{cond}
+use mathlib.Core.List.{List, [], _∷_, _++_}
+use mathlib.Core.Option.{Option, some, none}
+use lib.Dec.{eqb}
+use lib.ListN.{length, replicate}
+use Rattle.rules.specs.Shape.{World, lineBytes}
+use Rattle.rules.specs.Calls.{Call}
+use Rattle.rules.specs.Runs.{StartAnswer, ready, startRefused, startAnswer, startWorld, answer, next}
+use Rattle.script.specs.Lines.{Command, start, make, lineFeed, commandOf}
+use Rattle.script.specs.Words.{readyLine, refusedLine, answerLine}
+
+-- ---- a line
+
+-- what a line prints, and the run after it; there is none before an accepted G
+pub record Turn : Type 0 where
+  pub says : List ℕ
+  pub run : Option World
+
+-- 6: "script line malformed, or a call before an accepted G"
+abbrev pub refusedTurn : ℕ → Option World → Turn
+refusedTurn k r = record { says = refusedLine k; run = r }
+
+-- a refused G leaves the run that was going on
+abbrev pub startTurn : StartAnswer → World → Option World → Turn
+startTurn ready w r = record { says = readyLine; run = some w }
+startTurn (startRefused k) w r = refusedTurn k r
+
+abbrev pub callTurn : Call → Option World → Turn
+callTurn c none = refusedTurn 6 none
+callTurn c (some w) = record { says = answerLine (answer c w); run = some (next c w) }
+
+abbrev pub zeros : ℕ → List ℕ
+zeros n = replicate n 0
+
+-- "G sets ways memory (memory zeroed)"
+unfoldable pub turn : Option Command → Option World → Turn
+turn none r = refusedTurn 6 r
+turn (some (start s w m)) r =
+    startTurn (startAnswer s w (zeros (s * w * lineBytes)) (zeros m)) (startWorld s w (zeros (s * w * lineBytes)) (zeros m)) r
+turn (some (make c)) r = callTurn c r
+
+-- ---- bytes
+
+-- between two bytes: the run, and the line so far
+pub record Player : Type 0 where
+  pub run : Option World
+  pub line : List ℕ
+
+abbrev pub newPlayer : Player
+newPlayer = record { run = none; line = [] }
+
+-- a byte's output: "Lines end with LF", "One output line .. answers each"
+unfoldable pub byteOutput : ℕ → Player → List ℕ
+byteOutput b p = cond (eqb b lineFeed) (turn (commandOf (p .line)) (p .run) .says) []
+
+unfoldable pub afterByte : ℕ → Player → Player
+afterByte b p =
+    cond (eqb b lineFeed) (record { run = turn (commandOf (p .line)) (p .run) .run; line = [] })
+    (record { run = p .run; line = p .line ++ (b ∷ []) })
+
+-- ---- a part of the input
+
+unfoldable pub output : List ℕ → Player → List ℕ
+output [] p = []
+output (b ∷ bs) p = byteOutput b p ++ output bs (afterByte b p)
+
+unfoldable pub afterBytes : List ℕ → Player → Player
+afterBytes [] p = p
+afterBytes (b ∷ bs) p = afterBytes bs (afterByte b p)
+
+-- ---- a whole input
+
+-- "a last one without LF gives 6"
+unfoldable pub atEnd : Player → List ℕ
+atEnd p = cond (eqb (length (p .line)) 0) [] (refusedLine 6)
+
+unfoldable pub played : List ℕ → List ℕ
+played input = output input newPlayer ++ atEnd (afterBytes input newPlayer)
