@@ -10,12 +10,15 @@
 //! - `flat`: demand 2, over whole runs.
 //! - `dropped`: demand 3, over whole runs.
 //! - `script`: the script player.
+//! - `program`: a player under test, and where two outputs differ.
+//! - `stored`: the stored examples.
 //! - `random`: random runs.
 //! - `examine`: one run under all the checks.
 //! - `counts`: what runs met, and what they must meet.
 //!
 //! `cargo run --release --bin runs` plays random runs under all the checks,
-//! `cargo run --release --bin player` plays a script.
+//! `cargo run --release --bin player` plays a script,
+//! `cargo run --release --bin scripts` plays the stored examples.
 
 pub mod check;
 pub mod counts;
@@ -25,7 +28,9 @@ pub mod fault;
 pub mod flat;
 pub mod model;
 pub mod plain;
+pub mod program;
 pub mod random;
 pub mod rules;
 pub mod script;
+pub mod stored;
 pub mod types;

@@ -4,38 +4,37 @@ use std::io::{self, BufRead, ErrorKind, Write};
 
 use crate::check;
 use crate::model::Right;
-use crate::types::{Answer, Call, State};
+use crate::types::{Answer, Call, Snapshot, State};
 
 /// Bytes a line may have before its LF.
 const LONGEST: usize = 64;
 
-/// A line as it comes in: its first bytes and its length.
-struct Line {
+/// The part of a line that a piece of the input ended in: its first bytes and
+/// its length.
+struct Held {
     bytes: [u8; LONGEST],
     length: usize,
 }
 
-impl Line {
-    fn new() -> Line {
-        Line { bytes: [0; LONGEST], length: 0 }
-    }
-
-    fn push(&mut self, byte: u8) {
-        if let Some(place) = self.bytes.get_mut(self.length) {
-            *place = byte;
+impl Held {
+    fn push(&mut self, more: &[u8]) {
+        if let Some(room) = self.bytes.get_mut(self.length..) {
+            let taken = room.len().min(more.len());
+            room[..taken].copy_from_slice(&more[..taken]);
         }
-        self.length = self.length.saturating_add(1);
+        self.length = self.length.saturating_add(more.len());
     }
 
-    /// The whole line, unless it is too long.
-    fn whole(&self) -> Option<&[u8]> {
-        self.bytes.get(..self.length)
+    /// The whole line, unless it is too long; the next one begins.
+    fn take(&mut self) -> Option<&[u8]> {
+        let length = std::mem::take(&mut self.length);
+        self.bytes.get(..length)
     }
 }
 
 /// A line that is well written.
 #[derive(Clone, Copy, Debug, PartialEq, Eq)]
-enum Command {
+pub enum Command {
     /// G: sets, ways, memory length.
     Begin(u32, u32, u32),
     Step(Call),
@@ -67,7 +66,10 @@ fn numbers(rest: &[u8]) -> Option<([u32; 3], usize)> {
 }
 
 /// A line's command, or none when the line is malformed.
-fn parse(line: &[u8]) -> Option<Command> {
+pub fn command(line: &[u8]) -> Option<Command> {
+    if line.len() > LONGEST {
+        return None;
+    }
     let (letter, rest) = line.split_first()?;
     let (n, count) = numbers(rest)?;
     let call = match (letter, count) {
@@ -85,82 +87,152 @@ fn parse(line: &[u8]) -> Option<Command> {
     Some(Command::Step(call))
 }
 
-/// The run going on.
+/// A call as a script line; a start and show line have none.
+pub fn line_of(call: Call) -> Option<String> {
+    Some(match call {
+        Call::Start { .. } | Call::ShowLine { .. } => return None,
+        Call::Load { address, width } => format!("L {address} {width}"),
+        Call::Store { address, width, value } => format!("S {address} {width} {value}"),
+        Call::Retry { number } => format!("A {number}"),
+        Call::Commit { number } => format!("C {number}"),
+        Call::Abort { number } => format!("X {number}"),
+        Call::Idle => "I".to_string(),
+        Call::Reply => "R".to_string(),
+        Call::Flush => "F".to_string(),
+    })
+}
+
+/// A run that goes on.
 struct Going {
     state: State,
     cache: Vec<u8>,
     memory: Vec<u8>,
 }
 
-/// G: a new run over zeroed memory; refused, the run going on stays.
-fn begin(going: &mut Option<Going>, sets: u32, ways: u32, length: u32) -> Answer {
-    if !check::figures_allowed(sets, ways, length as usize) {
-        return Answer::Refused(1);
-    }
-    let mut cache = vec![0; check::cache_length(sets, ways)];
-    let memory = vec![0; length as usize];
-    let (state, answer) = Right::start(sets, ways, &mut cache, &memory);
-    if answer.accepted() {
-        *going = Some(Going { state, cache, memory });
-    }
-    answer
+/// A script in play: the run that goes on, once a G was accepted.
+#[derive(Default)]
+pub struct Playing {
+    going: Option<Going>,
 }
 
-/// The answer to one line.
-fn answer(going: &mut Option<Going>, line: Option<&[u8]>) -> Answer {
-    match (line.and_then(parse), going) {
-        (Some(Command::Begin(sets, ways, length)), going) => begin(going, sets, ways, length),
-        (Some(Command::Step(call)), Some(run)) => {
-            Right::step(&mut run.state, &mut run.cache, &mut run.memory, call)
+impl Playing {
+    /// State, cache and memory, once a G was accepted.
+    pub fn now(&self) -> Option<Snapshot<'_>> {
+        let run = self.going.as_ref()?;
+        Some(Snapshot { state: &run.state, cache: &run.cache, memory: &run.memory })
+    }
+
+    /// G: a new run over zeroed memory; refused, the run going on stays.
+    fn begin(&mut self, sets: u32, ways: u32, length: u32) -> Answer {
+        if !check::figures_allowed(sets, ways, length as usize) {
+            return Answer::Refused(1);
         }
-        _ => Answer::Refused(6),
+        let mut cache = vec![0; check::cache_length(sets, ways)];
+        let memory = vec![0; length as usize];
+        let (state, answer) = Right::start(sets, ways, &mut cache, &memory);
+        if answer.accepted() {
+            self.going = Some(Going { state, cache, memory });
+        }
+        answer
+    }
+
+    /// The answer to a line; none stands for one that is too long.
+    pub fn answer(&mut self, line: Option<&[u8]>) -> Answer {
+        match (line.and_then(command), &mut self.going) {
+            (Some(Command::Begin(sets, ways, length)), _) => self.begin(sets, ways, length),
+            (Some(Command::Step(call)), Some(run)) => {
+                Right::step(&mut run.state, &mut run.cache, &mut run.memory, call)
+            }
+            _ => Answer::Refused(6),
+        }
+    }
+}
+
+/// The word of an answer and its numbers.
+fn words(answer: Answer) -> (&'static str, Option<u32>, Option<u32>) {
+    match answer {
+        Answer::Ready => ("ready", None, None),
+        Answer::Stored(number) => ("stored", Some(number), None),
+        Answer::Value { number, value } => ("value", Some(number), Some(value)),
+        Answer::Waits(number) => ("waits", Some(number), None),
+        Answer::Committed(number) => ("committed", Some(number), None),
+        Answer::Kept(number) => ("kept", Some(number), None),
+        Answer::Requested(address) => ("request", Some(address), None),
+        Answer::Filled(address) => ("filled", Some(address), None),
+        Answer::Drained(number) => ("drained", Some(number), None),
+        Answer::Idle => ("idle", None, None),
+        Answer::Flushed(lines) => ("flushed", Some(lines), None),
+        Answer::Refused(no) => ("refused", Some(no), None),
+        // No letter of the script shows a line.
+        Answer::Shown(_) => ("", None, None),
+    }
+}
+
+/// The bytes of an output line from its end backwards. The longest one is
+/// "committed" or "value" with its numbers and the LF.
+struct Text {
+    bytes: [u8; 32],
+    first: usize,
+}
+
+impl Text {
+    fn push(&mut self, byte: u8) {
+        self.first -= 1;
+        self.bytes[self.first] = byte;
+    }
+
+    /// A space and a number.
+    fn push_number(&mut self, mut number: u32) {
+        loop {
+            self.push(b'0' + (number % 10) as u8);
+            number /= 10;
+            if number == 0 {
+                break;
+            }
+        }
+        self.push(b' ');
     }
 }
 
 /// Writes an answer as its output line.
 fn write_answer(output: &mut impl Write, answer: Answer) -> io::Result<()> {
-    match answer {
-        Answer::Ready => writeln!(output, "ready"),
-        Answer::Stored(number) => writeln!(output, "stored {number}"),
-        Answer::Value { number, value } => writeln!(output, "value {number} {value}"),
-        Answer::Waits(number) => writeln!(output, "waits {number}"),
-        Answer::Committed(number) => writeln!(output, "committed {number}"),
-        Answer::Kept(number) => writeln!(output, "kept {number}"),
-        Answer::Requested(address) => writeln!(output, "request {address}"),
-        Answer::Filled(address) => writeln!(output, "filled {address}"),
-        Answer::Drained(number) => writeln!(output, "drained {number}"),
-        Answer::Idle => writeln!(output, "idle"),
-        Answer::Flushed(lines) => writeln!(output, "flushed {lines}"),
-        Answer::Refused(no) => writeln!(output, "refused {no}"),
-        // No letter of the script shows a line.
-        Answer::Shown(_) => Ok(()),
+    let (word, first, second) = words(answer);
+    let mut text = Text { bytes: [b'\n'; 32], first: 31 };
+    for number in [second, first].into_iter().flatten() {
+        text.push_number(number);
     }
+    let first = text.first - word.len();
+    text.bytes[first..text.first].copy_from_slice(word.as_bytes());
+    output.write_all(&text.bytes[first..])
 }
 
 /// Plays a script from a reader to a writer, line by line.
 pub fn play_stream(mut input: impl BufRead, mut output: impl Write) -> io::Result<()> {
-    let mut going = None;
-    let mut line = Line::new();
+    let mut playing = Playing::default();
+    let mut held = Held { bytes: [0; LONGEST], length: 0 };
     loop {
-        let chunk = match input.fill_buf() {
+        let piece = match input.fill_buf() {
             Err(error) if error.kind() == ErrorKind::Interrupted => continue,
-            chunk => chunk?,
+            piece => piece?,
         };
-        let read = chunk.len();
+        let (read, mut rest) = (piece.len(), piece);
         if read == 0 {
             break;
         }
-        for &byte in chunk {
-            if byte != b'\n' {
-                line.push(byte);
-                continue;
-            }
-            write_answer(&mut output, answer(&mut going, line.whole()))?;
-            line.length = 0;
+        while let Some(end) = rest.iter().position(|byte| *byte == b'\n') {
+            let line = if held.length == 0 {
+                Some(&rest[..end])
+            } else {
+                held.push(&rest[..end]);
+                held.take()
+            };
+            write_answer(&mut output, playing.answer(line))?;
+            rest = &rest[end + 1..];
         }
+        held.push(rest);
         input.consume(read);
     }
-    if line.length > 0 {
+    if held.length > 0 {
         write_answer(&mut output, Answer::Refused(6))?;
     }
     output.flush()

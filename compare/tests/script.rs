@@ -3,8 +3,8 @@
 use compare::dropped;
 use compare::model::Right;
 use compare::random::{self, Rng};
-use compare::script::{play, play_stream};
-use compare::types::{Answer, Call};
+use compare::script::{line_of, play, play_stream};
+use compare::types::Answer;
 
 /// The output lines of a script.
 fn lines(script: &str) -> Vec<String> {
@@ -140,21 +140,6 @@ fn any_bytes_give_one_answer_a_line() {
         play_stream(reader, &mut streamed).unwrap();
         assert_eq!(streamed, output, "script {seed}");
     }
-}
-
-/// A call as a script line; show line has none.
-fn line_of(call: Call) -> Option<String> {
-    Some(match call {
-        Call::Start { .. } | Call::ShowLine { .. } => return None,
-        Call::Load { address, width } => format!("L {address} {width}"),
-        Call::Store { address, width, value } => format!("S {address} {width} {value}"),
-        Call::Retry { number } => format!("A {number}"),
-        Call::Commit { number } => format!("C {number}"),
-        Call::Abort { number } => format!("X {number}"),
-        Call::Idle => "I".to_string(),
-        Call::Reply => "R".to_string(),
-        Call::Flush => "F".to_string(),
-    })
 }
 
 /// An answer as an output line.
