@@ -2,7 +2,10 @@
 
 use std::collections::BTreeMap;
 
-/// What must be met, each with the number of runs in which one is enough.
+/// What must be met, each with a number: one in so many is enough.
+pub type Needed = [(&'static str, u64)];
+
+/// What random runs must meet, out of so many runs.
 const NEEDED: [(&str, u64); 29] = [
     ("run after a start", 2),
     ("run from a well-formed state", 40),
@@ -35,11 +38,32 @@ const NEEDED: [(&str, u64); 29] = [
     ("refused 18", 10),
 ];
 
+/// The names under which refusals are counted.
+const REFUSALS: [&str; 19] = [
+    "refused 0",
+    "refused 1",
+    "refused 2",
+    "refused 3",
+    "refused 4",
+    "refused 5",
+    "refused 6",
+    "refused 7",
+    "refused 8",
+    "refused 9",
+    "refused 10",
+    "refused 11",
+    "refused 12",
+    "refused 13",
+    "refused 14",
+    "refused 15",
+    "refused 16",
+    "refused 17",
+    "refused 18",
+];
+
 /// The name under which a refusal is counted.
 pub fn refused(no: u32) -> &'static str {
-    let wanted = format!("refused {no}");
-    let found = NEEDED.iter().find(|(name, _)| *name == wanted);
-    found.map_or("refused otherwise", |(name, _)| name)
+    REFUSALS.get(no as usize).copied().unwrap_or("refused otherwise")
 }
 
 /// What was met.
@@ -75,22 +99,28 @@ impl Counts {
         }
     }
 
-    /// What was met too seldom for the number of runs.
+    /// What random runs met too seldom.
     pub fn lacking(&self) -> Vec<String> {
-        NEEDED
+        self.lacking_of(&NEEDED, self.runs)
+    }
+
+    /// What was met too seldom out of so many.
+    pub fn lacking_of(&self, needed: &Needed, out_of: u64) -> Vec<String> {
+        needed
             .iter()
-            .filter(|(name, each)| self.of(name) < (self.runs / each).max(1))
+            .filter(|(name, each)| self.of(name) < (out_of / each).max(1))
             .map(|(name, _)| format!("{name} (only {})", self.of(name)))
             .collect()
+    }
+
+    /// A row for each of the names.
+    pub fn rows(&self, needed: &Needed) -> String {
+        needed.iter().map(|(name, _)| format!("{name:<44}{:>12}\n", self.of(name))).collect()
     }
 }
 
 impl std::fmt::Display for Counts {
     fn fmt(&self, f: &mut std::fmt::Formatter) -> std::fmt::Result {
-        writeln!(f, "{:<44}{:>12}", "calls", self.calls)?;
-        for (name, _) in NEEDED {
-            writeln!(f, "{name:<44}{:>12}", self.of(name))?;
-        }
-        Ok(())
+        write!(f, "{:<44}{:>12}\n{}", "calls", self.calls, self.rows(&NEEDED))
     }
 }

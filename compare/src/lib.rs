@@ -15,17 +15,25 @@
 //! - `random`: random runs.
 //! - `examine`: one run under all the checks.
 //! - `counts`: what runs met, and what they must meet.
+//! - `long`: long random scripts.
+//! - `met`: what scripts met, and what they must meet.
+//! - `struck`: scripts with dropped stretches struck from them.
+//! - `arguments`: the command lines of the programs.
 //!
 //! `cargo run --release --bin runs` plays random runs under all the checks,
 //! `cargo run --release --bin player` plays a script,
-//! `cargo run --release --bin scripts` plays the stored examples.
+//! `cargo run --release --bin scripts` plays the stored examples,
+//! `cargo run --release --bin beside` sets a player beside the model.
 
+pub mod arguments;
 pub mod check;
 pub mod counts;
 pub mod dropped;
 pub mod examine;
 pub mod fault;
 pub mod flat;
+pub mod long;
+pub mod met;
 pub mod model;
 pub mod plain;
 pub mod program;
@@ -33,4 +41,5 @@ pub mod random;
 pub mod rules;
 pub mod script;
 pub mod stored;
+pub mod struck;
 pub mod types;

@@ -5,25 +5,31 @@ use std::fmt;
 use std::io::{self, BufReader, ErrorKind, Read, Write};
 use std::process::{Command, Stdio};
 
+use crate::model::Right;
 use crate::script;
+use crate::types::Step;
 
 /// A player of scripts.
 #[derive(Clone, Debug)]
 pub enum Player {
-    /// The model in this process.
-    Model,
+    /// A machine in this process, the model for one.
+    Machine(Step),
     /// The program of this path, from standard input to standard output.
     Program(String),
 }
 
 impl Player {
+    /// The model in this process.
+    pub const MODEL: Player = Player::Machine(Right::step);
+
     /// Plays a script that comes in pieces of so many bytes.
     pub fn play(&self, script: &[u8], piece: usize) -> Result<Vec<u8>, String> {
         match self {
-            Player::Model => {
+            Player::Machine(step) => {
                 let mut output = Vec::new();
                 let input = BufReader::with_capacity(piece, script);
-                script::play_stream(input, &mut output).map_err(|error| error.to_string())?;
+                script::play_stream(*step, input, &mut output)
+                    .map_err(|error| error.to_string())?;
                 Ok(output)
             }
             Player::Program(path) => {

@@ -2,7 +2,7 @@
 //! calls with bad ones among them, and turns that lead into rich situations.
 
 use crate::model::Right;
-use crate::types::{Answer, Call, LoadEntry, Request, State, Step, LINE};
+use crate::types::{Answer, Call, LoadEntry, Request, State, Step, LINE, LOADS};
 
 /// A small generator of random numbers (splitmix64).
 #[derive(Clone, Debug)]
@@ -73,6 +73,24 @@ impl Run {
     }
 }
 
+/// How often each turn of a run is taken, in the order of `TURNS`.
+pub type Mix = [u64; 8];
+
+/// Every turn that a run can take.
+const TURNS: [fn(&mut Maker); 8] = [
+    Maker::any_call,
+    Maker::progress,
+    Maker::store_and_commit,
+    Maker::dropped_deep,
+    Maker::settle,
+    Maker::bad_call,
+    Maker::late_retry,
+    Maker::crowd_queue,
+];
+
+/// Short runs: many refusals, and much that is dropped.
+const SHORT: Mix = [9, 3, 2, 3, 1, 2, 1, 1];
+
 /// Makes the run of a seed.
 pub fn run(seed: u64) -> Run {
     let mut rng = Rng::new(seed);
@@ -92,7 +110,35 @@ pub fn run(seed: u64) -> Run {
     let numbered = if near_end { u32::MAX - rng.below(24) as u32 } else { 0 };
     let run = Run { seed, sets, ways, found, numbered, calls: Vec::new() };
     let length = 20 + rng.below(181) as usize;
-    Maker::new(run, rng).make(length)
+    let mut run = Maker::new(run, rng).make(length, &SHORT).run;
+    run.calls.truncate(length);
+    run
+}
+
+/// Begins a run over zeroed memory, as a script can have it: after a start.
+fn script_maker(rng: &mut Rng, figures: (u32, u32, u32)) -> Maker {
+    let (sets, ways, memory) = figures;
+    let seed = rng.word();
+    let found = vec![0; memory as usize];
+    let run = Run { seed, sets, ways, found, numbered: 0, calls: Vec::new() };
+    Maker::new(run, Rng::new(seed))
+}
+
+/// Makes a run of a script: without show line, and of about so many calls.
+pub fn script_run(rng: &mut Rng, figures: (u32, u32, u32), length: usize, mix: &Mix) -> Run {
+    let mut run = script_maker(rng, figures).make(length, mix).run;
+    run.calls.retain(|call| !matches!(call, Call::ShowLine { .. }));
+    run
+}
+
+/// Makes such a run with calls at its end that tell, as far as a script can,
+/// the state that was reached; the number of calls before those.
+pub fn told_run(rng: &mut Rng, figures: (u32, u32, u32), length: usize, mix: &Mix) -> (Run, usize) {
+    let mut maker = script_maker(rng, figures).make(length, mix);
+    maker.run.calls.retain(|call| !matches!(call, Call::ShowLine { .. }));
+    let before = maker.run.calls.len();
+    maker.tell();
+    (maker.run, before)
 }
 
 /// Makes the calls of a run, looking at what the right machine does with them.
@@ -120,21 +166,22 @@ impl Maker {
     }
 
     /// Plays turns until the run is long enough.
-    fn make(mut self, length: usize) -> Run {
+    fn make(mut self, length: usize, mix: &Mix) -> Maker {
         while self.run.calls.len() < length {
-            match self.rng.below(22) {
-                0..=8 => self.any_call(),
-                9..=11 => self.progress(),
-                12 | 13 => self.store_and_commit(),
-                14..=16 => self.dropped(2),
-                17 => self.settle(),
-                18 | 19 => self.bad_call(),
-                20 => self.late_retry(),
-                _ => self.crowd_queue(),
-            }
+            self.turn(mix);
         }
-        self.run.calls.truncate(length);
-        self.run
+        self
+    }
+
+    /// One turn out of the mix.
+    fn turn(&mut self, mix: &Mix) {
+        let mut at = self.rng.below(mix.iter().sum());
+        for (turn, often) in TURNS.iter().zip(mix) {
+            if at < *often {
+                return turn(self);
+            }
+            at -= often;
+        }
     }
 
     /// Adds a call and plays it.
@@ -305,6 +352,11 @@ impl Maker {
         self.push(Call::Commit { number });
     }
 
+    /// A dropped stretch with others within it.
+    fn dropped_deep(&mut self) {
+        self.dropped(2);
+    }
+
     /// A dropped stretch, often with fills due inside it and others within it.
     fn dropped(&mut self, depth: u32) {
         if self.rng.one_in(2) {
@@ -403,5 +455,55 @@ impl Maker {
             Call::Store { address, width, value }
         };
         self.push(call);
+    }
+}
+
+/// The end of a run that tells the state.
+impl Maker {
+    /// The lists and the register, the work left over, presence and ages of the
+    /// lines, and their bytes.
+    fn tell(&mut self) {
+        let last = self.state.last;
+        for number in last.saturating_sub(30)..=last + 1 {
+            self.push(Call::Retry { number });
+        }
+        self.push(Call::Reply);
+        self.settle();
+        let number = self.state.committed + 1;
+        self.push(Call::Abort { number });
+        let lines = (self.memory.len() / LINE).min(24) as u32;
+        self.look(lines);
+        for line in (0..lines).chain((0..lines).rev()) {
+            self.bring(line);
+        }
+        self.push(Call::Flush);
+    }
+
+    /// Loads a word of each line and drops the loads again.
+    fn look(&mut self, lines: u32) {
+        let number = self.state.last + 1;
+        for line in 0..lines {
+            let full = line % LOADS as u32 == 0;
+            if full {
+                self.push(Call::Abort { number });
+            }
+            self.push(Call::Load { address: line * LINE as u32, width: 4 });
+        }
+        self.push(Call::Abort { number });
+    }
+
+    /// Loads a line whole, brought in if it is absent.
+    fn bring(&mut self, line: u32) {
+        let address = line * LINE as u32;
+        if let Answer::Waits(number) = self.push(Call::Load { address, width: 4 }) {
+            for call in [Call::Commit { number }, Call::Idle, Call::Reply, Call::Retry { number }] {
+                self.push(call);
+            }
+        }
+        for word in [4, 8, 12] {
+            self.push(Call::Load { address: address + word, width: 4 });
+        }
+        let number = self.state.last;
+        self.push(Call::Commit { number });
     }
 }

@@ -4,7 +4,7 @@ use std::io::{self, BufRead, ErrorKind, Write};
 
 use crate::check;
 use crate::model::Right;
-use crate::types::{Answer, Call, Snapshot, State};
+use crate::types::{Answer, Call, Snapshot, State, Step};
 
 /// Bytes a line may have before its LF.
 const LONGEST: usize = 64;
@@ -109,13 +109,17 @@ struct Going {
     memory: Vec<u8>,
 }
 
-/// A script in play: the run that goes on, once a G was accepted.
-#[derive(Default)]
+/// A script in play on a machine: the run that goes on, once a G was accepted.
 pub struct Playing {
+    step: Step,
     going: Option<Going>,
 }
 
 impl Playing {
+    pub fn new(step: Step) -> Playing {
+        Playing { step, going: None }
+    }
+
     /// State, cache and memory, once a G was accepted.
     pub fn now(&self) -> Option<Snapshot<'_>> {
         let run = self.going.as_ref()?;
@@ -127,9 +131,9 @@ impl Playing {
         if !check::figures_allowed(sets, ways, length as usize) {
             return Answer::Refused(1);
         }
+        let (mut state, mut memory) = (State::zero(), vec![0; length as usize]);
         let mut cache = vec![0; check::cache_length(sets, ways)];
-        let memory = vec![0; length as usize];
-        let (state, answer) = Right::start(sets, ways, &mut cache, &memory);
+        let answer = (self.step)(&mut state, &mut cache, &mut memory, Call::Start { sets, ways });
         if answer.accepted() {
             self.going = Some(Going { state, cache, memory });
         }
@@ -141,7 +145,7 @@ impl Playing {
         match (line.and_then(command), &mut self.going) {
             (Some(Command::Begin(sets, ways, length)), _) => self.begin(sets, ways, length),
             (Some(Command::Step(call)), Some(run)) => {
-                Right::step(&mut run.state, &mut run.cache, &mut run.memory, call)
+                (self.step)(&mut run.state, &mut run.cache, &mut run.memory, call)
             }
             _ => Answer::Refused(6),
         }
@@ -206,9 +210,9 @@ fn write_answer(output: &mut impl Write, answer: Answer) -> io::Result<()> {
     output.write_all(&text.bytes[first..])
 }
 
-/// Plays a script from a reader to a writer, line by line.
-pub fn play_stream(mut input: impl BufRead, mut output: impl Write) -> io::Result<()> {
-    let mut playing = Playing::default();
+/// Plays a script from a reader to a writer, line by line, on a machine.
+pub fn play_stream(step: Step, mut input: impl BufRead, mut output: impl Write) -> io::Result<()> {
+    let mut playing = Playing::new(step);
     let mut held = Held { bytes: [0; LONGEST], length: 0 };
     loop {
         let piece = match input.fill_buf() {
@@ -238,10 +242,10 @@ pub fn play_stream(mut input: impl BufRead, mut output: impl Write) -> io::Resul
     output.flush()
 }
 
-/// Plays a script held in memory. Any bytes are a script.
+/// Plays a script held in memory on the right model. Any bytes are a script.
 pub fn play(script: &[u8]) -> Vec<u8> {
     let mut output = Vec::new();
     // A slice and a Vec never fail to read and to write.
-    let _ = play_stream(script, &mut output);
+    let _ = play_stream(Right::step, script, &mut output);
     output
 }

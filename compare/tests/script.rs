@@ -137,7 +137,7 @@ fn any_bytes_give_one_answer_a_line() {
         assert_eq!(answers, ends + open, "script {seed}");
         let mut streamed = Vec::new();
         let reader = std::io::BufReader::with_capacity(1 + seed % 7, &script[..]);
-        play_stream(reader, &mut streamed).unwrap();
+        play_stream(Right::step, reader, &mut streamed).unwrap();
         assert_eq!(streamed, output, "script {seed}");
     }
 }

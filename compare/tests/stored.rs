@@ -4,14 +4,13 @@
 use std::fs;
 use std::path::PathBuf;
 
-use compare::check;
 use compare::fault::{self, Fault};
 use compare::model::Right;
 use compare::program::{difference, Player};
 use compare::rules;
 use compare::script::{self, Command, Playing};
 use compare::stored::{self, Example};
-use compare::types::{Answer, Call, Snapshot, State, Step};
+use compare::types::Snapshot;
 
 fn folder() -> PathBuf {
     [env!("CARGO_MANIFEST_DIR"), "..", "examples"].iter().collect()
@@ -24,7 +23,7 @@ fn examples() -> Vec<Example> {
 #[test]
 fn stored_examples_play() {
     for example in examples() {
-        stored::check(&Player::Model, &example).unwrap();
+        stored::check(&Player::MODEL, &example).unwrap();
     }
 }
 
@@ -44,7 +43,7 @@ fn judged(playing: &mut Playing, line: &[u8]) -> Result<(), String> {
 #[test]
 fn stored_examples_by_the_rules() {
     for Example { name, script, .. } in examples() {
-        let mut playing = Playing::default();
+        let mut playing = Playing::new(Right::step);
         for line in script.split(|byte| *byte == b'\n') {
             judged(&mut playing, line).unwrap_or_else(|what| panic!("{name}: {what}"));
         }
@@ -72,24 +71,6 @@ fn first_difference_is_named() {
     assert_eq!(found(b"idle\nrefused 17\nflushed 0\nidle\n"), expected);
 }
 
-/// What a machine answers to the well-written lines of a script.
-fn answers(step: Step, script: &[u8]) -> Vec<Answer> {
-    let (mut state, mut cache, mut memory) = (State::zero(), Vec::new(), Vec::new());
-    let commands = script.split(|byte| *byte == b'\n').filter_map(script::command);
-    let mut play = |command| match command {
-        Command::Step(call) => step(&mut state, &mut cache, &mut memory, call),
-        Command::Begin(sets, ways, length) => {
-            if !check::figures_allowed(sets, ways, length as usize) {
-                return Answer::Refused(1);
-            }
-            cache = vec![0; check::cache_length(sets, ways)];
-            memory = vec![0; length as usize];
-            step(&mut state, &mut cache, &mut memory, Call::Start { sets, ways })
-        }
-    };
-    commands.map(|command| play(command)).collect()
-}
-
 /// Faults that no answer of a script tells: what free places and an empty cache
 /// hold, and which invalid way is filled.
 const UNSEEN: [Fault; 5] = [
@@ -104,8 +85,8 @@ const UNSEEN: [Fault; 5] = [
 fn stored_examples_notice_faults() {
     let examples = examples();
     let missed = |fault: &Fault| {
-        let same = |script: &[u8]| answers(fault.step(), script) == answers(Right::step, script);
-        examples.iter().all(|one| same(&one.script))
+        let player = Player::Machine(fault.step());
+        examples.iter().all(|example| stored::check(&player, example).is_ok())
     };
     let missed: Vec<Fault> = fault::ALL.iter().copied().filter(missed).collect();
     assert_eq!(missed, UNSEEN);

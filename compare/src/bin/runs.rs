@@ -6,6 +6,7 @@
 
 use std::process::ExitCode;
 
+use compare::arguments;
 use compare::counts::Counts;
 use compare::dropped;
 use compare::examine::{examine, Checks};
@@ -23,12 +24,11 @@ struct Arguments {
 }
 
 /// Reads the command line.
-fn arguments() -> Result<Arguments, String> {
+fn read() -> Result<Arguments, String> {
     let mut read = Arguments { runs: RUNS, seed: 1, only: None };
     let mut words = std::env::args().skip(1);
     while let Some(word) = words.next() {
-        let value = words.next().and_then(|value| value.parse().ok());
-        let value: u64 = value.ok_or(format!("{word} wants a number"))?;
+        let value = arguments::number(&mut words, &word)?;
         match word.as_str() {
             "--runs" => read.runs = value,
             "--seed" => read.seed = value,
@@ -76,15 +76,8 @@ fn play_many(runs: u64, seed: u64) -> Result<(), String> {
 }
 
 fn main() -> ExitCode {
-    let done = arguments().and_then(|read| match read.only {
+    arguments::end(read().and_then(|read| match read.only {
         Some(seed) => play_only(seed),
         None => play_many(read.runs, read.seed),
-    });
-    match done {
-        Ok(()) => ExitCode::SUCCESS,
-        Err(what) => {
-            eprintln!("FAILED: {what}");
-            ExitCode::FAILURE
-        }
-    }
+    }))
 }

@@ -6,13 +6,14 @@
 use std::path::Path;
 use std::process::ExitCode;
 
+use compare::arguments;
 use compare::program::Player;
 use compare::stored;
 
-/// Plays every example; the number played.
-fn play_all(words: &[String]) -> Result<usize, String> {
+/// Plays every example and tells how many there are.
+fn play_all(words: &[String]) -> Result<(), String> {
     let (player, folder) = match words {
-        [folder] => (Player::Model, folder),
+        [folder] => (Player::MODEL, folder),
         [program, folder] => (Player::Program(program.clone()), folder),
         _ => return Err("wanted: [PROGRAM] FOLDER".to_string()),
     };
@@ -20,19 +21,11 @@ fn play_all(words: &[String]) -> Result<usize, String> {
     for example in &examples {
         stored::check(&player, example)?;
     }
-    Ok(examples.len())
+    println!("{} stored examples give their expected output", examples.len());
+    Ok(())
 }
 
 fn main() -> ExitCode {
     let words: Vec<String> = std::env::args().skip(1).collect();
-    match play_all(&words) {
-        Ok(count) => {
-            println!("{count} stored examples give their expected output");
-            ExitCode::SUCCESS
-        }
-        Err(what) => {
-            eprintln!("FAILED: {what}");
-            ExitCode::FAILURE
-        }
-    }
+    arguments::end(play_all(&words))
 }

@@ -1,0 +1,129 @@
+//! Long random scripts: runs with a G before each, and among their lines damaged
+//! ones, refused G's and numbers with leading zeros.
+
+use crate::random::{script_run, Mix, Rng, Run};
+use crate::script::{command, line_of};
+
+/// Mostly accepted calls, with much work for the cache.
+const MIX: Mix = [24, 20, 14, 8, 4, 1, 8, 1];
+
+/// Figures of a run: mostly few sets, ways and lines, now and then any, or all
+/// of the largest.
+pub fn figures(rng: &mut Rng) -> (u32, u32, u32) {
+    if rng.one_in(12) {
+        return (64, 4, 65536);
+    }
+    let any = rng.one_in(5);
+    let sets = if any { 1 << rng.below(7) } else { rng.pick(&[1, 1, 2]) };
+    let ways = if any { 1 + rng.below(4) as u32 } else { rng.pick(&[1, 1, 2, 2, 3]) };
+    let lines = 1 + sets * ways / 2 + rng.below(u64::from(sets * ways) + 3) as u32;
+    (sets, ways, 16 * lines)
+}
+
+/// The G of a run.
+pub fn start_line(run: &Run) -> String {
+    format!("G {} {} {}", run.sets, run.ways, run.found.len())
+}
+
+/// A G that is refused by one of its figures.
+fn refused_start(rng: &mut Rng) -> Vec<u8> {
+    let mut figures = [1, 1, 32];
+    let (place, bad) = rng.pick(&[
+        (0, 0),
+        (0, 3),
+        (0, 128),
+        (0, 1 << 31),
+        (1, 0),
+        (1, 5),
+        (1, u32::MAX),
+        (2, 0),
+        (2, 40),
+        (2, 65552),
+        (2, u32::MAX - 15),
+    ]);
+    figures[place] = bad;
+    format!("G {} {} {}", figures[0], figures[1], figures[2]).into_bytes()
+}
+
+/// A byte of a damaged line: no LF.
+fn any_byte(rng: &mut Rng) -> u8 {
+    let byte = rng.pick(b"GSLACXIRF 0123456789  \t\r\0+-./:x\x80\xff");
+    if rng.one_in(3) && rng.word() as u8 != b'\n' {
+        return (rng.word() as u8).max(b'\n' + 1);
+    }
+    byte
+}
+
+/// A line with one damage, which may be none.
+fn damage(rng: &mut Rng, line: &[u8]) -> Vec<u8> {
+    let mut line = line.to_vec();
+    let at = rng.below(line.len() as u64 + 1) as usize;
+    match rng.below(9) {
+        0 => line.clear(),
+        1 | 2 => line.insert(at, any_byte(rng)),
+        3 if at < line.len() => line[at] = any_byte(rng),
+        4 if at < line.len() => drop(line.remove(at)),
+        5 => line.extend(b" 4294967296"),
+        6 => line.resize(65 + rng.below(130) as usize, b'0'),
+        7 if rng.one_in(40) => line.resize(65 + rng.below(140_000) as usize, b' '),
+        _ => line = (0..1 + rng.below(70)).map(|_| any_byte(rng)).collect(),
+    }
+    line
+}
+
+/// A line that is malformed.
+fn damaged(rng: &mut Rng, line: &[u8]) -> Vec<u8> {
+    let mut bad = damage(rng, line);
+    while command(&bad).is_some() {
+        bad = damage(rng, line);
+    }
+    bad
+}
+
+/// A well-written line with zeros before its last number, up to 64 bytes in all.
+fn padded(rng: &mut Rng, line: &str) -> Vec<u8> {
+    let Some((head, last)) = line.rsplit_once(' ') else {
+        return line.into();
+    };
+    let room = 64 - line.len();
+    let zeros = if rng.one_in(2) { room } else { rng.below(room as u64 + 1) as usize };
+    format!("{head} {}{last}", "0".repeat(zeros)).into_bytes()
+}
+
+/// Adds a run to a script, with other lines among its own.
+fn add_run(script: &mut Vec<u8>, rng: &mut Rng, run: &Run) {
+    let lines = run.calls.iter().copied().filter_map(line_of);
+    for line in std::iter::once(start_line(run)).chain(lines) {
+        let other = match rng.below(400) {
+            0..=11 => Some(damaged(rng, line.as_bytes())),
+            12..=14 => Some(refused_start(rng)),
+            _ => None,
+        };
+        if let Some(other) = other {
+            script.extend(other);
+            script.push(b'\n');
+        }
+        let line = if rng.one_in(60) { padded(rng, &line) } else { line.into_bytes() };
+        script.extend(line);
+        script.push(b'\n');
+    }
+}
+
+/// Makes the script of a seed, of about so many lines. Each third one has no LF
+/// at its end.
+pub fn script(seed: u64, lines: usize) -> Vec<u8> {
+    let mut rng = Rng::new(seed);
+    let mut script = b"I\nL 0 1\n".to_vec();
+    let mut left = lines;
+    while left > 0 {
+        let length = (1 + rng.below(12_000) as usize).min(left);
+        let figures = figures(&mut rng);
+        let run = script_run(&mut rng, figures, length, &MIX);
+        add_run(&mut script, &mut rng, &run);
+        left -= length;
+    }
+    if seed.is_multiple_of(3) {
+        script.pop();
+    }
+    script
+}

@@ -1,0 +1,131 @@
+//! What scripts met, told by the model line by line, and what they must meet.
+
+use crate::counts::{refused, Counts};
+use crate::model::Right;
+use crate::script::{command, Command, Playing};
+use crate::types::{Answer, Call};
+
+/// What long scripts must meet, out of so many lines.
+pub const NEEDED: [(&str, u64); 31] = [
+    ("accepted G", 40_000),
+    ("accepted call", 2),
+    ("stored", 10),
+    ("value", 20),
+    ("waits", 20),
+    ("inquiry answered", 40),
+    ("kept", 60),
+    ("committed", 20),
+    ("request", 20),
+    ("filled", 20),
+    ("eviction of a dirty line", 50),
+    ("drained", 20),
+    ("idle", 50),
+    ("flush of a dirty line", 400),
+    ("flush of several lines", 1_000),
+    ("malformed line", 120),
+    ("line of more than 64 bytes", 1_500),
+    ("last line without LF", 1_000_000),
+    ("refused 1", 800),
+    ("refused 2", 40_000),
+    ("refused 3", 8_000),
+    ("refused 4", 8_000),
+    ("refused 5", 40_000),
+    ("refused 6", 120),
+    ("refused 11", 1_000),
+    ("refused 12", 2_000),
+    ("refused 14", 300),
+    ("refused 15", 10_000),
+    ("refused 16", 2_000),
+    ("refused 17", 1_500),
+    ("refused 18", 1_000),
+];
+
+/// What the model says of a line.
+#[derive(Clone, Copy, Debug)]
+pub struct Told {
+    pub command: Option<Command>,
+    pub answer: Answer,
+    /// A reply that writes a dirty line back.
+    pub evicts: bool,
+}
+
+/// A script in play that tells of each line.
+pub struct Teller {
+    playing: Playing,
+    pub told: Vec<Told>,
+}
+
+impl Default for Teller {
+    fn default() -> Teller {
+        Teller { playing: Playing::new(Right::step), told: Vec::new() }
+    }
+}
+
+impl Teller {
+    fn dirty_lines(&self) -> usize {
+        let tags = self.playing.now().map_or(&[][..], |now| &now.state.tags[..]);
+        tags.iter().filter(|tag| tag.dirty).count()
+    }
+
+    /// Plays a line.
+    pub fn line(&mut self, line: &[u8]) -> Answer {
+        let command = command(line);
+        let replies = matches!(command, Some(Command::Step(Call::Reply)));
+        let dirty = if replies { self.dirty_lines() } else { 0 };
+        let answer = self.playing.answer(Some(line));
+        let evicts = replies && self.dirty_lines() < dirty;
+        self.told.push(Told { command, answer, evicts });
+        answer
+    }
+}
+
+/// The name under which an answer is counted.
+fn name(answer: Answer) -> &'static str {
+    match answer {
+        Answer::Ready => "accepted G",
+        Answer::Stored(_) => "stored",
+        Answer::Value { .. } => "value",
+        Answer::Waits(_) => "waits",
+        Answer::Committed(_) => "committed",
+        Answer::Kept(_) => "kept",
+        Answer::Requested(_) => "request",
+        Answer::Filled(_) => "filled",
+        Answer::Drained(_) => "drained",
+        Answer::Idle => "idle",
+        Answer::Flushed(_) => "flush",
+        Answer::Refused(no) => refused(no),
+        Answer::Shown(_) => "shown",
+    }
+}
+
+/// Counts what a line met.
+fn count_line(counts: &mut Counts, line: &[u8], told: Told) {
+    counts.calls += 1;
+    counts.met(name(told.answer), true);
+    let called = matches!(told.command, Some(Command::Step(_)));
+    counts.met("accepted call", called && told.answer.accepted());
+    counts.met("malformed line", told.command.is_none());
+    counts.met("line of more than 64 bytes", line.len() > 64);
+    counts.met("eviction of a dirty line", told.evicts);
+    let inquiry = matches!(told.command, Some(Command::Step(Call::Retry { .. })));
+    counts.met("inquiry answered", inquiry && matches!(told.answer, Answer::Value { .. }));
+    if let Answer::Flushed(lines) = told.answer {
+        counts.met("flush of a dirty line", lines > 0);
+        counts.met("flush of several lines", lines > 1);
+    }
+}
+
+/// Counts what a script met.
+pub fn count_script(counts: &mut Counts, script: &[u8]) {
+    let mut teller = Teller::default();
+    for line in script.split_inclusive(|byte| *byte == b'\n') {
+        match line.strip_suffix(b"\n") {
+            Some(line) => {
+                teller.line(line);
+                teller.told.drain(..).for_each(|told| count_line(counts, line, told));
+            }
+            None => counts.met("last line without LF", true),
+        }
+    }
+    counts.runs += 1;
+}

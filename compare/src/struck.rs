@@ -1,0 +1,146 @@
+//! Demand 3 as scripts show it: a script of many runs, and the same script with a
+//! dropped stretch struck from each. What answers the remaining lines is the same.
+
+use crate::counts::Counts;
+use crate::dropped::{self, Given, Stretch};
+use crate::long::{figures, start_line};
+use crate::met::{Teller, Told};
+use crate::program::{difference, Difference};
+use crate::random::{told_run, Mix, Rng, Run};
+use crate::script::{line_of, Command};
+use crate::types::{Answer, Call};
+
+/// Runs in which much is dropped.
+const MIX: Mix = [8, 8, 6, 10, 2, 1, 6, 1];
+
+/// Stretches struck from one run, each from a copy of its own.
+const STRETCHES: u64 = 3;
+
+/// What struck stretches must have in them, out of so many stretches.
+pub const NEEDED: [(&str, u64); 9] = [
+    ("stretch struck", 1),
+    ("load struck", 3),
+    ("waiting load struck", 4),
+    ("answered inquiry struck", 20),
+    ("store struck", 6),
+    ("waiting load struck, request remains", 20),
+    ("waiting load struck, drain remains", 10),
+    ("waiting load struck, reply remains", 6),
+    ("waiting load struck, dirty eviction remains", 15),
+];
+
+/// A script and the same with stretches struck.
+#[derive(Default)]
+pub struct Pair {
+    pub whole: Vec<u8>,
+    pub struck: Vec<u8>,
+    /// The lines of the whole script that remain, counted from 0.
+    kept: Vec<usize>,
+    /// Lines of the whole script.
+    lines: usize,
+}
+
+impl Pair {
+    /// Adds a run, and the same run with a stretch struck.
+    fn add(&mut self, lines: &[String], given: &[Given], stretch: Stretch) {
+        self.whole.extend(lines.concat().as_bytes());
+        let calls = dropped::remaining(given, stretch).into_iter().map(|place| place + 1);
+        for place in std::iter::once(0).chain(calls) {
+            self.struck.extend(lines[place].as_bytes());
+            self.kept.push(self.lines + place);
+        }
+        self.lines += lines.len();
+    }
+
+    /// Where the answers to the remaining lines differ first, if they do.
+    pub fn difference(&self, whole: &[u8], struck: &[u8]) -> Option<Difference> {
+        let lines: Vec<&[u8]> = whole.split_inclusive(|byte| *byte == b'\n').collect();
+        let remaining = self.kept.iter().filter_map(|place| lines.get(*place));
+        let expected: Vec<u8> = remaining.flat_map(|line| line.iter().copied()).collect();
+        difference(&self.struck, &expected, struck)
+    }
+}
+
+/// The lines of a run with their LFs, and what the model says of them.
+fn told(run: &Run) -> (Vec<String>, Vec<Told>) {
+    let mut teller = Teller::default();
+    let calls = run.calls.iter().copied().filter_map(line_of);
+    let lines = std::iter::once(start_line(run)).chain(calls).map(|line| {
+        teller.line(line.as_bytes());
+        line + "\n"
+    });
+    (lines.collect(), teller.told)
+}
+
+/// What a line of a run gave; none for its G.
+fn given(told: &Told) -> Option<Given> {
+    match told.command {
+        Some(Command::Step(call)) => Some(Given { call, answer: told.answer, bytes: Vec::new() }),
+        _ => None,
+    }
+}
+
+/// What is in a stretch, by the names of `NEEDED`.
+fn inside(told: &[Told], stretch: Stretch) -> [(&'static str, bool); 9] {
+    let calls = &told[1..];
+    let lines = &calls[stretch.first..=stretch.abort];
+    let has = |wanted: &dyn Fn(Call, Answer) -> bool| {
+        let seen = |one: Given| wanted(one.call, one.answer);
+        lines.iter().filter_map(given).any(seen)
+    };
+    let load = has(&|call, answer| matches!(call, Call::Load { .. }) && answer.accepted());
+    let waits =
+        has(&|call, answer| matches!((call, answer), (Call::Load { .. }, Answer::Waits(_))));
+    let inquiry = has(&|call, answer| match (call, answer) {
+        (Call::Retry { number }, Answer::Value { .. }) => number >= stretch.n,
+        _ => false,
+    });
+    let store = has(&|_, answer| matches!(answer, Answer::Stored(_)));
+    let request = has(&|_, answer| matches!(answer, Answer::Requested(_)));
+    let drain = has(&|_, answer| matches!(answer, Answer::Drained(_)));
+    let reply = has(&|_, answer| matches!(answer, Answer::Filled(_)));
+    let evicts = lines.iter().any(|one| one.evicts);
+    let met = [
+        true,
+        load,
+        waits,
+        inquiry,
+        store,
+        waits && request,
+        waits && drain,
+        waits && reply,
+        waits && evicts,
+    ];
+    std::array::from_fn(|at| (NEEDED[at].0, met[at]))
+}
+
+/// One of the stretches, mostly one with a reply beside a waiting load.
+fn choose(rng: &mut Rng, told: &[Told], stretches: &[Stretch]) -> Option<Stretch> {
+    let rich = |stretch: &Stretch| inside(told, *stretch)[7].1;
+    let chosen: Vec<Stretch> = stretches.iter().copied().filter(rich).collect();
+    match (chosen.is_empty(), stretches.is_empty()) {
+        (_, true) => None,
+        (false, _) if !rng.one_in(3) => Some(rng.pick(&chosen)),
+        _ => Some(rng.pick(stretches)),
+    }
+}
+
+/// Makes the pair of a seed out of so many runs, and counts what is struck.
+pub fn pair(seed: u64, runs: usize, counts: &mut Counts) -> Pair {
+    let mut rng = Rng::new(seed);
+    let mut pair = Pair::default();
+    for _ in 0..runs {
+        let (figures, length) = (figures(&mut rng), 20 + rng.below(150) as usize);
+        let (run, before) = told_run(&mut rng, figures, length, &MIX);
+        let (lines, told) = told(&run);
+        let given: Vec<Given> = told.iter().filter_map(given).collect();
+        let mut stretches = dropped::stretches(1, &given);
+        stretches.retain(|stretch| stretch.abort < before);
+        for _ in 0..STRETCHES {
+            let Some(stretch) = choose(&mut rng, &told, &stretches) else { break };
+            pair.add(&lines, &given, stretch);
+            inside(&told, stretch).into_iter().for_each(|(name, met)| counts.met(name, met));
+        }
+    }
+    pair
+}
