@@ -23,7 +23,8 @@
 //! `cargo run --release --bin runs` plays random runs under all the checks,
 //! `cargo run --release --bin player` plays a script,
 //! `cargo run --release --bin scripts` plays the stored examples,
-//! `cargo run --release --bin beside` sets a player beside the model.
+//! `cargo run --release --bin beside` sets a player beside the model,
+//! `cargo run --release --bin player_bench` times one beside the Rust player.
 
 pub mod arguments;
 pub mod check;

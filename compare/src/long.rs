@@ -109,6 +109,13 @@ fn add_run(script: &mut Vec<u8>, rng: &mut Rng, run: &Run) {
     }
 }
 
+/// A run as a script, without other lines among its own.
+pub fn plain_script(run: &Run) -> Vec<u8> {
+    let lines = run.calls.iter().copied().filter_map(line_of);
+    let lines = std::iter::once(start_line(run)).chain(lines);
+    lines.flat_map(|line| (line + "\n").into_bytes()).collect()
+}
+
 /// Makes the script of a seed, of about so many lines. Each third one has no LF
 /// at its end.
 pub fn script(seed: u64, lines: usize) -> Vec<u8> {

@@ -1,6 +1,6 @@
 //! The script player: lines of a letter and numbers in, one answer line each out.
 
-use std::io::{self, BufRead, ErrorKind, Write};
+use std::io::{self, BufRead, BufReader, BufWriter, ErrorKind, Write};
 
 use crate::check;
 use crate::model::Right;
@@ -240,6 +240,13 @@ pub fn play_stream(step: Step, mut input: impl BufRead, mut output: impl Write) 
         write_answer(&mut output, Answer::Refused(6))?;
     }
     output.flush()
+}
+
+/// Plays standard input to standard output on the right model.
+pub fn play_standard() -> io::Result<()> {
+    let input = BufReader::with_capacity(1 << 16, io::stdin().lock());
+    let output = BufWriter::with_capacity(1 << 16, io::stdout().lock());
+    play_stream(Right::step, input, output)
 }
 
 /// Plays a script held in memory on the right model. Any bytes are a script.

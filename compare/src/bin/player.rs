@@ -1,12 +1,9 @@
 //! Plays a script from standard input to standard output.
 
-use std::io::{self, BufReader, BufWriter};
+use std::io;
 
-use compare::model::Right;
-use compare::script::play_stream;
+use compare::script;
 
 fn main() -> io::Result<()> {
-    let input = BufReader::with_capacity(1 << 16, io::stdin().lock());
-    let output = BufWriter::with_capacity(1 << 16, io::stdout().lock());
-    play_stream(Right::step, input, output)
+    script::play_standard()
 }
