@@ -2,10 +2,19 @@
 
 use std::process::ExitCode;
 
-/// The number behind a word of the command line.
-pub fn number(words: &mut impl Iterator<Item = String>, word: &str) -> Result<u64, String> {
-    let value = words.next().and_then(|value| value.parse().ok());
-    value.ok_or(format!("{word} wants a number"))
+/// Reads words with a number behind each. A word that is not known is not taken.
+pub fn numbers(
+    mut words: impl Iterator<Item = String>,
+    mut take: impl FnMut(&str, u64) -> bool,
+) -> Result<(), String> {
+    while let Some(word) = words.next() {
+        let value = words.next().and_then(|value| value.parse().ok());
+        let value = value.ok_or(format!("{word} wants a number"))?;
+        if !take(&word, value) {
+            return Err(format!("no such argument: {word}"));
+        }
+    }
+    Ok(())
 }
 
 /// Ends a program: a failure is told and gives 1.

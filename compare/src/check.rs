@@ -86,9 +86,48 @@ pub const CLAUSES: [(&str, Clause); 20] = [
     ("request wanted", request_wanted),
 ];
 
-/// All clauses together. It is asked only when check 1 has passed.
+/// The clauses on the records in use, by their places in `CLAUSES`.
+const OF_RECORDS: std::ops::Range<usize> = 3..11;
+
+/// All clauses together, those on the records in one pass. It is asked only when
+/// check 1 has passed.
 pub fn well_formed(state: &State, cache: &[u8], memory: &[u8]) -> bool {
-    CLAUSES.iter().all(|(_, clause)| clause(state, cache, memory))
+    let mut others = CLAUSES[..OF_RECORDS.start].iter().chain(&CLAUSES[OF_RECORDS.end..]);
+    others.all(|(_, clause)| clause(state, cache, memory)) && records_good(state, cache, memory)
+}
+
+/// The clauses on the records in use, set by set.
+fn records_good(state: &State, cache: &[u8], memory: &[u8]) -> bool {
+    let all = (1u32 << state.ways.min(31)) - 1;
+    let lines = cache.chunks_exact(LINE * state.ways.max(1) as usize);
+    by_set(state).zip(lines).zip(0u32..).all(|((set, bytes), index)| {
+        let mut ages = 0;
+        let mut records = set.iter().zip(bytes.chunks_exact(LINE)).enumerate();
+        records.all(|(way, (tag, bytes))| {
+            ages |= 1u32 << tag.age.min(31);
+            if tag.valid {
+                line_good(state, &set[..way], *tag, index, bytes, memory)
+            } else {
+                !tag.dirty && tag.line == 0 && bytes == [0; LINE]
+            }
+        }) && ages == all
+    })
+}
+
+/// The clauses on a valid line, with the records before it in its set.
+fn line_good(
+    state: &State,
+    before: &[Tag],
+    tag: Tag,
+    set: u32,
+    bytes: &[u8],
+    memory: &[u8],
+) -> bool {
+    let first = (tag.line as usize).saturating_mul(LINE);
+    let behind = memory.get(first..first.saturating_add(LINE));
+    tag.line & state.sets.wrapping_sub(1) == set
+        && !before.iter().any(|other| other.valid && other.line == tag.line)
+        && behind.is_some_and(|found| tag.dirty || found == bytes)
 }
 
 /// Tag records in use.
@@ -141,7 +180,8 @@ pub fn committed_at_most_last(state: &State, _: &[u8], _: &[u8]) -> bool {
 /// "unused records are all zero".
 pub fn unused_records_zero(state: &State, _: &[u8], _: &[u8]) -> bool {
     let unused = &state.tags[used(state).len()..];
-    let bits = |tag: &Tag| u32::from(tag.valid | tag.dirty) | tag.line | tag.age;
+    let flags = |tag: &Tag| u64::from(tag.valid | tag.dirty);
+    let bits = |tag: &Tag| u64::from(tag.line) << 32 | u64::from(tag.age) | flags(tag);
     unused.iter().fold(0, |seen, tag| seen | bits(tag)) == 0
 }
 

@@ -22,7 +22,7 @@ pub const NEEDED: [(&str, u64); 9] = [
     ("load struck", 3),
     ("waiting load struck", 4),
     ("answered inquiry struck", 20),
-    ("store struck", 6),
+    ("store struck", 8),
     ("waiting load struck, request remains", 20),
     ("waiting load struck, drain remains", 10),
     ("waiting load struck, reply remains", 6),

@@ -370,6 +370,7 @@ fn random_damage() {
         for _ in 0..1 + rng.below(2) {
             damage_at_random(&mut bench, &mut rng);
         }
+        one_by_one(&bench, seed);
         match check::refusal(&bench.state, &bench.cache, &bench.memory) {
             None => seen[0] += 1,
             Some(1) => seen[1] += 1,
@@ -380,6 +381,15 @@ fn random_damage() {
         }
     }
     assert!(seen.iter().all(|count| *count > 200), "{seen:?}");
+}
+
+/// Well-formedness is all the clauses one by one, once check 1 has passed.
+fn one_by_one(bench: &Bench, seed: u64) {
+    let Bench { state, cache, memory } = bench;
+    if check::figures_agree(state, cache, memory) {
+        let all = CLAUSES.iter().all(|(_, clause)| clause(state, cache, memory));
+        assert_eq!(check::well_formed(state, cache, memory), all, "seed {seed}");
+    }
 }
 
 /// The model's answer on a damaged bench is what the plain rules say.

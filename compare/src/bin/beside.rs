@@ -38,15 +38,15 @@ fn read() -> Result<Arguments, String> {
     let program = words.next().ok_or("wanted: PROGRAM [--seconds N] [--seed S]")?;
     let player = Player::Program(program);
     let mut read = Arguments { player, seconds: 5, seed: 1, print: false };
-    while let Some(word) = words.next() {
-        let value = arguments::number(&mut words, &word)?;
-        match word.as_str() {
+    arguments::numbers(words, |word, value| {
+        match word {
             "--seconds" => read.seconds = value,
             "--seed" => read.seed = value,
             "--print" => (read.seed, read.print) = (value, true),
-            _ => return Err(format!("no such argument: {word}")),
+            _ => return false,
         }
-    }
+        true
+    })?;
     Ok(read)
 }
 

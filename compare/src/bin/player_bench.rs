@@ -1,5 +1,6 @@
 //! Times a program that plays scripts beside the Rust player, and compares their
-//! outputs byte for byte. Both read a file and write a file.
+//! outputs byte for byte. Both read a file and write a file. The time is the
+//! processor's, so that other work on the machine disturbs it little.
 //!
 //! `player_bench PROGRAM [--lines N] [--rounds N]` prints the tables; the Rust
 //! player is this program itself, started once more as `player_bench --play`.
@@ -36,15 +37,24 @@ fn read() -> Result<Arguments, String> {
     let mut words = std::env::args().skip(1);
     let program = words.next().ok_or("wanted: PROGRAM [--lines N] [--rounds N]")?;
     let mut read = Arguments { program: program.into(), lines: 1_000_000, rounds: 3 };
-    while let Some(word) = words.next() {
-        let value = arguments::number(&mut words, &word)?.max(1);
-        match word.as_str() {
-            "--lines" => read.lines = value as usize,
-            "--rounds" => read.rounds = value,
-            _ => return Err(format!("no such argument: {word}")),
+    arguments::numbers(words, |word, value| {
+        match word {
+            "--lines" => read.lines = value.max(1) as usize,
+            "--rounds" => read.rounds = value.max(1),
+            _ => return false,
         }
-    }
+        true
+    })?;
     Ok(read)
+}
+
+/// Processor seconds of the programs that have ended, in steps of 0.01, where the
+/// system tells them.
+fn ended_seconds() -> Option<f64> {
+    let told = fs::read_to_string("/proc/self/stat").ok()?;
+    let fields = told.rsplit_once(')')?.1.split_whitespace();
+    let steps: Option<f64> = fields.skip(13).take(2).map(|field| field.parse::<f64>().ok()).sum();
+    Some(steps? / 100.0)
 }
 
 /// Files of one measurement, in a folder of their own.
@@ -66,9 +76,10 @@ impl Files {
         let (input, output) = (File::open(&self.input)?, File::create(&self.output)?);
         let mut command = Command::new(player);
         command.args(word).stdin(Stdio::from(input)).stdout(Stdio::from(output));
-        let begun = Instant::now();
+        let (begun, ended) = (Instant::now(), ended_seconds());
         let status = command.status()?;
-        let seconds = begun.elapsed().as_secs_f64();
+        let on_clock = begun.elapsed().as_secs_f64();
+        let seconds = ended_seconds().zip(ended).map_or(on_clock, |(now, then)| now - then);
         if !status.success() {
             return Err(std::io::Error::other(format!("{}: {status}", player.display())));
         }
@@ -144,12 +155,12 @@ fn tables(read: &Arguments) -> Result<(), String> {
     head("one line again and again");
     for figures in FIGURES {
         let parts = [
-            ("malformed: read and answered", "S 16 4 7 x"),
-            ("refused: well-formedness too", "L 16 3"),
-            ("idle: nothing to do", "I"),
+            ("malformed: read and answered", "S 16 4 7 x", read.lines * 4),
+            ("refused: well-formedness too", "L 16 3", read.lines / 2),
+            ("idle: nothing to do", "I", read.lines / 2),
         ];
-        for (what, line) in parts {
-            let script = repeated(figures, line, read.lines / 2);
+        for (what, line, lines) in parts {
+            let script = repeated(figures, line, lines);
             row(read, &files, &format!("{}; {what}", name(figures)), &script)?;
         }
     }

@@ -26,16 +26,16 @@ struct Arguments {
 /// Reads the command line.
 fn read() -> Result<Arguments, String> {
     let mut read = Arguments { runs: RUNS, seed: 1, only: None };
-    let mut words = std::env::args().skip(1);
-    while let Some(word) = words.next() {
-        let value = arguments::number(&mut words, &word)?;
-        match word.as_str() {
+    let words = std::env::args().skip(1);
+    arguments::numbers(words, |word, value| {
+        match word {
             "--runs" => read.runs = value,
             "--seed" => read.seed = value,
             "--only" => read.only = Some(value),
-            _ => return Err(format!("no such argument: {word}")),
+            _ => return false,
         }
-    }
+        true
+    })?;
     Ok(read)
 }
 
