@@ -20,9 +20,10 @@ pub fn figures(rng: &mut Rng) -> (u32, u32, u32) {
     (sets, ways, 16 * lines)
 }
 
-/// The G of a run.
-pub fn start_line(run: &Run) -> String {
-    format!("G {} {} {}", run.sets, run.ways, run.found.len())
+/// The lines of a run, its G first.
+pub fn lines_of(run: &Run) -> impl Iterator<Item = String> + '_ {
+    let start = format!("G {} {} {}", run.sets, run.ways, run.found.len());
+    std::iter::once(start).chain(run.calls.iter().copied().filter_map(line_of))
 }
 
 /// A G that is refused by one of its figures.
@@ -47,11 +48,11 @@ fn refused_start(rng: &mut Rng) -> Vec<u8> {
 
 /// A byte of a damaged line: no LF.
 fn any_byte(rng: &mut Rng) -> u8 {
-    let byte = rng.pick(b"GSLACXIRF 0123456789  \t\r\0+-./:x\x80\xff");
-    if rng.one_in(3) && rng.word() as u8 != b'\n' {
-        return (rng.word() as u8).max(b'\n' + 1);
+    let near = rng.pick(b"GSLACXIRF 0123456789  \t\r\0+-./:x\x80\xff");
+    match rng.word() as u8 {
+        byte if rng.one_in(3) && byte != b'\n' => byte,
+        _ => near,
     }
-    byte
 }
 
 /// A line with one damage, which may be none.
@@ -90,30 +91,30 @@ fn padded(rng: &mut Rng, line: &str) -> Vec<u8> {
     format!("{head} {}{last}", "0".repeat(zeros)).into_bytes()
 }
 
+/// A line to stand before a line of a run, or none.
+fn other(rng: &mut Rng, line: &str) -> Option<Vec<u8>> {
+    match rng.below(400) {
+        0..=11 => Some(damaged(rng, line.as_bytes())),
+        12..=14 => Some(refused_start(rng)),
+        _ => None,
+    }
+}
+
 /// Adds a run to a script, with other lines among its own.
 fn add_run(script: &mut Vec<u8>, rng: &mut Rng, run: &Run) {
-    let lines = run.calls.iter().copied().filter_map(line_of);
-    for line in std::iter::once(start_line(run)).chain(lines) {
-        let other = match rng.below(400) {
-            0..=11 => Some(damaged(rng, line.as_bytes())),
-            12..=14 => Some(refused_start(rng)),
-            _ => None,
-        };
-        if let Some(other) = other {
-            script.extend(other);
+    for line in lines_of(run) {
+        let other = other(rng, &line);
+        let line = if rng.one_in(60) { padded(rng, &line) } else { line.into_bytes() };
+        for line in other.into_iter().chain([line]) {
+            script.extend(line);
             script.push(b'\n');
         }
-        let line = if rng.one_in(60) { padded(rng, &line) } else { line.into_bytes() };
-        script.extend(line);
-        script.push(b'\n');
     }
 }
 
 /// A run as a script, without other lines among its own.
 pub fn plain_script(run: &Run) -> Vec<u8> {
-    let lines = run.calls.iter().copied().filter_map(line_of);
-    let lines = std::iter::once(start_line(run)).chain(lines);
-    lines.flat_map(|line| (line + "\n").into_bytes()).collect()
+    lines_of(run).flat_map(|line| (line + "\n").into_bytes()).collect()
 }
 
 /// Makes the script of a seed, of about so many lines. Each third one has no LF

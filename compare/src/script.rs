@@ -30,6 +30,26 @@ impl Held {
         let length = std::mem::take(&mut self.length);
         self.bytes.get(..length)
     }
+
+    /// Hands over each line that ends in a piece of the input and holds the rest.
+    fn lines(
+        &mut self,
+        mut piece: &[u8],
+        mut answer: impl FnMut(Option<&[u8]>) -> io::Result<()>,
+    ) -> io::Result<()> {
+        while let Some(end) = piece.iter().position(|byte| *byte == b'\n') {
+            let (line, rest) = (&piece[..end], &piece[end + 1..]);
+            if self.length == 0 {
+                answer(Some(line))?;
+            } else {
+                self.push(line);
+                answer(self.take())?;
+            }
+            piece = rest;
+        }
+        self.push(piece);
+        Ok(())
+    }
 }
 
 /// A line that is well written.
@@ -219,21 +239,11 @@ pub fn play_stream(step: Step, mut input: impl BufRead, mut output: impl Write) 
             Err(error) if error.kind() == ErrorKind::Interrupted => continue,
             piece => piece?,
         };
-        let (read, mut rest) = (piece.len(), piece);
+        let read = piece.len();
         if read == 0 {
             break;
         }
-        while let Some(end) = rest.iter().position(|byte| *byte == b'\n') {
-            let line = if held.length == 0 {
-                Some(&rest[..end])
-            } else {
-                held.push(&rest[..end]);
-                held.take()
-            };
-            write_answer(&mut output, playing.answer(line))?;
-            rest = &rest[end + 1..];
-        }
-        held.push(rest);
+        held.lines(piece, |line| write_answer(&mut output, playing.answer(line)))?;
         input.consume(read);
     }
     if held.length > 0 {

@@ -3,11 +3,11 @@
 
 use crate::counts::Counts;
 use crate::dropped::{self, Given, Stretch};
-use crate::long::{figures, start_line};
+use crate::long::{figures, lines_of};
 use crate::met::{Teller, Told};
 use crate::program::{difference, Difference};
 use crate::random::{told_run, Mix, Rng, Run};
-use crate::script::{line_of, Command};
+use crate::script::Command;
 use crate::types::{Answer, Call};
 
 /// Runs in which much is dropped.
@@ -64,8 +64,7 @@ impl Pair {
 /// The lines of a run with their LFs, and what the model says of them.
 fn told(run: &Run) -> (Vec<String>, Vec<Told>) {
     let mut teller = Teller::default();
-    let calls = run.calls.iter().copied().filter_map(line_of);
-    let lines = std::iter::once(start_line(run)).chain(calls).map(|line| {
+    let lines = lines_of(run).map(|line| {
         teller.line(line.as_bytes());
         line + "\n"
     });
@@ -80,43 +79,34 @@ fn given(told: &Told) -> Option<Given> {
     }
 }
 
-/// What is in a stretch, by the names of `NEEDED`.
-fn inside(told: &[Told], stretch: Stretch) -> [(&'static str, bool); 9] {
-    let calls = &told[1..];
-    let lines = &calls[stretch.first..=stretch.abort];
-    let has = |wanted: &dyn Fn(Call, Answer) -> bool| {
-        let seen = |one: Given| wanted(one.call, one.answer);
-        lines.iter().filter_map(given).any(seen)
-    };
-    let load = has(&|call, answer| matches!(call, Call::Load { .. }) && answer.accepted());
-    let waits =
-        has(&|call, answer| matches!((call, answer), (Call::Load { .. }, Answer::Waits(_))));
-    let inquiry = has(&|call, answer| match (call, answer) {
-        (Call::Retry { number }, Answer::Value { .. }) => number >= stretch.n,
+/// What is in a stretch, in the order of `NEEDED`.
+fn inside(told: &[Told], stretch: Stretch) -> [bool; 9] {
+    let lines = &told[1..][stretch.first..=stretch.abort];
+    let given: Vec<(Call, Answer)> =
+        lines.iter().filter_map(given).map(|one| (one.call, one.answer)).collect();
+    let has = |wanted: &dyn Fn(&(Call, Answer)) -> bool| given.iter().any(wanted);
+    let answers = |wanted: fn(&Answer) -> bool| given.iter().any(|(_, answer)| wanted(answer));
+    let waits = has(&|one| matches!(one, (Call::Load { .. }, Answer::Waits(_))));
+    let inquiry = has(&|one| match one {
+        (Call::Retry { number }, Answer::Value { .. }) => *number >= stretch.n,
         _ => false,
     });
-    let store = has(&|_, answer| matches!(answer, Answer::Stored(_)));
-    let request = has(&|_, answer| matches!(answer, Answer::Requested(_)));
-    let drain = has(&|_, answer| matches!(answer, Answer::Drained(_)));
-    let reply = has(&|_, answer| matches!(answer, Answer::Filled(_)));
-    let evicts = lines.iter().any(|one| one.evicts);
-    let met = [
+    [
         true,
-        load,
+        has(&|(call, answer)| matches!(call, Call::Load { .. }) && answer.accepted()),
         waits,
         inquiry,
-        store,
-        waits && request,
-        waits && drain,
-        waits && reply,
-        waits && evicts,
-    ];
-    std::array::from_fn(|at| (NEEDED[at].0, met[at]))
+        answers(|answer| matches!(answer, Answer::Stored(_))),
+        waits && answers(|answer| matches!(answer, Answer::Requested(_))),
+        waits && answers(|answer| matches!(answer, Answer::Drained(_))),
+        waits && answers(|answer| matches!(answer, Answer::Filled(_))),
+        waits && lines.iter().any(|one| one.evicts),
+    ]
 }
 
 /// One of the stretches, mostly one with a reply beside a waiting load.
 fn choose(rng: &mut Rng, told: &[Told], stretches: &[Stretch]) -> Option<Stretch> {
-    let rich = |stretch: &Stretch| inside(told, *stretch)[7].1;
+    let rich = |stretch: &Stretch| inside(told, *stretch)[7];
     let chosen: Vec<Stretch> = stretches.iter().copied().filter(rich).collect();
     match (chosen.is_empty(), stretches.is_empty()) {
         (_, true) => None,
@@ -139,7 +129,9 @@ pub fn pair(seed: u64, runs: usize, counts: &mut Counts) -> Pair {
         for _ in 0..STRETCHES {
             let Some(stretch) = choose(&mut rng, &told, &stretches) else { break };
             pair.add(&lines, &given, stretch);
-            inside(&told, stretch).into_iter().for_each(|(name, met)| counts.met(name, met));
+            for ((name, _), met) in NEEDED.iter().zip(inside(&told, stretch)) {
+                counts.met(name, met);
+            }
         }
     }
     pair
