@@ -71,8 +71,8 @@ fn first_difference_is_named() {
     assert_eq!(found(b"idle\nrefused 17\nflushed 0\nidle\n"), expected);
 }
 
-/// Faults that no answer of a script tells: what free places and an empty cache
-/// hold, and which invalid way is filled.
+/// Faults that no short script tells: what free places and an empty cache hold,
+/// and which invalid way is filled.
 const UNSEEN: [Fault; 5] = [
     Fault::DroppedNumberOnly,
     Fault::VictimPassesInvalid,
