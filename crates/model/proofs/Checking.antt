@@ -13,7 +13,7 @@ use Rattle.rules.specs.Shape.{Queues, Hierarchy, fits, topNumber}
 use Rattle.rules.specs.Calls.{guarded, storeReady}
 use Rattle.rules.specs.WellFormed.{freeZero, freePlacesLast, committedUpToLast, numbersRise, numbersUpToLast, numbersApart, accessesPass, committedWait, waitingUncovered, storePasses, loadPasses, requestAbsent, requestInside, requestWanted, linesFormed, queuesFormed, wellFormed}
 use Rattle.rules.specs.Runs.{stateChecks}
-use Rattle.queues.specs.Good.{queuesGood, queuesWith, sized}
+use Rattle.entries.specs.Good.{queuesGood, queuesWith, sized}
 use Rattle.model.specs.Tables.{tabled, usedTags}
 use Rattle.model.proofs.CacheLoops.{used-line}
 use Rattle.model.specs.State.{queuesOf, hierarchyOf}

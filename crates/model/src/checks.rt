@@ -8,7 +8,7 @@ ghost use Rattle.rules.specs.Calls.{guarded};
 ghost use Rattle.rules.specs.WellFormed.{requestAbsent, requestInside, requestWanted};
 ghost use Rattle.rules.specs.Runs.{stateChecks};
 ghost use Rattle.model.specs.Tables.{tabled};
-ghost use Rattle.queues.specs.Good.{sized};
+ghost use Rattle.entries.specs.Good.{sized};
 ghost use Rattle.model.specs.State.{queuesOf, hierarchyOf, Shaped};
 use crate::Answer;
 use crate::State;
@@ -108,7 +108,7 @@ impl State {
                 }
                 let stores = self.stores;
                 let loads = self.loads;
-                queues::request_wanted(request, stores, loads, self.committed)
+                entries::request_wanted(request, stores, loads, self.committed)
             }
         }
     }
@@ -121,7 +121,7 @@ impl State {
             let tags = self.tags;
             let stores = self.stores;
             let loads = self.loads;
-            if queues::queues_good(stores, loads, self.last, self.committed, self.size) {
+            if entries::queues_good(stores, loads, self.last, self.committed, self.size) {
                 if self.is_request_good() {
                     if cache::lines_good(tags, self.sets, self.ways, self.size, cache, memory) {
                         return 0;

@@ -20,7 +20,7 @@ fn use_answered(tags: [Tag; 256], sets: u32, ways: u32, l: LoadEntry, k: u32) ->
     requires { ⌜ (0 < sets) × (sets ≤ 64) × (ways ≤ 4) ⌝ }
     ensures { λ r. ⌜ r ≡ usedBy sets ways k l tags ⌝ }
 {
-    if queues::is_answered_by(l, k) {
+    if load_queue::is_answered_by(l, k) {
         return cache::use_line(tags, sets, ways, l.address / 16);
     }
     tags
@@ -59,7 +59,7 @@ impl State {
         let tags = self.tags;
         let request = self.request;
         let used = use_all_answered(tags, self.sets, self.ways, loads, k);
-        let rest = queues::remove_answered(loads, k);
+        let rest = load_queue::remove_answered(loads, k);
         Step {
             answer: Answer::Committed(k),
             next: State {
@@ -101,8 +101,8 @@ impl State {
         let stores = self.stores;
         let tags = self.tags;
         let request = self.request;
-        let held = queues::squash_stores(stores, n);
-        let listed = queues::squash_loads(loads, n);
+        let held = store_queue::squash_stores(stores, n);
+        let listed = load_queue::squash_loads(loads, n);
         Step {
             answer: Answer::Kept(n - 1),
             next: State {

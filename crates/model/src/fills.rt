@@ -104,7 +104,7 @@ impl State {
             return self.refused(k);
         }
         let stores = self.stores;
-        if queues::has_committed_store(stores, self.committed) {
+        if store_queue::has_committed_store(stores, self.committed) {
             return self.refused(18);
         }
         self.flush_accepted(cache, memory)

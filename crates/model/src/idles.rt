@@ -59,7 +59,7 @@ impl State {
         );
         let dirty = marked_dirty(tags, slot);
         let used = cache::use_slot(dirty, first, ways, slot);
-        let rest = queues::pop_store(stores);
+        let rest = store_queue::pop_store(stores);
         Step {
             answer: Answer::Drained(s.number),
             next: State {
@@ -186,7 +186,7 @@ impl State {
         let stores = self.stores;
         let loads = self.loads;
         let s = stores[0];
-        let ready = queues::store_ready(stores, loads, self.committed);
+        let ready = entries::store_ready(stores, loads, self.committed);
         let here = self.is_present(s.address / 16);
         if ready {
             if here {

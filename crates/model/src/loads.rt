@@ -57,7 +57,7 @@ impl State {
             width: a.width,
             waiting: reads::is_lacking(r),
         };
-        let listed = queues::place_load(loads, entry);
+        let listed = load_queue::place_load(loads, entry);
         Step {
             answer: reads::answer_to(i, r),
             next: State {
@@ -89,7 +89,7 @@ impl State {
             return self.refused(13);
         }
         let loads = self.loads;
-        if queues::has_free_load(loads) {
+        if load_queue::has_free_load(loads) {
             self.load_accepted(cache, a)
         } else {
             self.refused(12)
@@ -104,14 +104,14 @@ impl State {
         let loads = self.loads;
         let tags = self.tags;
         if i <= self.committed {
-            let rest = queues::remove_waiting(loads, i);
+            let rest = load_queue::remove_waiting(loads, i);
             let used = cache::use_line(tags, self.sets, self.ways, l.address / 16);
             return Step {
                 answer: Answer::Value(i, v),
                 next: self.with_loads(rest, used),
             };
         }
-        let marked = queues::answer_waiting(loads, i);
+        let marked = load_queue::answer_waiting(loads, i);
         Step {
             answer: Answer::Value(i, v),
             next: self.with_loads(marked, tags),
@@ -142,8 +142,8 @@ impl State {
             return self.refused(k);
         }
         let loads = self.loads;
-        if queues::has_waiting(loads, i) {
-            let l = queues::waiting_load(loads, i);
+        if load_queue::has_waiting(loads, i) {
+            let l = load_queue::waiting_load(loads, i);
             self.retry_accepted(cache, i, l)
         } else {
             self.refused(14)

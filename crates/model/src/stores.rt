@@ -33,7 +33,7 @@ impl State {
             width: a.width,
             value,
         };
-        let held = queues::place_store(stores, entry);
+        let held = store_queue::place_store(stores, entry);
         Step {
             answer: Answer::Stored(i),
             next: State {
@@ -60,7 +60,7 @@ impl State {
                 return self.refused(13);
             }
             let stores = self.stores;
-            if queues::has_free_store(stores) {
+            if store_queue::has_free_store(stores) {
                 return self.store_accepted(a, value);
             }
             return self.refused(11);
