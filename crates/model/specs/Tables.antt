@@ -10,12 +10,8 @@ use Rattle.rules.specs.declared.Tag.{Tag}
 use Rattle.rules.specs.Shape.{Hierarchy, tagAt, lineOf}
 use Rattle.rules.specs.Calls.{answeredBy}
 use Rattle.rules.specs.declared.LoadEntry.{LoadEntry}
+use Rattle.lines.specs.Refusal.{hierarchy}
 use Rattle.rules.specs.Lines.{agedAt, useLine, writeBackSlot}
-
--- the hierarchy of these figures, records and bytes
-abbrev pub hierarchy : ℕ → ℕ → ℕ → List Tag → List ℕ → List ℕ → Hierarchy
-hierarchy sets ways size tags cache memory =
-    record { sets = sets; ways = ways; size = size; tags = tags; cache = cache; memory = memory }
 
 -- with no bytes
 abbrev pub tabled : ℕ → ℕ → List Tag → Hierarchy
