@@ -56,7 +56,8 @@ fn write_store(
     let at = 16 * slot + (s.address % 16) as usize;
     cache::put_store(cache, at, s.width, s.value);
     let dirty = marked_dirty(tags, slot);
-    cache::use_slot(dirty, first, n, slot)
+    let used = cache::use_slot(dirty, first, n, slot);
+    used
 }
 
 impl State {
