@@ -83,6 +83,12 @@ module _ (b : Hierarchy) (l f v : ℕ) (at-first : f ≡ firstSlot b l)
   unfolding present
   found-present = ap₂ (λ (v f : ℕ). ltb v (f + b .ways)) found-slot at-first
 
+-- the slot of a present line is in the set
+pub found-inside :
+    (sets ways l : ℕ) (tags : List Tag) (f v : ℕ) → f ≡ (l % sets) * ways
+    → v ≡ firstFrom (λ k. holdsLine l (tagAt tags k)) f ways → present (tabled sets ways tags) l ≡ true → v < f + ways
+found-inside sets ways l tags f v at-first found here = ltb-true v (f + ways) (found-present (tabled sets ways tags) l f v at-first found ∙ here)
+
 module _ (sets ways l : ℕ) (tags : List Tag) (f v : ℕ) (at-first : f ≡ (l % sets) * ways)
     (found : v ≡ firstFrom (λ k. holdsLine l (tagAt tags k)) f ways) where
   abbrev b : Hierarchy

@@ -1,11 +1,14 @@
--- Checks 1 and 10 in the order of the code: figures and lengths, the queues' entries, the register, the lines.
+-- Checks 1 and 10 in the order of the code: the lines with the figures and the lent lengths, the queues' entries, the register.
 use Prim.Native.Nat.{ℕ, _+_, _≤_}
 use mathlib.Core.Path.{_≡_, refl, _∙_, ap}
 use mathlib.Core.Bool.{Bool, true, false, _&&_}
 use mathlib.Core.List.{List, [], _∷_, _++_}
 use lib.ListN.{length}
 use borrow.Author.Tests.{le-leb, eq-eqb}
+use native.Mathlib.Omega.{arith}
 use Rattle.lists.specs.Padded.{every}
+use Rattle.lists.proofs.Cond.{cases}
+use Rattle.lines.specs.Refusal.{linesRefusal}
 use Rattle.rules.specs.declared.Request.{Request}
 use Rattle.rules.specs.declared.Request.the-variants.{Free, Line}
 use Rattle.rules.specs.Lines.{slotOf, present, useLine}
@@ -13,19 +16,21 @@ use Rattle.rules.specs.Shape.{Queues, Hierarchy, fits, topNumber}
 use Rattle.rules.specs.Calls.{guarded, storeReady}
 use Rattle.rules.specs.WellFormed.{freeZero, freePlacesLast, committedUpToLast, numbersRise, numbersUpToLast, numbersApart, accessesPass, committedWait, waitingUncovered, storePasses, loadPasses, requestAbsent, requestInside, requestWanted, linesFormed, queuesFormed, wellFormed}
 use Rattle.rules.specs.Runs.{stateChecks}
-use Rattle.queues.specs.Good.{queuesGood, queuesWith, sized}
+use Rattle.entries.specs.Good.{queuesGood, queuesWith, sized}
 use Rattle.model.specs.Tables.{tabled, usedTags}
 use Rattle.model.proofs.CacheLoops.{used-line}
 use Rattle.model.specs.State.{queuesOf, hierarchyOf}
 use Rattle.model.specs.declared.State.{State}
 
-and-swap : (a b c : Bool) → (a && (b && c)) ≡ (b && (c && a))
-and-swap true true true = refl
-and-swap true true false = refl
-and-swap true false c = refl
-and-swap false true true = refl
-and-swap false true false = refl
-and-swap false false c = refl
+-- the lines pass
+pub lines-fit : (b : Hierarchy) → linesRefusal b ≡ 0 → fits b ≡ true
+unfolding linesRefusal
+lines-fit b e = cases (fits b) (λ t. t) (λ t. let z : _≡_ {A = ℕ} 1 0 = rw t at e in let no : ⊥ = omega arith in absurd no)
+
+lines-formed : (b : Hierarchy) → linesRefusal b ≡ 0 → linesFormed b ≡ true
+unfolding linesRefusal
+lines-formed b e = cases (linesFormed b) (λ t. t)
+    (λ t. let z : _≡_ {A = ℕ} 10 0 = rw (lines-fit b e, t) at e in let no : ⊥ = omega arith in absurd no)
 
 every-join : (xs ys : List Bool) → every (λ t. t) (xs ++ ys) ≡ (every (λ t. t) xs && every (λ t. t) ys)
 unfolding every
@@ -52,23 +57,26 @@ module _ (q : Queues) (b : Hierarchy) (ss : length (q .stores) ≡ 16) (ls : len
       rw (eq-eqb (length (q .stores)) 16 ss, eq-eqb (length (q .loads)) 8 ls, le-leb (q .last) topNumber top)
       (e ∙ ap (λ (t : Bool). queuesGood q b && t) (and-true (requestAbsent (q .request) b) (requestInside (q .request) b) (requestWanted (q .request) q)))
 
-  pub formed-parted : fits b ≡ true → wellFormed q b ≡ (queuesGood q b && (requestGood q b && linesFormed b))
+  formed-parted : fits b ≡ true → linesFormed b ≡ true → wellFormed q b ≡ (queuesGood q b && requestGood q b)
   unfolding wellFormed
-  formed-parted f =
-      rw f (ap (λ (t : Bool). linesFormed b && t) queues-parted ∙ and-swap (linesFormed b) (queuesGood q b) (requestGood q b))
+  formed-parted f l = rw (f, l) queues-parted
 
-  -- the number of checks 1 and 10, by what the code finds
-  pub state-fits : fits b ≡ true → (queuesGood q b && (requestGood q b && linesFormed b)) ≡ true → 0 ≡ guarded (stateChecks q b) (λ k. k) 0
-  unfolding guarded
-  state-fits f g = rw (f, formed-parted f ∙ g)
+  -- the number of checks 1 and 10, by what the code finds: in the lines
+  pub state-lines : (k : ℕ) → k ≡ linesRefusal b → (k ≡ 0 → ⊥) → k ≡ guarded (stateChecks q b) (λ k. k) 0
+  unfolding linesRefusal wellFormed guarded
+  state-lines k e n = cases (fits b)
+      (λ f. cases (linesFormed b) (λ l. absurd (n (rw (f, l) at e))) (λ l. (rw (f, l) at e) ∙ rw (f, l)))
+      (λ f. (rw f at e) ∙ rw f)
 
-  pub state-malformed : fits b ≡ true → (queuesGood q b && (requestGood q b && linesFormed b)) ≡ false → 10 ≡ guarded (stateChecks q b) (λ k. k) 0
-  unfolding guarded
-  state-malformed f g = rw (f, formed-parted f ∙ g)
+  -- in the queues and the register, where the lines pass
+  module _ (e : linesRefusal b ≡ 0) where
+    pub state-fits : (queuesGood q b && requestGood q b) ≡ true → 0 ≡ guarded (stateChecks q b) (λ k. k) 0
+    unfolding guarded
+    state-fits g = rw (lines-fit b e, formed-parted (lines-fit b e) (lines-formed b e) ∙ g)
 
-pub state-unfit : (q : Queues) (b : Hierarchy) → fits b ≡ false → 1 ≡ guarded (stateChecks q b) (λ k. k) 0
-unfolding guarded
-state-unfit q b f = rw f
+    pub state-malformed : (queuesGood q b && requestGood q b) ≡ false → 10 ≡ guarded (stateChecks q b) (λ k. k) 0
+    unfolding guarded
+    state-malformed g = rw (lines-fit b e, formed-parted (lines-fit b e) (lines-formed b e) ∙ g)
 
 -- ---- what the functions look at is what the clauses look at
 

@@ -21,6 +21,7 @@ use Rattle.rules.specs.WellFormed.{wellFormed, loadPasses, storePasses, freeSto
 use Rattle.rules.proofs.Parts.{Parts, parts, goodLoad, goodStore, goodRequest, load-passes, store-passes, good-load, good-store}
 use Rattle.model.specs.State.{queuesOf, hierarchyOf, Shaped, Fine}
 use Rattle.rules.proofs.LineFacts.{fits-tells, good-tells}
+use Rattle.lines.proofs.Figures.{Figured, figures-tell}
 use Rattle.model.specs.Tables.{DirtyInside}
 use Rattle.model.specs.declared.State.{State}
 use Rattle.model.proofs.CacheLoops.{dirty-inside}
@@ -59,44 +60,6 @@ access-fine b a w small p =
 
 -- ---- figures
 
-pub record Figured (sets ways size : ℕ) : Type 0 where
-  pub some-set : 0 < sets
-  pub most-sets : sets ≤ 64
-  pub some-way : 0 < ways
-  pub most-ways : ways ≤ 4
-  pub some-line : 16 ≤ size
-  pub whole-lines : size % 16 ≡ 0
-  pub most-size : size ≤ 65536
-
-sets-bound : (n : ℕ) → setsAllowed n ≡ true → (0 < n) × (n ≤ 64)
-unfolding setsAllowed
-sets-bound n e =
-    cases (eqb n 1) (λ h. let q = eqb-true n 1 h in (omega arith, omega arith)) λ h1.
-    cases (eqb n 2) (λ h. let q = eqb-true n 2 h in (omega arith, omega arith)) λ h2.
-    cases (eqb n 4) (λ h. let q = eqb-true n 4 h in (omega arith, omega arith)) λ h3.
-    cases (eqb n 8) (λ h. let q = eqb-true n 8 h in (omega arith, omega arith)) λ h4.
-    cases (eqb n 16) (λ h. let q = eqb-true n 16 h in (omega arith, omega arith)) λ h5.
-    cases (eqb n 32) (λ h. let q = eqb-true n 32 h in (omega arith, omega arith)) λ h6.
-    let q = eqb-true n 64 (rw (h1, h2, h3, h4, h5, h6) at e) in (omega arith, omega arith)
-
-pub figures-tell : (sets ways size : ℕ) → figuresAllowed sets ways size ≡ true → Figured sets ways size
-unfolding figuresAllowed
-figures-tell sets ways size e =
-    let s = sets-bound sets (and-left (setsAllowed sets) _ e) in
-    let e₁ = and-right (setsAllowed sets) _ e in
-    let w = and-left (leb 1 ways && leb ways 4) _ e₁ in
-    let e₂ = and-right (leb 1 ways && leb ways 4) _ e₁ in
-    let m = and-right (eqb (size % 16) 0) _ e₂ in
-    record {
-      some-set = s .0;
-      most-sets = s .1;
-      some-way = leb-true 1 ways (and-left _ _ w);
-      most-ways = leb-true ways 4 (and-right (leb 1 ways) _ w);
-      some-line = leb-true 16 size (and-left _ _ m);
-      whole-lines = eqb-true (size % 16) 0 (and-left _ _ e₂);
-      most-size = leb-true size 65536 (and-right (leb 16 size) _ m);
-    }
-
 module _ (s : State) (cache memory : List ℕ) (f : fits (hierarchyOf s cache memory) ≡ true) where
   pub fit-figures : Figured (s .sets) (s .ways) (s .size)
   unfolding fits
@@ -132,6 +95,18 @@ length-of X Y f l n e = sym (length-map l f) ∙ e
 pub found-low : (p : ℕ → Bool) (f n r : ℕ) → r ≡ firstFrom p f n → (f ≤ r) × (r ≤ f + n)
 found-low p f n r e = (omega (arith, first-low p n f), omega (arith, first-high p n f))
 
+-- the slots from f on, w of them, are among the slots in use
+pub slot-low : (f w n : ℕ) → f + w ≤ n → n ≤ 256 → f + w ≤ 256
+slot-low f w n p q = omega arith
+
+-- the bytes of such a slot are in the cache
+pub slot-bytes : (v f w n k : ℕ) → v < f + w → f + w ≤ n → k ≡ n * 16 → 16 * v + 16 ≤ k
+slot-bytes v f w n k p q e = omega arith
+
+-- a line of memory
+pub line-low : (l k : ℕ) → 16 * l + 16 ≤ k → k ≤ 65536 → l < 4096
+line-low l k p q = omega arith
+
 -- ---- entries of a well-formed state
 
 module _ (q : Queues) (b : Hierarchy) (small : b .size ≤ 65536) (p : Parts q b) where
@@ -164,23 +139,29 @@ module _ (q : Queues) (b : Hierarchy) (small : b .size ≤ 65536) (p : Parts q b
       ltb-true (16 * l) (b .size) (and-left _ _ (and-right (requestAbsent (Line l) b) _ w))
 
 -- what a well-formed state that requests line l leaves to the fill
-pub record Filling (s : State) (cache memory : List ℕ) (l : ℕ) : Type 0 where
-  pub fit : fits (hierarchyOf s cache memory) ≡ true
-  pub figures : Figured (s .sets) (s .ways) (s .size)
-  pub inside : 16 * l + 16 ≤ length memory
-  pub small : length memory ≤ 65536
-  pub dirty-lines : (n : ℕ) → DirtyInside (s .tags) n (length memory)
+pub record Filling (s : State) (l cacheLength memoryLength : ℕ) : Type 0 where
+  pub some-set : 0 < s .sets
+  pub most-sets : s .sets ≤ 64
+  pub some-way : 0 < s .ways
+  pub most-ways : s .ways ≤ 4
+  pub cache-long : cacheLength ≡ s .sets * s .ways * 16
+  pub inside : 16 * l + 16 ≤ memoryLength
+  pub small : memoryLength ≤ 65536
+  pub dirty-lines : DirtyInside (s .tags) 256 memoryLength
 
 pub filling :
     (s : State) (cache memory : List ℕ) (l : ℕ) → wellFormed (queuesOf s) (hierarchyOf s cache memory) ≡ true → s .request ≡ Line l
-    → Filling s cache memory l
+    → Filling s l (length cache) (length memory)
 filling s cache memory l g e =
     let p = parts (queuesOf s) (hierarchyOf s cache memory) g in
     let f = fit-figures s cache memory (p .fit) in
     record {
-      fit = p .fit;
-      figures = f;
+      some-set = f .some-set;
+      most-sets = f .most-sets;
+      some-way = f .some-way;
+      most-ways = f .most-ways;
+      cache-long = fit-cache s cache memory (p .fit);
       inside = omega (arith, request-inside (queuesOf s) (hierarchyOf s cache memory) (f .most-size) p l e, f .whole-lines, fit-memory s cache memory (p .fit));
       small = omega (arith, f .most-size, fit-memory s cache memory (p .fit));
-      dirty-lines = dirty-inside (hierarchyOf s cache memory) (fits-tells _ (p .fit)) (good-tells _ (p .lines));
+      dirty-lines = dirty-inside (hierarchyOf s cache memory) (fits-tells _ (p .fit)) (good-tells _ (p .lines)) 256;
     }

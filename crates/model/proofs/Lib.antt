@@ -1,8 +1,6 @@
 pub mod CacheLoops
-pub mod SlotTests
 pub mod Calls
 pub mod Facts
 pub mod Reading
 pub mod Checking
 pub mod Moves
-pub mod Benches

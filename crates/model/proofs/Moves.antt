@@ -8,25 +8,28 @@ use lib.Dec.{ltb}
 use lib.ListN.{length, set, take, drop, length-take, length-drop}
 use lib.Seq.{set-set}
 use borrow.Author.Tests.{lt-ltb, le-ltb, eq-eqb, ne-eqb, not-true}
-use Rattle.lists.specs.Padded.{any, first, filter}
-use Rattle.lists.specs.Counted.{eachFrom}
+use Rattle.lists.specs.Padded.{any, first, filter, shifted}
+use Rattle.lists.specs.Bytes.{overlaid}
+use Rattle.lists.specs.Counted.{firstFrom, eachFrom}
 use Rattle.lists.proofs.Cond.{cases, and-left, wrong, or-left, or-right}
 use Rattle.lists.proofs.Some.{any-first}
 use Rattle.rules.specs.declared.Tag.{Tag}
 use Rattle.rules.specs.declared.LoadEntry.{LoadEntry}
+use Rattle.rules.specs.declared.StoreEntry.{StoreEntry}
 use Rattle.rules.specs.declared.Request.the-variants.{Free, Line}
-use Rattle.rules.specs.Shape.{Queues, Hierarchy, noLoad, isFreeLoad, lineOf, slots, firstSlot, tagAt, withDirty}
-use Rattle.rules.specs.Lines.{slotOf, present, placeOf, useSlot, writtenBackAt, writeBackSlot, copiedAt, install, victim, fillLine, writeBackAll}
+use Rattle.rules.specs.Shape.{Queues, Hierarchy, holding, noStore, noLoad, isFreeLoad, lineOf, slots, firstSlot, tagAt, withDirty}
+use Rattle.rules.specs.Lines.{holdsLine, slotOf, present, placeOf, agedAt, useSlot, putStore, writeStore, writtenBackAt, writeBackSlot, copiedAt, install, victim, fillLine, writeBackAll}
 use Rattle.rules.specs.Calls.{Outcome, wantsLine, oldestStore, storeReady, requestLine, drainOldest, unchanged, idled, idleRule, replyRule, showRule, shown, emptyPart, answeredBy, useEach}
 use Rattle.rules.specs.Calls as rules
 use Rattle.rules.specs.Runs.{outcome, answer}
 use Rattle.rules.proofs.Checks.{outcome-by}
-use Rattle.model.specs.Tables.{hierarchy, tabled, usedTags, victimIn, usedBy, installedIn, flushedTags, flushedMemory}
+use Rattle.lines.specs.Refusal.{hierarchy}
+use Rattle.model.specs.Tables.{tabled, usedTags, victimIn, usedBy, installedIn, flushedTags, flushedMemory}
 use Rattle.model.proofs.CacheLoops.{used-line, flushed-all, filledAt, fill-copies, victim-slot}
 use Rattle.model.specs.State.{queuesOf, hierarchyOf, worldOf, outcomeOf, idleRequest}
 use Rattle.model.specs.Shows.{partIn, shownPart}
 use Rattle.model.specs.declared.State.{State}
-use Rattle.model.specs.declared.Answer.the-variants.{Filled}
+use Rattle.model.specs.declared.Answer.the-variants.{Filled, Drained}
 
 -- ---- commit
 
@@ -140,21 +143,74 @@ fill-parts b l v e =
     let age : tagAt (set (b .tags) v t) v .age ≡ tagAt (b .tags) v .age = set-age (b .tags) v in
     rw (← e, age, set-set (b .tags) v)
 
--- the whole reply, from what each function made
+-- the fill, from what each function made
 pub filled-whole :
-    (s : State) (cache memory : List ℕ) (l f v n : ℕ) (tags : List Tag) (cache′ memory′ : List ℕ)
-    → s .request ≡ Line l → f ≡ (l % s .sets) * s .ways → v ≡ victimIn (s .tags) f (s .ways)
-    → memory′ ≡ eachFrom (writtenBackAt (tagAt (s .tags) v) cache v) 0 memory
+    (sets ways : ℕ) (tags : List Tag) (cache memory : List ℕ) (l f v n : ℕ) (tags′ : List Tag) (cache′ memory′ : List ℕ)
+    → f ≡ (l % sets) * ways → v ≡ victimIn tags f ways
+    → memory′ ≡ eachFrom (writtenBackAt (tagAt tags v) cache v) 0 memory
     → n ≡ 16 → cache′ ≡ eachFrom (filledAt v (take n (drop (16 * l) memory′))) 0 cache
-    → tags ≡ installedIn f (s .ways) v l (s .tags)
+    → tags′ ≡ installedIn f ways v l tags
+    → hierarchy sets ways 0 tags′ cache′ memory′ ≡ fillLine l (hierarchy sets ways 0 tags cache memory)
+filled-whole sets ways tags cache memory l f v n tags′ cache′ memory′ at-first found m e c t =
+    let b : Hierarchy = hierarchy sets ways 0 tags cache memory in
+    let whole = fill-parts b l v (victim-slot b l f v at-first found) in
+    let copied : cache′ ≡ eachFrom (copiedAt memory′ v l) 0 cache = c ∙ rw e (fill-copies memory′ v l cache) in
+    rw (whole, t, copied, m, ← at-first)
+
+-- the memory length plays no part in it
+fill-sized :
+    (l : ℕ) (b : Hierarchy)
+    → (let f : Hierarchy = fillLine l (hierarchy (b .sets) (b .ways) 0 (b .tags) (b .cache) (b .memory)) in holding b (f .tags) (f .cache) (f .memory))
+    ≡ fillLine l b
+unfolding fillLine install writeBackSlot useSlot victim
+fill-sized l b = refl
+
+-- the whole reply
+pub filled-state :
+    (s : State) (cache memory : List ℕ) (l : ℕ) (tags : List Tag) (cache′ memory′ : List ℕ)
+    → s .request ≡ Line l
+    → hierarchy (s .sets) (s .ways) 0 tags cache′ memory′ ≡ fillLine l (hierarchy (s .sets) (s .ways) 0 (s .tags) cache memory)
     → outcomeOf (record { answer = Filled (l * 16); next = record { sets = s .sets; ways = s .ways; size = s .size; last = s .last; committed = s .committed; request = Free; stores = s .stores; loads = s .loads; tags = tags } }) cache′ memory′
     ≡ replyRule (queuesOf s) (hierarchyOf s cache memory)
 unfolding replyRule
-filled-whole s cache memory l f v n tags cache′ memory′ r at-first found m e c t =
-    let b : Hierarchy = hierarchyOf s cache memory in
-    let whole = fill-parts b l v (victim-slot b l f v at-first found) in
-    let copied : cache′ ≡ eachFrom (copiedAt memory′ v l) 0 cache = c ∙ rw e (fill-copies memory′ v l cache) in
-    rw (r, whole, t, copied, m, ← at-first)
+filled-state s cache memory l tags cache′ memory′ r e =
+    let whole : hierarchy (s .sets) (s .ways) (s .size) tags cache′ memory′ ≡ fillLine l (hierarchyOf s cache memory) =
+    ap (λ (f : Hierarchy). hierarchy (s .sets) (s .ways) (s .size) (f .tags) (f .cache) (f .memory)) e ∙ fill-sized l (hierarchyOf s cache memory) in
+    rw (r, ← whole)
+
+-- ---- drain
+
+-- the memory length and the bytes of memory play no part in a store that is written
+write-sized :
+    (e : StoreEntry) (b : Hierarchy)
+    → (let f : Hierarchy = writeStore e (hierarchy (b .sets) (b .ways) 0 (b .tags) (b .cache) []) in holding b (f .tags) (f .cache) (b .memory))
+    ≡ writeStore e b
+unfolding writeStore putStore useSlot slotOf
+write-sized e b = refl
+
+-- the oldest store e, written and removed
+pub drained-state :
+    (s : State) (cache memory : List ℕ) (e : StoreEntry) (tags : List Tag) (cache′ : List ℕ) (stores : List StoreEntry)
+    → e ≡ oldestStore (queuesOf s)
+    → hierarchy (s .sets) (s .ways) 0 tags cache′ [] ≡ writeStore e (hierarchy (s .sets) (s .ways) 0 (s .tags) cache [])
+    → stores ≡ shifted noStore (s .stores)
+    → outcomeOf (record { answer = Drained (e .number); next = record { sets = s .sets; ways = s .ways; size = s .size; last = s .last; committed = s .committed; request = s .request; stores = stores; loads = s .loads; tags = tags } }) cache′ memory
+    ≡ drainOldest (queuesOf s) (hierarchyOf s cache memory)
+drained-state s cache memory e tags cache′ stores o w p =
+    let whole : hierarchy (s .sets) (s .ways) (s .size) tags cache′ memory ≡ writeStore e (hierarchyOf s cache memory) =
+    ap (λ (f : Hierarchy). hierarchy (s .sets) (s .ways) (s .size) (f .tags) (f .cache) memory) w ∙ write-sized e (hierarchyOf s cache memory) in
+    rw (← o, ← whole, p)
+
+-- the bytes and the records of a store that is written, from what each function made
+pub written-whole :
+    (sets ways : ℕ) (tags : List Tag) (cache : List ℕ) (e : StoreEntry) (f v : ℕ) (dirty used : List Tag) (cache′ : List ℕ)
+    → f ≡ (lineOf (e .address) % sets) * ways → v ≡ firstFrom (λ k. holdsLine (lineOf (e .address)) (tagAt tags k)) f ways
+    → cache′ ≡ eachFrom (overlaid (16 * v + e .address % 16) (e .width) (e .value)) 0 cache
+    → dirty ≡ set tags v (withDirty true (tagAt tags v))
+    → used ≡ eachFrom (agedAt f ways v (tagAt dirty v .age)) 0 dirty
+    → hierarchy sets ways 0 used cache′ [] ≡ writeStore e (hierarchy sets ways 0 tags cache [])
+unfolding writeStore putStore useSlot slotOf
+written-whole sets ways tags cache e f v dirty used cache′ at-first found c d u = rw (u, d, c, found, at-first)
 
 -- ---- flush
 

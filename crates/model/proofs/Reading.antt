@@ -17,9 +17,9 @@ use Rattle.rules.specs.Lines.{slotOf, present, placeOf, cachedByte}
 use Rattle.rules.specs.Forward.{olderCovers, storeByte, loadByte, loadValue}
 use Rattle.rules.specs.Calls.{isNone, loadAnswer}
 use Rattle.model.specs.State.{Fine, answerOf}
-use Rattle.queues.specs.Forwarded.{forwarded}
+use Rattle.store_queue.specs.Forwarded.{forwarded}
 use Rattle.model.specs.Reads.{byteAs, readOf, byteFrom, byteOrLine, joinedTo, isLacking, answerTo}
-use Rattle.queues.specs.declared.Byte.the-variants.{Known, Unknown}
+use Rattle.store_queue.specs.declared.Byte.the-variants.{Known, Unknown}
 use Rattle.model.specs.declared.reads.Read.the-variants.{Whole, Lacking}
 
 -- ---- values put together from bytes

@@ -8,8 +8,8 @@ use Rattle.lists.specs.Padded.{any, final}
 use Rattle.rules.specs.declared.StoreEntry.{StoreEntry}
 use Rattle.rules.specs.Shape.{noStore}
 use Rattle.rules.specs.Forward.{olderCovers, storeByte}
-use Rattle.queues.specs.declared.Byte.{Byte}
-use Rattle.queues.specs.declared.Byte.the-variants.{Known, Unknown}
+use Rattle.store_queue.specs.declared.Byte.{Byte}
+use Rattle.store_queue.specs.declared.Byte.the-variants.{Known, Unknown}
 use Rattle.model.specs.declared.reads.Read.{Read}
 use Rattle.model.specs.declared.reads.Read.the-variants.{Whole, Lacking}
 use Rattle.model.specs.declared.Answer.{Answer}

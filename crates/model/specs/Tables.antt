@@ -1,5 +1,5 @@
 -- Tables of tag records by themselves, as the code has them: what the rules make of a hierarchy with these records.
-use Prim.Native.Nat.{ℕ, _+_, _*_, _<_, _≤_}
+use Prim.Native.Nat.{ℕ, _+_, _*_, _%_, _<_, _≤_}
 use mathlib.Core.Path.{_≡_}
 use mathlib.Core.Bool.{true, false, cond, not}
 use lib.Dec.{ltb}
@@ -10,12 +10,9 @@ use Rattle.rules.specs.declared.Tag.{Tag}
 use Rattle.rules.specs.Shape.{Hierarchy, tagAt, lineOf}
 use Rattle.rules.specs.Calls.{answeredBy}
 use Rattle.rules.specs.declared.LoadEntry.{LoadEntry}
-use Rattle.rules.specs.Lines.{agedAt, useLine, writeBackSlot}
-
--- the hierarchy of these figures, records and bytes
-abbrev pub hierarchy : ℕ → ℕ → ℕ → List Tag → List ℕ → List ℕ → Hierarchy
-hierarchy sets ways size tags cache memory =
-    record { sets = sets; ways = ways; size = size; tags = tags; cache = cache; memory = memory }
+use Rattle.rules.specs.declared.StoreEntry.{StoreEntry}
+use Rattle.lines.specs.Refusal.{hierarchy}
+use Rattle.rules.specs.Lines.{present, agedAt, useLine, writeBackSlot}
 
 -- with no bytes
 abbrev pub tabled : ℕ → ℕ → List Tag → Hierarchy
@@ -59,3 +56,15 @@ unfoldable pub installedIn : ℕ → ℕ → ℕ → ℕ → List Tag → List T
 installedIn f ways v l tags =
     let t : Tag = record { valid = true; dirty = false; line = l; age = tagAt tags v .age } in
     eachFrom (agedAt f ways v (tagAt (set tags v t) v .age)) 0 (set tags v t)
+
+-- ---- drain
+
+-- what is left to the writing of a store whose line is present
+pub record Writable (sets ways : ℕ) (tags : List Tag) (s : StoreEntry) (cacheLength : ℕ) : Type 0 where
+  pub some-set : 0 < sets
+  pub most-sets : sets ≤ 64
+  pub most-ways : ways ≤ 4
+  pub cache-long : cacheLength ≡ sets * ways * 16
+  pub narrow : s .width ≤ 4
+  pub one-line : s .address % 16 + s .width ≤ 16
+  pub here : present (tabled sets ways tags) (lineOf (s .address)) ≡ true

@@ -1,14 +1,13 @@
-// Checks 1 and 10: whether the figures are allowed and the lent lengths agree, and whether the state is well formed.
+// Checks 1 and 10 of a state: the lines first, with the figures and the lent lengths, then the queues and the register.
 ghost use mathlib.Core.Path.{_≡_};
 ghost use mathlib.Core.Bool.{true, _&&_};
 ghost use Prim.Native.Nat.{_*_};
-ghost use Rattle.rules.specs.Shape.{setsAllowed, figuresAllowed, fits};
 ghost use Rattle.rules.specs.Lines.{present};
 ghost use Rattle.rules.specs.Calls.{guarded};
 ghost use Rattle.rules.specs.WellFormed.{requestAbsent, requestInside, requestWanted};
 ghost use Rattle.rules.specs.Runs.{stateChecks};
 ghost use Rattle.model.specs.Tables.{tabled};
-ghost use Rattle.queues.specs.Good.{sized};
+ghost use Rattle.entries.specs.Good.{sized};
 ghost use Rattle.model.specs.State.{queuesOf, hierarchyOf, Shaped};
 use crate::Answer;
 use crate::State;
@@ -16,70 +15,7 @@ use crate::Step;
 use crate::cache;
 use rules::Request;
 
-// "Sets: 1, 2, 4, 8, 16, 32 or 64."
-fn sets_allowed(n: u32) -> bool
-    ensures { λ r. ⌜ r ≡ setsAllowed n ⌝ }
-{
-    if n == 1 {
-        return true;
-    }
-    if n == 2 {
-        return true;
-    }
-    if n == 4 {
-        return true;
-    }
-    if n == 8 {
-        return true;
-    }
-    if n == 16 {
-        return true;
-    }
-    if n == 32 {
-        return true;
-    }
-    n == 64
-}
-
-// The figures are allowed.
-pub(crate) fn figures_allowed(sets: u32, ways: u32, size: usize) -> bool
-    ensures { λ r. ⌜ r ≡ figuresAllowed sets ways size ⌝ }
-{
-    if sets_allowed(sets) {
-        if ways < 1 {
-            return false;
-        }
-        if 4 < ways {
-            return false;
-        }
-        if size % 16 != 0 {
-            return false;
-        }
-        if size < 16 {
-            return false;
-        }
-        size <= 65536
-    } else {
-        false
-    }
-}
-
 impl State {
-    // Check 1 passes.
-    fn is_fit(self, cache: &[u8], memory: &[u8]) -> bool
-        ensures { λ r. ⌜ r ≡ fits (hierarchyOf self (now (cache .entry)) (now (memory .entry))) ⌝ }
-    {
-        let size = self.size as usize;
-        if figures_allowed(self.sets, self.ways, size) {
-            if memory.len() != size {
-                return false;
-            }
-            cache.len() == ((self.sets * self.ways) as usize) * 16
-        } else {
-            false
-        }
-    }
-
     // The line is present.
     pub(crate) fn is_present(self, line: u32) -> bool
         requires { ⌜ Shaped self (self .sets * self .ways * 16) ⌝ }
@@ -108,7 +44,7 @@ impl State {
                 }
                 let stores = self.stores;
                 let loads = self.loads;
-                queues::request_wanted(request, stores, loads, self.committed)
+                entries::request_wanted(request, stores, loads, self.committed)
             }
         }
     }
@@ -117,20 +53,19 @@ impl State {
     pub(crate) fn state_refusal(self, cache: &[u8], memory: &[u8]) -> u32
         ensures { λ r. ⌜ r ≡ guarded (stateChecks (queuesOf self) (hierarchyOf self (now (cache .entry)) (now (memory .entry)))) (λ k. k) 0 ⌝ }
     {
-        if self.is_fit(cache, memory) {
-            let tags = self.tags;
-            let stores = self.stores;
-            let loads = self.loads;
-            if queues::queues_good(stores, loads, self.last, self.committed, self.size) {
-                if self.is_request_good() {
-                    if cache::lines_good(tags, self.sets, self.ways, self.size, cache, memory) {
-                        return 0;
-                    }
-                }
-            }
-            return 10;
+        let tags = self.tags;
+        let stores = self.stores;
+        let loads = self.loads;
+        let k = lines::lines_refusal(tags, self.sets, self.ways, self.size, cache, memory);
+        if k != 0 {
+            return k;
         }
-        1
+        if entries::queues_good(stores, loads, self.last, self.committed, self.size) {
+            if self.is_request_good() {
+                return 0;
+            }
+        }
+        10
     }
 
     // A refusal: the number alone.

@@ -20,7 +20,7 @@ fn use_answered(tags: [Tag; 256], sets: u32, ways: u32, l: LoadEntry, k: u32) ->
     requires { ⌜ (0 < sets) × (sets ≤ 64) × (ways ≤ 4) ⌝ }
     ensures { λ r. ⌜ r ≡ usedBy sets ways k l tags ⌝ }
 {
-    if queues::is_answered_by(l, k) {
+    if load_queue::is_answered_by(l, k) {
         return cache::use_line(tags, sets, ways, l.address / 16);
     }
     tags
@@ -50,29 +50,20 @@ fn use_all_answered(
 
 impl State {
     // "Commit k sets h to k. Answered loads numbered k or less leave the list in number order, each using its line if the line is present."
-    fn commit_accepted(self, k: u32) -> Step
+    fn commit_accepted(mut self, k: u32) -> Step
         requires { ⌜ Shaped self (self .sets * self .ways * 16) ⌝ }
         ensures { λ r. ⌜ ((c m : List ℕ) → outcomeOf r c m ≡ commitRule k (queuesOf self) (hierarchyOf self c m)) ⌝ }
     {
         let loads = self.loads;
-        let stores = self.stores;
         let tags = self.tags;
-        let request = self.request;
         let used = use_all_answered(tags, self.sets, self.ways, loads, k);
-        let rest = queues::remove_answered(loads, k);
+        let rest = load_queue::remove_answered(loads, k);
+        self.committed = k;
+        self.loads = rest;
+        self.tags = used;
         Step {
             answer: Answer::Committed(k),
-            next: State {
-                sets: self.sets,
-                ways: self.ways,
-                size: self.size,
-                last: self.last,
-                committed: k,
-                request,
-                stores,
-                loads: rest,
-                tags: used,
-            },
+            next: self,
         }
     }
 
@@ -93,29 +84,21 @@ impl State {
     }
 
     // "removes every store and load numbered n or more and sets last to n − 1"
-    fn abort_accepted(self, n: u32) -> Step
+    fn abort_accepted(mut self, n: u32) -> Step
         requires { ⌜ 0 < n ⌝ }
         ensures { λ r. ⌜ ((c m : List ℕ) → outcomeOf r c m ≡ abortRule n (queuesOf self) (hierarchyOf self c m)) ⌝ }
     {
         let loads = self.loads;
         let stores = self.stores;
-        let tags = self.tags;
-        let request = self.request;
-        let held = queues::squash_stores(stores, n);
-        let listed = queues::squash_loads(loads, n);
+        let held = store_queue::squash_stores(stores, n);
+        let listed = load_queue::squash_loads(loads, n);
+        let last = n - 1;
+        self.last = last;
+        self.stores = held;
+        self.loads = listed;
         Step {
-            answer: Answer::Kept(n - 1),
-            next: State {
-                sets: self.sets,
-                ways: self.ways,
-                size: self.size,
-                last: n - 1,
-                committed: self.committed,
-                request,
-                stores: held,
-                loads: listed,
-                tags,
-            },
+            answer: Answer::Kept(last),
+            next: self,
         }
     }
 

@@ -80,19 +80,19 @@ impl State {
     }
 
     // "Flush writes every dirty line to memory, marks it clean and answers the number of lines written. Ages stay."
-    fn flush_accepted(self, cache: &[u8], memory: &mut [u8]) -> Step
+    fn flush_accepted(mut self, cache: &[u8], memory: &mut [u8]) -> Step
         requires { ⌜ wellFormed (queuesOf self) (hierarchyOf self (now cache) (now memory)) ≡ true ⌝ }
         ensures { λ r. ⌜ outcomeOf r (now (cache .entry)) (now (memory .exit)) ≡ flushRule (queuesOf self) (hierarchyOf self (now (cache .entry)) (now (memory .entry))) ⌝ }
     {
         let tags = self.tags;
-        let loads = self.loads;
         let count = (self.sets * self.ways) as usize;
         let written = cache::dirty_count(tags);
         cache::write_back_all(tags, count, cache, memory);
         let clean = cache::clean_all(tags, count);
+        self.tags = clean;
         Step {
             answer: Answer::Flushed(written),
-            next: self.with_loads(loads, clean),
+            next: self,
         }
     }
 
@@ -104,7 +104,7 @@ impl State {
             return self.refused(k);
         }
         let stores = self.stores;
-        if queues::has_committed_store(stores, self.committed) {
+        if store_queue::has_committed_store(stores, self.committed) {
             return self.refused(18);
         }
         self.flush_accepted(cache, memory)

@@ -1,16 +1,17 @@
 // The idle call.
 ghost use mathlib.Core.Path.{_≡_};
 ghost use mathlib.Core.Bool.{true};
-ghost use mathlib.Core.List.{List};
+ghost use mathlib.Core.List.{List, []};
 ghost use Prim.Native.Nat.{ℕ, _+_, _*_, _<_};
 ghost use lib.ListN.{length, set};
 ghost use Rattle.lists.specs.Padded.{first};
 ghost use Rattle.rules.specs.Shape.{noLoad, lineOf, tagAt, withDirty};
-ghost use Rattle.rules.specs.Lines.{present};
+ghost use Rattle.rules.specs.Lines.{present, writeStore};
+ghost use Rattle.lines.specs.Refusal.{hierarchy};
 ghost use Rattle.rules.specs.Calls.{wantsLine, oldestStore, storeReady, drainOldest, requestLine};
 ghost use Rattle.rules.specs.Calls as rules;
 ghost use Rattle.rules.specs.Runs.{outcome};
-ghost use Rattle.model.specs.Tables.{tabled};
+ghost use Rattle.model.specs.Tables.{tabled, Writable};
 ghost use Rattle.model.specs.State.{queuesOf, hierarchyOf, outcomeOf, Shaped, Fine, idleRequest};
 use crate::Answer;
 use crate::State;
@@ -37,42 +38,43 @@ fn marked_dirty(tags: [Tag; 256], v: usize) -> [Tag; 256]
     out
 }
 
+// "write it, mark the line dirty, use the line": of a store whose line is present.
+fn write_store(
+    tags: [Tag; 256],
+    sets: u32,
+    ways: u32,
+    s: StoreEntry,
+    cache: &mut [u8],
+) -> [Tag; 256]
+    requires { ⌜ Writable sets ways tags s (length (now cache)) ⌝ }
+    ensures { λ r. ⌜ hierarchy sets ways 0 r (now (cache .exit)) [] ≡ writeStore s (hierarchy sets ways 0 tags (now (cache .entry)) []) ⌝ }
+{
+    let n = ways as usize;
+    let line = s.address / 16;
+    let first = cache::first_slot(sets, ways, line);
+    let slot = cache::find(tags, first, n, line);
+    let at = 16 * slot + (s.address % 16) as usize;
+    cache::put_store(cache, at, s.width, s.value);
+    let dirty = marked_dirty(tags, slot);
+    let used = cache::use_slot(dirty, first, n, slot);
+    used
+}
+
 impl State {
-    // (a) "write it, mark the line dirty, use the line, remove the store": s is the oldest store, and its line is present.
-    fn drain_oldest(self, cache: &mut [u8], s: StoreEntry) -> Step
+    // (a) ".. remove the store": s is the oldest store, and its line is present.
+    fn drain_oldest(mut self, cache: &mut [u8], s: StoreEntry) -> Step
         requires { ⌜ Shaped self (length (now cache)) × Fine (s .address) (s .width) × (s ≡ oldestStore (queuesOf self)) × (present (tabled (self .sets) (self .ways) (self .tags)) (lineOf (s .address)) ≡ true) ⌝ }
         ensures { λ r. ⌜ ((m : List ℕ) → outcomeOf r (now (cache .exit)) m ≡ drainOldest (queuesOf self) (hierarchyOf self (now (cache .entry)) m)) ⌝ }
     {
         let tags = self.tags;
         let stores = self.stores;
-        let loads = self.loads;
-        let request = self.request;
-        let ways = self.ways as usize;
-        let line = s.address / 16;
-        let first = cache::first_slot(self.sets, self.ways, line);
-        let slot = cache::find(tags, first, ways, line);
-        cache::put_store(
-            cache,
-            16 * slot + (s.address % 16) as usize,
-            s.width,
-            s.value,
-        );
-        let dirty = marked_dirty(tags, slot);
-        let used = cache::use_slot(dirty, first, ways, slot);
-        let rest = queues::pop_store(stores);
+        let used = write_store(tags, self.sets, self.ways, s, cache);
+        let rest = store_queue::pop_store(stores);
+        self.stores = rest;
+        self.tags = used;
         Step {
             answer: Answer::Drained(s.number),
-            next: State {
-                sets: self.sets,
-                ways: self.ways,
-                size: self.size,
-                last: self.last,
-                committed: self.committed,
-                request,
-                stores: rest,
-                loads,
-                tags: used,
-            },
+            next: self,
         }
     }
 
@@ -186,7 +188,7 @@ impl State {
         let stores = self.stores;
         let loads = self.loads;
         let s = stores[0];
-        let ready = queues::store_ready(stores, loads, self.committed);
+        let ready = entries::store_ready(stores, loads, self.committed);
         let here = self.is_present(s.address / 16);
         if ready {
             if here {

@@ -21,57 +21,25 @@ use crate::reads::Read;
 use rules::LoadEntry;
 
 impl State {
-    // The state with other loads and other records.
-    pub(crate) fn with_loads(self, loads: [LoadEntry; 8], tags: [rules::Tag; 256]) -> State
-        ensures { λ r. ⌜ r ≡ record { sets = self .sets; ways = self .ways; size = self .size; last = self .last; committed = self .committed; request = self .request; stores = self .stores; loads = loads; tags = tags } ⌝ }
-    {
-        let stores = self.stores;
-        let request = self.request;
-        State {
-            sets: self.sets,
-            ways: self.ways,
-            size: self.size,
-            last: self.last,
-            committed: self.committed,
-            request,
-            stores,
-            loads,
-            tags,
-        }
-    }
-
     // "Load takes last + 1 and joins the loads."
-    fn load_accepted(self, cache: &[u8], a: Access) -> Step
+    fn load_accepted(mut self, cache: &[u8], a: Access) -> Step
         requires { ⌜ Shaped self (length (now cache)) × Fine (a .address) (a .width) × (self .last < topNumber) ⌝ }
         ensures { λ r. ⌜ ((m : List ℕ) → outcomeOf r (now (cache .entry)) m ≡ loadRule (a .address) (a .width) (queuesOf self) (hierarchyOf self (now (cache .entry)) m)) ⌝ }
     {
         let i = self.last + 1;
         let r = self.read(cache, i, a.address, a.width);
+        let answer = reads::answer_to(i, r);
         let loads = self.loads;
-        let stores = self.stores;
-        let tags = self.tags;
-        let request = self.request;
         let entry = LoadEntry {
             number: i,
             address: a.address,
             width: a.width,
             waiting: reads::is_lacking(r),
         };
-        let listed = queues::place_load(loads, entry);
-        Step {
-            answer: reads::answer_to(i, r),
-            next: State {
-                sets: self.sets,
-                ways: self.ways,
-                size: self.size,
-                last: i,
-                committed: self.committed,
-                request,
-                stores,
-                loads: listed,
-                tags,
-            },
-        }
+        let listed = load_queue::place_load(loads, entry);
+        self.last = i;
+        self.loads = listed;
+        Step { answer, next: self }
     }
 
     pub fn load(self, cache: &[u8], memory: &[u8], address: u32, width: u32) -> Step
@@ -89,7 +57,7 @@ impl State {
             return self.refused(13);
         }
         let loads = self.loads;
-        if queues::has_free_load(loads) {
+        if load_queue::has_free_load(loads) {
             self.load_accepted(cache, a)
         } else {
             self.refused(12)
@@ -97,24 +65,27 @@ impl State {
     }
 
     // "Once answered, a committed load leaves the list and uses its line if present; an uncommitted one is marked answered."
-    fn answer_load(self, i: u32, v: u32, l: LoadEntry) -> Step
+    fn answer_load(mut self, i: u32, v: u32, l: LoadEntry) -> Step
         requires { ⌜ Shaped self (self .sets * self .ways * 16) ⌝ }
         ensures { λ r. ⌜ ((c m : List ℕ) → outcomeOf r c m ≡ answerLoad i v l (queuesOf self) (hierarchyOf self c m)) ⌝ }
     {
         let loads = self.loads;
         let tags = self.tags;
         if i <= self.committed {
-            let rest = queues::remove_waiting(loads, i);
+            let rest = load_queue::remove_waiting(loads, i);
             let used = cache::use_line(tags, self.sets, self.ways, l.address / 16);
+            self.loads = rest;
+            self.tags = used;
             return Step {
                 answer: Answer::Value(i, v),
-                next: self.with_loads(rest, used),
+                next: self,
             };
         }
-        let marked = queues::answer_waiting(loads, i);
+        let marked = load_queue::answer_waiting(loads, i);
+        self.loads = marked;
         Step {
             answer: Answer::Value(i, v),
-            next: self.with_loads(marked, tags),
+            next: self,
         }
     }
 
@@ -142,8 +113,8 @@ impl State {
             return self.refused(k);
         }
         let loads = self.loads;
-        if queues::has_waiting(loads, i) {
-            let l = queues::waiting_load(loads, i);
+        if load_queue::has_waiting(loads, i) {
+            let l = load_queue::waiting_load(loads, i);
             self.retry_accepted(cache, i, l)
         } else {
             self.refused(14)

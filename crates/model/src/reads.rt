@@ -11,8 +11,8 @@ ghost use Rattle.model.specs.Reads.{byteOrLine, joinedTo, byteFrom, read
 use crate::Answer;
 use crate::State;
 use crate::cache;
-use queues::Byte;
 use rules::StoreEntry;
+use store_queue::Byte;
 
 // A value that is whole, or of which some byte is lacking.
 pub enum Read {
@@ -25,7 +25,7 @@ fn byte_at(stores: [StoreEntry; 16], i: u32, a: u32, cache: &[u8], p: usize, her
     requires { ⌜ (here ≡ true → p < length (now cache)) ⌝ }
     ensures { λ r. ⌜ r ≡ byteOrLine i a stores (now (cache .entry)) p here ⌝ }
 {
-    let b = queues::forward(stores, i, a);
+    let b = store_queue::forward(stores, i, a);
     match b {
         Byte::Known(x) => Byte::Known(x),
         Byte::Unknown => {

@@ -11,7 +11,6 @@ use crate::StartAnswer;
 use crate::Started;
 use crate::State;
 use crate::cache;
-use crate::checks;
 use rules::LoadEntry;
 use rules::Request;
 use rules::StoreEntry;
@@ -70,7 +69,7 @@ impl State {
         let sets = figures.sets;
         let ways = figures.ways;
         let size = memory.len();
-        if checks::figures_allowed(sets, ways, size) {
+        if lines::figures_allowed(sets, ways, size) {
             if cache.len() != ((sets * ways) as usize) * 16 {
                 return State::not_started();
             }

@@ -3,7 +3,6 @@ ghost use mathlib.Core.Path.{_≡_};
 ghost use Rattle.rules.specs.Calls as rules;
 ghost use Rattle.rules.specs.Runs.{outcome};
 ghost use Rattle.model.specs.State.{queuesOf, hierarchyOf, outcomeOf, callOf};
-ghost use Rattle.model.specs.Benches.{DroppedOnBench};
 use crate::Answer;
 use crate::Call;
 use crate::State;
@@ -37,8 +36,3 @@ impl State {
         }
     }
 }
-
-// Demand 3, said of runs of `step`: a function that does nothing and promises it.
-pub fn dropped_on_bench()
-    ensures { λ r. ⌜ DroppedOnBench ⌝ }
-{}

@@ -18,36 +18,23 @@ use rules::StoreEntry;
 
 impl State {
     // "Store takes last + 1 as its number and joins the held stores, uncommitted."
-    fn store_accepted(self, a: Access, value: u32) -> Step
+    fn store_accepted(mut self, a: Access, value: u32) -> Step
         requires { ⌜ self .last < topNumber ⌝ }
         ensures { λ r. ⌜ ((c m : List ℕ) → outcomeOf r c m ≡ storeRule (a .address) (a .width) value (queuesOf self) (hierarchyOf self c m)) ⌝ }
     {
         let i = self.last + 1;
-        let loads = self.loads;
+        let answer = Answer::Stored(i);
         let stores = self.stores;
-        let tags = self.tags;
-        let request = self.request;
         let entry = StoreEntry {
             number: i,
             address: a.address,
             width: a.width,
             value,
         };
-        let held = queues::place_store(stores, entry);
-        Step {
-            answer: Answer::Stored(i),
-            next: State {
-                sets: self.sets,
-                ways: self.ways,
-                size: self.size,
-                last: i,
-                committed: self.committed,
-                request,
-                stores: held,
-                loads,
-                tags,
-            },
-        }
+        let held = store_queue::place_store(stores, entry);
+        self.last = i;
+        self.stores = held;
+        Step { answer, next: self }
     }
 
     // The rest of the checks, of an access that passed: 5, 13 and 11.
@@ -60,7 +47,7 @@ impl State {
                 return self.refused(13);
             }
             let stores = self.stores;
-            if queues::has_free_store(stores) {
+            if store_queue::has_free_store(stores) {
                 return self.store_accepted(a, value);
             }
             return self.refused(11);

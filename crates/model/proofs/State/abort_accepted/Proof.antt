@@ -10,11 +10,8 @@ squash-stores-requires c κs = search needs
 squash-loads-requires : tie.Need-squash-loads-requires
 squash-loads-requires c κs = search needs
 
-sub-t9 : tie.Need-sub-t9
-sub-t9 c = search needs
-
-sub-t11 : tie.Need-sub-t11
-sub-t11 c = search needs
+sub-last : tie.Need-sub-last
+sub-last c = search needs
 
 returns : tie.Need-returns
 unfolding abortRule squash
@@ -22,4 +19,4 @@ returns c = λ k m. rw (c .before .squash-stores .ensures, c .squash-loads .ensu
 
 pub abort-accepted-spec : {M : Type 1} → statement M
 abort-accepted-spec =
-    tie.close (tie.spec squash-stores-requires squash-loads-requires sub-t9 sub-t11 returns)
+    tie.close (tie.spec squash-stores-requires squash-loads-requires sub-last returns)

@@ -13,22 +13,16 @@ remove-waiting-requires c κs = search needs
 use-line-requires : tie.Need-use-line-requires
 use-line-requires c κs = search needs
 
-with-loads-requires : tie.Need-with-loads-requires
-with-loads-requires c κs = search needs
-
 returns : tie.Need-returns
 unfolding answerLoad lineOf
-returns c = λ k m. rw (c .with-loads .ensures, c .before .before .before .remove-waiting .ensures, c .before .use-line .ensures, le-leb _ _ (c .before .before .before .before .if1 .taken), used-at)
+returns c = λ k m. rw (c .before .before .remove-waiting .ensures, c .use-line .ensures, le-leb _ _ (c .before .before .before .if1 .taken), used-at)
 
 answer-waiting-requires : tie.Need-answer-waiting-requires
 answer-waiting-requires c κs = search needs
 
-with-loads-requires-2 : tie.Need-with-loads-requires-2
-with-loads-requires-2 c κs = search needs
-
 returns-2 : tie.Need-returns-2
 unfolding answerLoad
-returns-2 c = λ k m. rw (c .with-loads2 .ensures, c .before .answer-waiting .ensures, lt-leb _ _ (c .before .before .if1 .left))
+returns-2 c = λ k m. rw (c .answer-waiting .ensures, lt-leb _ _ (c .before .if1 .left))
 
 pub answer-load-spec : {M : Type 1} → statement M
 answer-load-spec =
@@ -36,8 +30,6 @@ answer-load-spec =
     (tie.spec
     remove-waiting-requires
     use-line-requires
-    with-loads-requires
     returns
     answer-waiting-requires
-    with-loads-requires-2
     returns-2)

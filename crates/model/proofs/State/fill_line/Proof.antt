@@ -2,10 +2,10 @@
 use borrow.Author.Needs.{needs}
 use native.Mathlib.Omega.{arith}
 use denote.Ref.{now}
-use Rattle.lists.proofs.Counting.{each-length}
-use Rattle.model.proofs.Facts.{filling, fit-cache}
-use Rattle.model.proofs.Moves.{filled-whole}
 use Prim.Native.Nat.{_+_, _-_, _*_}
+use Rattle.lists.proofs.Counting.{each-length}
+use Rattle.model.proofs.Facts.{filling, slot-low, slot-bytes, line-low}
+use Rattle.model.proofs.Moves.{filled-whole, filled-state}
 use Rattle.model.proofs.State.fill_line.Statement.{statement}
 use Rattle.model.proofs.State.fill_line.Tie as tie
 
@@ -14,15 +14,16 @@ cast-ways c = search needs
 
 first-slot-requires : tie.Need-first-slot-requires
 first-slot-requires c κs =
-    let g = filling (c .before .before .before .before .before .before .args .self) (now (c .before .before .before .before .before .before .args .cache)) (now (c .before .before .before .before .before .before .args .memory)) (c .before .before .before .before .before .before .args .line) (c .before .before .before .before .before .before .pre .0) (c .before .before .before .before .before .before .pre .1) in
-    let f = g .figures in
-    (f .some-set, f .most-sets, f .most-ways)
+    let b = c .before .before .before .before .before .before in
+    let g = filling (b .args .self) (now (b .args .cache)) (now (b .args .memory)) (b .args .line) (b .pre .0) (b .pre .1) in
+    (g .some-set, g .most-sets, g .most-ways)
 
 victim-requires : tie.Need-victim-requires
 victim-requires c κs =
-    let g = filling (c .before .before .before .before .before .before .before .args .self) (now (c .before .before .before .before .before .before .before .args .cache)) (now (c .before .before .before .before .before .before .before .args .memory)) (c .before .before .before .before .before .before .before .args .line) (c .before .before .before .before .before .before .before .pre .0) (c .before .before .before .before .before .before .before .pre .1) in
-    let f = g .figures in
-    (f .some-way, omega arith)
+    let b = c .before .before .before .before .before .before .before in
+    let g = filling (b .args .self) (now (b .args .cache)) (now (b .args .memory)) (b .args .line) (b .pre .0) (b .pre .1) in
+    let f = c .first-slot .ensures in
+    (g .some-way, slot-low _ _ _ (f .1) (f .2))
 
 mul-old : tie.Need-mul-old
 mul-old c = search needs
@@ -32,9 +33,11 @@ array-copy-out-old c = search needs
 
 write-back-requires : tie.Need-write-back-requires
 write-back-requires c κs =
-    let g = filling (c .before .before .before .before .before .before .before .before .before .before .before .args .self) (now (c .before .before .before .before .before .before .before .before .before .before .before .args .cache)) (now (c .before .before .before .before .before .before .before .before .before .before .before .args .memory)) (c .before .before .before .before .before .before .before .before .before .before .before .args .line) (c .before .before .before .before .before .before .before .before .before .before .before .pre .0) (c .before .before .before .before .before .before .before .before .before .before .before .pre .1) in
-    let f = g .figures in
-    (omega (arith, fit-cache (c .before .before .before .before .before .before .before .before .before .before .before .args .self) (now (c .before .before .before .before .before .before .before .before .before .before .before .args .cache)) (now (c .before .before .before .before .before .before .before .before .before .before .before .args .memory)) (g .fit)), g .dirty-lines 256 _ (omega arith))
+    let b = c .before .before .before .before .before .before .before .before .before .before .before in
+    let g = filling (b .args .self) (now (b .args .cache)) (now (b .args .memory)) (b .args .line) (b .pre .0) (b .pre .1) in
+    let f = c .before .before .before .before .first-slot .ensures in
+    let v = c .before .before .before .victim .ensures .2 in
+    (slot-bytes _ _ _ _ _ v (f .1) (g .cache-long), g .dirty-lines _ (omega arith))
 
 mul-fill-slot : tie.Need-mul-fill-slot
 mul-fill-slot c = search needs
@@ -53,27 +56,31 @@ part-fill-slot-start c = search needs
 
 part-fill-slot-end : tie.Need-part-fill-slot-end
 part-fill-slot-end c =
-    let g = filling (c .before .before .before .before .before .before .before .before .before .before .before .before .before .before .before .before .args .self) (now (c .before .before .before .before .before .before .before .before .before .before .before .before .before .before .before .before .args .cache)) (now (c .before .before .before .before .before .before .before .before .before .before .before .before .before .before .before .before .args .memory)) (c .before .before .before .before .before .before .before .before .before .before .before .before .before .before .before .before .args .line) (c .before .before .before .before .before .before .before .before .before .before .before .before .before .before .before .before .pre .0) (c .before .before .before .before .before .before .before .before .before .before .before .before .before .before .before .before .pre .1) in
-    let f = g .figures in
+    let b = c .before .before .before .before .before .before .before .before .before .before .before .before .before .before .before .before in
+    let g = filling (b .args .self) (now (b .args .cache)) (now (b .args .memory)) (b .args .line) (b .pre .0) (b .pre .1) in
     rw (c .before .before .before .before .write-back .ensures, each-length) (g .inside)
 
 fill-slot-requires : tie.Need-fill-slot-requires
 fill-slot-requires c κs =
-    let g = filling (c .before .before .before .before .before .before .before .before .before .before .before .before .before .before .before .before .before .args .self) (now (c .before .before .before .before .before .before .before .before .before .before .before .before .before .before .before .before .before .args .cache)) (now (c .before .before .before .before .before .before .before .before .before .before .before .before .before .before .before .before .before .args .memory)) (c .before .before .before .before .before .before .before .before .before .before .before .before .before .before .before .before .before .args .line) (c .before .before .before .before .before .before .before .before .before .before .before .before .before .before .before .before .before .pre .0) (c .before .before .before .before .before .before .before .before .before .before .before .before .before .before .before .before .before .pre .1) in
-    let f = g .figures in
-    (omega arith, omega (arith, fit-cache (c .before .before .before .before .before .before .before .before .before .before .before .before .before .before .before .before .before .args .self) (now (c .before .before .before .before .before .before .before .before .before .before .before .before .before .before .before .before .before .args .cache)) (now (c .before .before .before .before .before .before .before .before .before .before .before .before .before .before .before .before .before .args .memory)) (g .fit)))
+    let b = c .before .before .before .before .before .before .before .before .before .before .before .before .before .before .before .before .before in
+    let g = filling (b .args .self) (now (b .args .cache)) (now (b .args .memory)) (b .args .line) (b .pre .0) (b .pre .1) in
+    let f = c .before .before .before .before .before .before .before .before .before .before .first-slot .ensures in
+    let v = c .before .before .before .before .before .before .before .before .before .victim .ensures .2 in
+    (omega arith, slot-bytes _ _ _ _ _ v (f .1) (g .cache-long))
 
 installed-requires : tie.Need-installed-requires
 installed-requires c κs =
-    let g = filling (c .before .before .before .before .before .before .before .before .before .before .before .before .before .before .before .before .before .before .before .before .args .self) (now (c .before .before .before .before .before .before .before .before .before .before .before .before .before .before .before .before .before .before .before .before .args .cache)) (now (c .before .before .before .before .before .before .before .before .before .before .before .before .before .before .before .before .before .before .before .before .args .memory)) (c .before .before .before .before .before .before .before .before .before .before .before .before .before .before .before .before .before .before .before .before .args .line) (c .before .before .before .before .before .before .before .before .before .before .before .before .before .before .before .before .before .before .before .before .pre .0) (c .before .before .before .before .before .before .before .before .before .before .before .before .before .before .before .before .before .before .before .before .pre .1) in
-    let f = g .figures in
-    (omega arith, c .before .before .before .before .before .before .before .before .before .before .before .before .victim .ensures .1, c .before .before .before .before .before .before .before .before .before .before .before .before .victim .ensures .2, omega arith)
+    let b = c .before .before .before .before .before .before .before .before .before .before .before .before .before .before .before .before .before .before .before .before in
+    let g = filling (b .args .self) (now (b .args .cache)) (now (b .args .memory)) (b .args .line) (b .pre .0) (b .pre .1) in
+    let f = c .before .before .before .before .before .before .before .before .before .before .before .before .before .first-slot .ensures in
+    let v = c .before .before .before .before .before .before .before .before .before .before .before .before .victim .ensures in
+    (slot-low _ _ _ (f .1) (f .2), v .1, v .2, line-low _ _ (g .inside) (g .small))
 
 mul-t32 : tie.Need-mul-t32
 mul-t32 c =
-    let g = filling (c .before .before .before .before .before .before .before .before .before .before .before .before .before .before .before .before .before .before .before .before .before .args .self) (now (c .before .before .before .before .before .before .before .before .before .before .before .before .before .before .before .before .before .before .before .before .before .args .cache)) (now (c .before .before .before .before .before .before .before .before .before .before .before .before .before .before .before .before .before .before .before .before .before .args .memory)) (c .before .before .before .before .before .before .before .before .before .before .before .before .before .before .before .before .before .before .before .before .before .args .line) (c .before .before .before .before .before .before .before .before .before .before .before .before .before .before .before .before .before .before .before .before .before .pre .0) (c .before .before .before .before .before .before .before .before .before .before .before .before .before .before .before .before .before .before .before .before .before .pre .1) in
-    let f = g .figures in
-    omega arith
+    let b = c .before .before .before .before .before .before .before .before .before .before .before .before .before .before .before .before .before .before .before .before .before in
+    let g = filling (b .args .self) (now (b .args .cache)) (now (b .args .memory)) (b .args .line) (b .pre .0) (b .pre .1) in
+    omega (arith, line-low _ _ (g .inside) (g .small))
 
 same-length : tie.Need-same-length
 same-length c = search needs
@@ -82,7 +89,13 @@ same-length-2 : tie.Need-same-length-2
 same-length-2 c = search needs
 
 returns : tie.Need-returns
-returns c = filled-whole (c .before .before .before .before .before .before .before .before .before .before .before .before .before .before .before .before .before .before .before .before .before .args .self) (now (c .before .before .before .before .before .before .before .before .before .before .before .before .before .before .before .before .before .before .before .before .before .args .cache)) (now (c .before .before .before .before .before .before .before .before .before .before .before .before .before .before .before .before .before .before .before .before .before .args .memory)) (c .before .before .before .before .before .before .before .before .before .before .before .before .before .before .before .before .before .before .before .before .before .args .line) (c .before .before .before .before .before .before .before .before .before .before .before .before .before .before .first-slot .result) (c .before .before .before .before .before .before .before .before .before .before .before .before .before .victim .result) (16 * c .before .before .before .before .before .before .before .before .before .before .before .before .before .before .before .before .before .before .before .before .before .args .line + 16 - 16 * c .before .before .before .before .before .before .before .before .before .before .before .before .before .before .before .before .before .before .before .before .before .args .line) _ _ _ (c .before .before .before .before .before .before .before .before .before .before .before .before .before .before .before .before .before .before .before .before .before .pre .1) (c .before .before .before .before .before .before .before .before .before .before .before .before .before .before .first-slot .ensures .0) (c .before .before .before .before .before .before .before .before .before .before .before .before .before .victim .ensures .0) (c .before .before .before .before .before .before .before .before .before .write-back .ensures) (omega arith) (c .before .before .before .fill-slot .ensures) (c .installed .ensures)
+returns c =
+    let a = c .before .before .before .before .before .before .before .before .before .before .before .before .before .before .before .before .before .before .before .before .before .args in
+    filled-state (a .self) (now (a .cache)) (now (a .memory)) (a .line) _ _ _ (c .before .before .before .before .before .before .before .before .before .before .before .before .before .before .before .before .before .before .before .before .before .pre .1)
+    (filled-whole (a .self .sets) (a .self .ways) (a .self .tags) (now (a .cache)) (now (a .memory)) (a .line)
+    (c .before .before .before .before .before .before .before .before .before .before .before .before .before .before .first-slot .result) (c .before .before .before .before .before .before .before .before .before .before .before .before .before .victim .result) (16 * a .line + 16 - 16 * a .line) _ _ _
+    (c .before .before .before .before .before .before .before .before .before .before .before .before .before .before .first-slot .ensures .0) (c .before .before .before .before .before .before .before .before .before .before .before .before .before .victim .ensures .0) (c .before .before .before .before .before .before .before .before .before .write-back .ensures) (omega arith)
+    (c .before .before .before .fill-slot .ensures) (c .installed .ensures))
 
 pub fill-line-spec : {M : Type 1} → statement M
 fill-line-spec =

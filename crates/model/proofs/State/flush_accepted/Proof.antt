@@ -17,14 +17,14 @@ use Rattle.model.proofs.State.flush_accepted.Tie as tie
 
 mul-count : tie.Need-mul-count
 mul-count c =
-    let p = parts _ _ (c .before .before .before .before .before .pre) in
-    let f = fit-figures (c .before .before .before .before .before .args .self) (now (c .before .before .before .before .before .args .cache)) (now (c .before .before .before .before .before .args .memory)) (p .fit) in
+    let p = parts _ _ (c .before .before .before .before .pre) in
+    let f = fit-figures (c .before .before .before .before .args .self) (now (c .before .before .before .before .args .cache)) (now (c .before .before .before .before .args .memory)) (p .fit) in
     omega (arith, mul-le-mul (f .most-sets) (f .most-ways))
 
 cast-count : tie.Need-cast-count
 cast-count c =
-    let p = parts _ _ (c .before .before .before .before .before .pre) in
-    let f = fit-figures (c .before .before .before .before .before .args .self) (now (c .before .before .before .before .before .args .cache)) (now (c .before .before .before .before .before .args .memory)) (p .fit) in
+    let p = parts _ _ (c .before .before .before .before .pre) in
+    let f = fit-figures (c .before .before .before .before .args .self) (now (c .before .before .before .before .args .cache)) (now (c .before .before .before .before .args .memory)) (p .fit) in
     omega (arith, mul-le-mul (f .most-sets) (f .most-ways))
 
 dirty-count-requires : tie.Need-dirty-count-requires
@@ -32,25 +32,22 @@ dirty-count-requires c κs = search needs
 
 write-back-all-requires : tie.Need-write-back-all-requires
 write-back-all-requires c κs =
-    let p = parts _ _ (c .before .before .before .before .before .before .before .pre) in
-    let f = fit-figures (c .before .before .before .before .before .before .before .args .self) (now (c .before .before .before .before .before .before .before .args .cache)) (now (c .before .before .before .before .before .before .before .args .memory)) (p .fit) in
-    (omega (arith, mul-le-mul (f .most-sets) (f .most-ways)), omega (arith, fit-cache (c .before .before .before .before .before .before .before .args .self) (now (c .before .before .before .before .before .before .before .args .cache)) (now (c .before .before .before .before .before .before .before .args .memory)) (p .fit)), dirty-inside _ (fits-tells _ (p .fit)) (good-tells _ (p .lines)) _)
+    let p = parts _ _ (c .before .before .before .before .before .before .pre) in
+    let f = fit-figures (c .before .before .before .before .before .before .args .self) (now (c .before .before .before .before .before .before .args .cache)) (now (c .before .before .before .before .before .before .args .memory)) (p .fit) in
+    (omega (arith, mul-le-mul (f .most-sets) (f .most-ways)), omega (arith, fit-cache (c .before .before .before .before .before .before .args .self) (now (c .before .before .before .before .before .before .args .cache)) (now (c .before .before .before .before .before .before .args .memory)) (p .fit)), dirty-inside _ (fits-tells _ (p .fit)) (good-tells _ (p .lines)) _)
 
 clean-all-requires : tie.Need-clean-all-requires
 clean-all-requires c κs =
-    let p = parts _ _ (c .before .before .before .before .before .before .before .before .before .before .pre) in
-    let f = fit-figures (c .before .before .before .before .before .before .before .before .before .before .args .self) (now (c .before .before .before .before .before .before .before .before .before .before .args .cache)) (now (c .before .before .before .before .before .before .before .before .before .before .args .memory)) (p .fit) in
+    let p = parts _ _ (c .before .before .before .before .before .before .before .before .before .pre) in
+    let f = fit-figures (c .before .before .before .before .before .before .before .before .before .args .self) (now (c .before .before .before .before .before .before .before .before .before .args .cache)) (now (c .before .before .before .before .before .before .before .before .before .args .memory)) (p .fit) in
     omega (arith, mul-le-mul (f .most-sets) (f .most-ways))
-
-with-loads-requires : tie.Need-with-loads-requires
-with-loads-requires c κs = search needs
 
 same-length : tie.Need-same-length
 same-length c = search needs
 
 returns : tie.Need-returns
 unfolding flushRule dirtyLines
-returns c = rw (c .with-loads .ensures, c .before .before .before .before .before .before .dirty-count .ensures, c .before .clean-all .ensures, c .before .before .before .before .write-back-all .ensures, flush-parts)
+returns c = rw (c .before .before .before .before .before .dirty-count .ensures, c .clean-all .ensures, c .before .before .before .write-back-all .ensures, flush-parts)
 
 pub flush-accepted-spec : {M : Type 1} → statement M
 flush-accepted-spec =
@@ -61,6 +58,5 @@ flush-accepted-spec =
     dirty-count-requires
     write-back-all-requires
     clean-all-requires
-    with-loads-requires
     same-length
     returns)

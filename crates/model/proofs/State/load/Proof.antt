@@ -4,7 +4,7 @@ use mathlib.Core.Path.{refl, sym, _∙_}
 use native.Mathlib.Omega.{arith}
 use Rattle.rules.specs.Calls as rules
 use denote.Ref.{now}
-use Rattle.queues.specs.Good.{sized}
+use Rattle.entries.specs.Good.{sized}
 use Rattle.model.proofs.Calls.{state-refuses, state-opens, access-refuses, load-numbers, load-full, load-does, passed-access}
 use Rattle.model.proofs.Facts.{access-fine, fit-shaped, fit-figures}
 use Rattle.rules.proofs.Parts.{parts}

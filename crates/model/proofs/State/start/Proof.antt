@@ -4,7 +4,7 @@ use mathlib.Core.Path.{refl, sym, _∙_}
 use native.Mathlib.Omega.{arith}
 use borrow.Author.Tests.{eq-eqb, ne-eqb}
 use native.Mathlib.Nat.{mul-le-mul}
-use Rattle.model.proofs.Facts.{figures-tell}
+use Rattle.lines.proofs.Figures.{figures-tell}
 use Rattle.rules.specs.Runs.{startAllowed, startAnswer, startWorld, started, unstarted}
 use Rattle.model.proofs.State.start.Statement.{statement}
 use Rattle.model.proofs.State.start.Tie as tie

@@ -1,7 +1,7 @@
 -- `State::store` meets its contract.
 use borrow.Author.Needs.{needs}
 use mathlib.Core.Path.{refl, sym, _∙_}
-use Rattle.queues.specs.Good.{sized}
+use Rattle.entries.specs.Good.{sized}
 use Rattle.model.proofs.Calls.{state-refuses, state-opens, access-refuses, store-goes, passed-access}
 use Rattle.model.proofs.Facts.{access-width}
 use Rattle.model.proofs.Facts.{access-width}

@@ -38,7 +38,7 @@ holds-line-requires c κs = search needs
 
 returns : tie.Need-returns Inv-loop μ-loop
 returns c =
-    sym (c .before .before .before .before .loop .inv .2 ∙ first-hit _ _ _ (c .before .before .before .loop-test .taken) (cc))
+    sym (c .before .before .before .before .loop .inv .2 ∙ first-hit _ _ _ (c .before .before .before .loop-test .taken) (sym (c .before .holds-line .ensures) ∙ c .if1 .taken))
 
 add-k : tie.Need-add-k Inv-loop μ-loop
 add-k c = search needs
@@ -48,7 +48,7 @@ loop-less c = search needs
 
 loop-again : tie.Need-loop-again Inv-loop μ-loop
 loop-again c =
-    (omega arith, omega arith, c .before .before .before .before .loop .inv .2 ∙ first-miss _ _ _ (c .before .before .before .loop-test .taken) (cc))
+    (omega arith, omega arith, c .before .before .before .before .loop .inv .2 ∙ first-miss _ _ _ (c .before .before .before .loop-test .taken) (sym (c .before .holds-line .ensures) ∙ c .if1 .left))
 
 returns-2 : tie.Need-returns-2 Inv-loop μ-loop
 returns-2 c =

@@ -1,0 +1,47 @@
+-- What allowed figures leave to the functions behind them, as bounds on numbers.
+use Prim.Native.Nat.{ℕ, _%_, _<_, _≤_}
+use mathlib.Core.Path.{_≡_}
+use mathlib.Core.Bool.{true, _&&_}
+use native.Mathlib.Omega.{arith}
+use lib.Dec.{leb, eqb}
+use borrow.Author.Tests.{leb-true, eqb-true}
+use Rattle.lists.proofs.Cond.{cases, and-left, and-right}
+use Rattle.rules.specs.Shape.{setsAllowed, figuresAllowed}
+
+pub record Figured (sets ways size : ℕ) : Type 0 where
+  pub some-set : 0 < sets
+  pub most-sets : sets ≤ 64
+  pub some-way : 0 < ways
+  pub most-ways : ways ≤ 4
+  pub some-line : 16 ≤ size
+  pub whole-lines : size % 16 ≡ 0
+  pub most-size : size ≤ 65536
+
+sets-bound : (n : ℕ) → setsAllowed n ≡ true → (0 < n) × (n ≤ 64)
+unfolding setsAllowed
+sets-bound n e =
+    cases (eqb n 1) (λ h. let q = eqb-true n 1 h in (omega arith, omega arith)) λ h1.
+    cases (eqb n 2) (λ h. let q = eqb-true n 2 h in (omega arith, omega arith)) λ h2.
+    cases (eqb n 4) (λ h. let q = eqb-true n 4 h in (omega arith, omega arith)) λ h3.
+    cases (eqb n 8) (λ h. let q = eqb-true n 8 h in (omega arith, omega arith)) λ h4.
+    cases (eqb n 16) (λ h. let q = eqb-true n 16 h in (omega arith, omega arith)) λ h5.
+    cases (eqb n 32) (λ h. let q = eqb-true n 32 h in (omega arith, omega arith)) λ h6.
+    let q = eqb-true n 64 (rw (h1, h2, h3, h4, h5, h6) at e) in (omega arith, omega arith)
+
+pub figures-tell : (sets ways size : ℕ) → figuresAllowed sets ways size ≡ true → Figured sets ways size
+unfolding figuresAllowed
+figures-tell sets ways size e =
+    let s = sets-bound sets (and-left (setsAllowed sets) _ e) in
+    let e₁ = and-right (setsAllowed sets) _ e in
+    let w = and-left (leb 1 ways && leb ways 4) _ e₁ in
+    let e₂ = and-right (leb 1 ways && leb ways 4) _ e₁ in
+    let m = and-right (eqb (size % 16) 0) _ e₂ in
+    record {
+      some-set = s .0;
+      most-sets = s .1;
+      some-way = leb-true 1 ways (and-left _ _ w);
+      most-ways = leb-true ways 4 (and-right (leb 1 ways) _ w);
+      some-line = leb-true 16 size (and-left _ _ m);
+      whole-lines = eqb-true (size % 16) 0 (and-left _ _ e₂);
+      most-size = leb-true size 65536 (and-right (leb 16 size) _ m);
+    }

@@ -1,0 +1,313 @@
+// Whether the lines of a state are well formed: the figures and the lent lengths, then each record with its bytes.
+// A public function takes any figures, records and buffers, and its answer is a definition of the rules.
+// A record is named by its slot, s × ways + w for way w of set s.
+ghost use mathlib.Core.Path.{_≡_};
+ghost use mathlib.Core.Bool.{true};
+ghost use mathlib.Core.List.{[]};
+ghost use Prim.Native.Nat.{_+_, _*_, _%_, _<_, _≤_};
+ghost use lib.ListN.{length, drop};
+ghost use Rattle.lists.specs.Padded.{every};
+ghost use Rattle.rules.specs.Shape.{setsAllowed, figuresAllowed, fits};
+ghost use Rattle.rules.specs.WellFormed.{zeroTag, linesFormed};
+ghost use Rattle.lines.specs.Refusal.{hierarchy, linesRefusal};
+ghost use Rattle.lines.specs.SlotTests.{sameBytes, zeroBytes, validGood, invalidGood, slotGood, sameAgeOrLine, apartFrom};
+use rules::Tag;
+
+// ---- figures and lengths
+
+// "Sets: 1, 2, 4, 8, 16, 32 or 64."
+fn sets_allowed(n: u32) -> bool
+    ensures { λ r. ⌜ r ≡ setsAllowed n ⌝ }
+{
+    if n == 1 {
+        return true;
+    }
+    if n == 2 {
+        return true;
+    }
+    if n == 4 {
+        return true;
+    }
+    if n == 8 {
+        return true;
+    }
+    if n == 16 {
+        return true;
+    }
+    if n == 32 {
+        return true;
+    }
+    n == 64
+}
+
+// The figures are allowed.
+pub fn figures_allowed(sets: u32, ways: u32, size: usize) -> bool
+    ensures { λ r. ⌜ r ≡ figuresAllowed sets ways size ⌝ }
+{
+    if sets_allowed(sets) {
+        if ways < 1 {
+            return false;
+        }
+        if 4 < ways {
+            return false;
+        }
+        if size % 16 != 0 {
+            return false;
+        }
+        if size < 16 {
+            return false;
+        }
+        size <= 65536
+    } else {
+        false
+    }
+}
+
+// The figures are allowed, and the lent lengths agree with them.
+fn is_fit(sets: u32, ways: u32, size: u32, cache: &[u8], memory: &[u8]) -> bool
+    ensures { λ r. ⌜ r ≡ fits (hierarchy sets ways size [] (now (cache .entry)) (now (memory .entry))) ⌝ }
+{
+    let bytes = size as usize;
+    if figures_allowed(sets, ways, bytes) {
+        if memory.len() != bytes {
+            return false;
+        }
+        cache.len() == ((sets * ways) as usize) * 16
+    } else {
+        false
+    }
+}
+
+// ---- records and bytes
+
+// The 16 bytes of the cache from place at on equal those of memory from place from on. (The loop has no early exit: in a
+// well-formed state none would be taken, and the compiler makes vector code of it.)
+fn same_bytes(cache: &[u8], at: usize, memory: &[u8], from: usize) -> bool
+    requires { ⌜ (at + 16 ≤ length (now cache)) × (from + 16 ≤ length (now memory)) ⌝ }
+    ensures { λ r. ⌜ r ≡ sameBytes (now (cache .entry)) at (now (memory .entry)) from ⌝ }
+{
+    let mut same = true;
+    let mut i: usize = 0;
+    while i < 16 {
+        if cache[at + i] != memory[from + i] {
+            same = false;
+        }
+        i += 1;
+    }
+    same
+}
+
+// The 16 bytes of the cache from place at on are zero.
+fn zero_bytes(cache: &[u8], at: usize) -> bool
+    requires { ⌜ at + 16 ≤ length (now cache) ⌝ }
+    ensures { λ r. ⌜ r ≡ zeroBytes (now (cache .entry)) at ⌝ }
+{
+    let mut zero = true;
+    let mut i: usize = 0;
+    while i < 16 {
+        if cache[at + i] != 0 {
+            zero = false;
+        }
+        i += 1;
+    }
+    zero
+}
+
+// A valid record t, in slot k of set s: "a valid line lies in memory, is in its own set", "clean lines equal memory".
+fn valid_good(t: Tag, s: u32, k: usize, sets: u32, size: u32, cache: &[u8], memory: &[u8]) -> bool
+    requires { ⌜ (0 < sets) × (16 * k + 16 ≤ length (now cache)) × (size % 16 ≡ 0) × (size ≤ length (now memory)) ⌝ }
+    ensures { λ r. ⌜ r ≡ validGood sets size (now (cache .entry)) (now (memory .entry)) s k t ⌝ }
+{
+    let line = t.line as u32;
+    if size <= 16 * line {
+        return false;
+    }
+    if line % sets != s {
+        return false;
+    }
+    if t.dirty {
+        return true;
+    }
+    same_bytes(cache, 16 * k, memory, 16 * (line as usize))
+}
+
+// An invalid record t, in slot k: "an invalid record is zero but for its age, with zero cache bytes".
+fn invalid_good(t: Tag, k: usize, cache: &[u8]) -> bool
+    requires { ⌜ 16 * k + 16 ≤ length (now cache) ⌝ }
+    ensures { λ r. ⌜ r ≡ invalidGood (now (cache .entry)) k t ⌝ }
+{
+    if t.dirty {
+        return false;
+    }
+    if t.line != 0 {
+        return false;
+    }
+    zero_bytes(cache, 16 * k)
+}
+
+// The record t of slot k, in set s, is well formed by itself.
+fn slot_good(
+    t: Tag,
+    s: u32,
+    k: usize,
+    sets: u32,
+    ways: u32,
+    size: u32,
+    cache: &[u8],
+    memory: &[u8],
+) -> bool
+    requires { ⌜ (0 < sets) × (16 * k + 16 ≤ length (now cache)) × (size % 16 ≡ 0) × (size ≤ length (now memory)) ⌝ }
+    ensures { λ r. ⌜ r ≡ slotGood sets ways size (now (cache .entry)) (now (memory .entry)) s k t ⌝ }
+{
+    if ways <= t.age as u32 {
+        return false;
+    }
+    if t.valid {
+        return valid_good(t, s, k, sets, size, cache, memory);
+    }
+    invalid_good(t, k, cache)
+}
+
+// The records have the same age, or are valid with the same line.
+fn alike(u: Tag, t: Tag) -> bool
+    ensures { λ r. ⌜ r ≡ sameAgeOrLine u t ⌝ }
+{
+    if u.age == t.age {
+        return true;
+    }
+    if t.valid {
+        if u.valid {
+            return u.line == t.line;
+        }
+    }
+    false
+}
+
+// None of the first w records of the set has the age or the line of t.
+fn apart(set: [Tag; 8], w: usize, t: Tag) -> bool
+    requires { ⌜ w ≤ 8 ⌝ }
+    ensures { λ r. ⌜ r ≡ apartFrom set w t ⌝ }
+{
+    let mut j: usize = 0;
+    while j < w {
+        let u = set[j];
+        if alike(u, t) {
+            return false;
+        }
+        j += 1;
+    }
+    true
+}
+
+// A record that is all zero.
+fn zero_tag(t: Tag) -> bool
+    ensures { λ r. ⌜ r ≡ zeroTag t ⌝ }
+{
+    if t.valid {
+        return false;
+    }
+    if t.dirty {
+        return false;
+    }
+    if t.line != 0 {
+        return false;
+    }
+    t.age == 0
+}
+
+// "unused records are all zero": those from slot count on.
+fn unused_zero(tags: [Tag; 256], count: usize) -> bool
+    requires { ⌜ count ≤ 256 ⌝ }
+    ensures { λ r. ⌜ r ≡ every zeroTag (drop count tags) ⌝ }
+{
+    let mut k = count;
+    while k < 256 {
+        let t = tags[k];
+        if zero_tag(t) {
+            k += 1;
+        } else {
+            return false;
+        }
+    }
+    true
+}
+
+// The records of the slots in use, set by set, when the unused ones are zero. The first w places of the array have the
+// records of the set so far.
+fn slots_good(
+    tags: [Tag; 256],
+    sets: u32,
+    ways: u32,
+    size: u32,
+    cache: &[u8],
+    memory: &[u8],
+) -> bool
+    requires { ⌜ (fits (hierarchy sets ways size tags (now cache) (now memory)) ≡ true) × (every zeroTag (drop (sets * ways) tags) ≡ true) ⌝ }
+    ensures { λ r. ⌜ r ≡ linesFormed (hierarchy sets ways size tags (now (cache .entry)) (now (memory .entry))) ⌝ }
+{
+    let any = tags[0];
+    let mut set = [any; 8];
+    let count = (sets * ways) as usize;
+    let n = ways as usize;
+    let mut s: u32 = 0;
+    let mut w: usize = 0;
+    let mut k: usize = 0;
+    while k < count {
+        let t = tags[k];
+        if slot_good(t, s, k, sets, ways, size, cache, memory) {
+            if apart(set, w, t) {
+                set[w] = t;
+                k += 1;
+                w += 1;
+                if w == n {
+                    w = 0;
+                    s += 1;
+                }
+            } else {
+                return false;
+            }
+        } else {
+            return false;
+        }
+    }
+    true
+}
+
+// The clauses of the lines: all that well-formed asks of the records, the cache and memory.
+fn lines_good(
+    tags: [Tag; 256],
+    sets: u32,
+    ways: u32,
+    size: u32,
+    cache: &[u8],
+    memory: &[u8],
+) -> bool
+    requires { ⌜ fits (hierarchy sets ways size tags (now cache) (now memory)) ≡ true ⌝ }
+    ensures { λ r. ⌜ r ≡ linesFormed (hierarchy sets ways size tags (now (cache .entry)) (now (memory .entry))) ⌝ }
+{
+    let count = (sets * ways) as usize;
+    if unused_zero(tags, count) {
+        return slots_good(tags, sets, ways, size, cache, memory);
+    }
+    false
+}
+
+// 1 where the figures or the lent lengths are refused, 10 where a clause of the lines is broken, else 0.
+pub fn lines_refusal(
+    tags: [Tag; 256],
+    sets: u32,
+    ways: u32,
+    size: u32,
+    cache: &[u8],
+    memory: &[u8],
+) -> u32
+    ensures { λ r. ⌜ r ≡ linesRefusal (hierarchy sets ways size tags (now (cache .entry)) (now (memory .entry))) ⌝ }
+{
+    if is_fit(sets, ways, size, cache, memory) {
+        if lines_good(tags, sets, ways, size, cache, memory) {
+            return 0;
+        }
+        return 10;
+    }
+    1
+}

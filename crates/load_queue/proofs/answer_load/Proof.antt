@@ -1,0 +1,17 @@
+-- `load_queue::answer_load` meets its contract. By the test.
+use mathlib.Core.Path.{sym, _∙_}
+use borrow.Author.Needs.{needs}
+use Rattle.load_queue.proofs.answer_load.Statement.{statement}
+use Rattle.load_queue.proofs.answer_load.Tie as tie
+
+is-waiting-at-requires : tie.Need-is-waiting-at-requires
+is-waiting-at-requires c κs = search needs
+
+returns : tie.Need-returns
+returns c = rw (sym (c .before .is-waiting-at .ensures) ∙ c .if1 .taken)
+
+returns-2 : tie.Need-returns-2
+returns-2 c = rw (sym (c .before .is-waiting-at .ensures) ∙ c .if1 .left)
+
+pub answer-load-spec : {M : Type 1} → statement M
+answer-load-spec = tie.close (tie.spec is-waiting-at-requires returns returns-2)

@@ -1,0 +1,25 @@
+-- `load_queue::keep_unless_answered` meets its contract. By the test.
+use mathlib.Core.Path.{sym, _∙_}
+use borrow.Author.Needs.{needs}
+use Rattle.load_queue.proofs.keep_unless_answered.Statement.{statement}
+use Rattle.load_queue.proofs.keep_unless_answered.Tie as tie
+
+is-answered-by-requires : tie.Need-is-answered-by-requires
+is-answered-by-requires c κs = search needs
+
+returns : tie.Need-returns
+returns c =
+    let e = sym (c .before .is-answered-by .ensures) ∙ c .if1 .taken in
+    (rw e, rw e)
+
+packed-with-requires : tie.Need-packed-with-requires
+packed-with-requires c κs = search needs
+
+returns-2 : tie.Need-returns-2
+returns-2 c =
+    let e = sym (c .before .before .is-answered-by .ensures) ∙ c .before .if1 .left in
+    (rw e (c .packed-with .ensures .0), rw e (c .packed-with .ensures .1))
+
+pub keep-unless-answered-spec : {M : Type 1} → statement M
+keep-unless-answered-spec =
+    tie.close (tie.spec is-answered-by-requires returns packed-with-requires returns-2)

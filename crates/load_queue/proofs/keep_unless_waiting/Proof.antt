@@ -1,0 +1,25 @@
+-- `load_queue::keep_unless_waiting` meets its contract. By the test.
+use mathlib.Core.Path.{sym, _∙_}
+use borrow.Author.Needs.{needs}
+use Rattle.load_queue.proofs.keep_unless_waiting.Statement.{statement}
+use Rattle.load_queue.proofs.keep_unless_waiting.Tie as tie
+
+is-waiting-at-requires : tie.Need-is-waiting-at-requires
+is-waiting-at-requires c κs = search needs
+
+returns : tie.Need-returns
+returns c =
+    let e = sym (c .before .is-waiting-at .ensures) ∙ c .if1 .taken in
+    (rw e, rw e)
+
+packed-with-requires : tie.Need-packed-with-requires
+packed-with-requires c κs = search needs
+
+returns-2 : tie.Need-returns-2
+returns-2 c =
+    let e = sym (c .before .before .is-waiting-at .ensures) ∙ c .before .if1 .left in
+    (rw e (c .packed-with .ensures .0), rw e (c .packed-with .ensures .1))
+
+pub keep-unless-waiting-spec : {M : Type 1} → statement M
+keep-unless-waiting-spec =
+    tie.close (tie.spec is-waiting-at-requires returns packed-with-requires returns-2)

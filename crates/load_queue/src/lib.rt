@@ -1,0 +1,277 @@
+// The load queue (01: the list of loads), by value.
+// A public function takes any queue, well formed or not, and its answer is a definition of the rules.
+ghost use mathlib.Core.Path.{_≡_};
+ghost use mathlib.Core.Bool.{cond};
+ghost use Prim.Native.Nat.{_+_, _<_};
+ghost use lib.ListN.{set};
+ghost use Rattle.lists.specs.Padded.{any, first, position, without, placed, changed};
+ghost use Rattle.rules.specs.Shape.{noLoad, isFreeLoad};
+ghost use Rattle.rules.specs.Calls.{waitingAt, answered, answeredBy, youngLoad, waitsBelow};
+use rules::LoadEntry;
+
+// A free place: all zero.
+fn no_load() -> LoadEntry
+    ensures { λ r. ⌜ r ≡ noLoad ⌝ }
+{
+    LoadEntry {
+        number: 0,
+        address: 0,
+        width: 0,
+        waiting: false,
+    }
+}
+
+// The first free place, or 8.
+fn free_load(loads: [LoadEntry; 8]) -> usize
+    ensures { λ r. ⌜ r ≡ position isFreeLoad loads ⌝ }
+{
+    let mut j: usize = 0;
+    while j < 8 {
+        let l = loads[j];
+        if l.number == 0 {
+            return j;
+        }
+        j += 1;
+    }
+    j
+}
+
+// Whether one more load can be listed.
+pub fn has_free_load(loads: [LoadEntry; 8]) -> bool
+    ensures { λ r. ⌜ r ≡ any isFreeLoad loads ⌝ }
+{
+    free_load(loads) < 8
+}
+
+// The load joins the list of loads, in the first free place; a full queue stays as it is.
+pub fn place_load(loads: [LoadEntry; 8], e: LoadEntry) -> [LoadEntry; 8]
+    ensures { λ r. ⌜ r ≡ placed isFreeLoad e loads ⌝ }
+{
+    let at = free_load(loads);
+    if at < 8 {
+        let mut next = loads;
+        next[at] = e;
+        return next;
+    }
+    loads
+}
+
+// The place of a load numbered n or more is free.
+fn squash_load(l: LoadEntry, n: u32) -> LoadEntry
+    ensures { λ r. ⌜ r ≡ cond (youngLoad n l) noLoad l ⌝ }
+{
+    if n <= l.number {
+        return no_load();
+    }
+    l
+}
+
+// Abort n removes every load numbered n or more.
+pub fn squash_loads(loads: [LoadEntry; 8], n: u32) -> [LoadEntry; 8]
+    ensures { λ r. ⌜ r ≡ changed (youngLoad n) (λ l. noLoad) loads ⌝ }
+{
+    let mut next = loads;
+    let mut i: usize = 0;
+    while i < 8 {
+        let l = next[i];
+        let u = squash_load(l, n);
+        next[i] = u;
+        i += 1;
+    }
+    next
+}
+
+// The waiting load of number i.
+fn is_waiting_at(l: LoadEntry, i: u32) -> bool
+    ensures { λ r. ⌜ r ≡ waitingAt i l ⌝ }
+{
+    if l.number == 0 {
+        return false;
+    }
+    if l.number == i {
+        return l.waiting;
+    }
+    false
+}
+
+// The place of the first waiting load of number i, or 8.
+fn waiting_place(loads: [LoadEntry; 8], i: u32) -> usize
+    ensures { λ r. ⌜ r ≡ position (waitingAt i) loads ⌝ }
+{
+    let mut k: usize = 0;
+    while k < 8 {
+        let l = loads[k];
+        if is_waiting_at(l, i) {
+            return k;
+        }
+        k += 1;
+    }
+    k
+}
+
+// Whether an inquiry about number i finds a waiting load.
+pub fn has_waiting(loads: [LoadEntry; 8], i: u32) -> bool
+    ensures { λ r. ⌜ r ≡ any (waitingAt i) loads ⌝ }
+{
+    waiting_place(loads, i) < 8
+}
+
+// The load that an inquiry about number i tries again; a free entry if none waits.
+pub fn waiting_load(loads: [LoadEntry; 8], i: u32) -> LoadEntry
+    ensures { λ r. ⌜ r ≡ first (waitingAt i) noLoad loads ⌝ }
+{
+    let k = waiting_place(loads, i);
+    if k < 8 {
+        return loads[k];
+    }
+    no_load()
+}
+
+// Loads that were kept so far, and how many.
+struct Packed {
+    out: [LoadEntry; 8],
+    count: usize,
+}
+
+// The load goes to the next place.
+fn packed_with(p: Packed, l: LoadEntry) -> Packed
+    requires { ⌜ p .count < 8 ⌝ }
+    ensures { λ r. ⌜ (r .out ≡ set (p .out) (p .count) l) × (r .count ≡ p .count + 1) ⌝ }
+{
+    let mut next = p;
+    let at = p.count;
+    next.out[at] = l;
+    next.count = at + 1;
+    next
+}
+
+// The load is kept, unless it is the waiting load of number i.
+fn keep_unless_waiting(p: Packed, l: LoadEntry, i: u32) -> Packed
+    requires { ⌜ p .count < 8 ⌝ }
+    ensures { λ r. ⌜ (r .out ≡ cond (waitingAt i l) (p .out) (set (p .out) (p .count) l))
+        × (r .count ≡ cond (waitingAt i l) (p .count) (p .count + 1)) ⌝ }
+{
+    if is_waiting_at(l, i) {
+        return p;
+    }
+    packed_with(p, l)
+}
+
+// The committed load that an inquiry about number i answered leaves the list.
+pub fn remove_waiting(loads: [LoadEntry; 8], i: u32) -> [LoadEntry; 8]
+    ensures { λ r. ⌜ r ≡ without (waitingAt i) noLoad loads ⌝ }
+{
+    let free = no_load();
+    let mut kept = Packed {
+        out: [free; 8],
+        count: 0,
+    };
+    let mut k: usize = 0;
+    while k < 8 {
+        let l = loads[k];
+        kept = keep_unless_waiting(kept, l, i);
+        k += 1;
+    }
+    kept.out
+}
+
+// The waiting load of number i, marked answered.
+fn answer_load(l: LoadEntry, i: u32) -> LoadEntry
+    ensures { λ r. ⌜ r ≡ cond (waitingAt i l) (answered l) l ⌝ }
+{
+    if is_waiting_at(l, i) {
+        return LoadEntry {
+            number: l.number,
+            address: l.address,
+            width: l.width,
+            waiting: false,
+        };
+    }
+    l
+}
+
+// The uncommitted load that an inquiry about number i answered is marked answered.
+pub fn answer_waiting(loads: [LoadEntry; 8], i: u32) -> [LoadEntry; 8]
+    ensures { λ r. ⌜ r ≡ changed (waitingAt i) answered loads ⌝ }
+{
+    let mut next = loads;
+    let mut k: usize = 0;
+    while k < 8 {
+        let l = next[k];
+        let t = answer_load(l, i);
+        next[k] = t;
+        k += 1;
+    }
+    next
+}
+
+// An answered load numbered k or less: commit k takes it off the list.
+pub fn is_answered_by(l: LoadEntry, k: u32) -> bool
+    ensures { λ r. ⌜ r ≡ answeredBy k l ⌝ }
+{
+    if l.number == 0 {
+        return false;
+    }
+    if k < l.number {
+        return false;
+    }
+    !l.waiting
+}
+
+// The load is kept, unless it is answered and numbered k or less.
+fn keep_unless_answered(p: Packed, l: LoadEntry, k: u32) -> Packed
+    requires { ⌜ p .count < 8 ⌝ }
+    ensures { λ r. ⌜ (r .out ≡ cond (answeredBy k l) (p .out) (set (p .out) (p .count) l))
+        × (r .count ≡ cond (answeredBy k l) (p .count) (p .count + 1)) ⌝ }
+{
+    if is_answered_by(l, k) {
+        return p;
+    }
+    packed_with(p, l)
+}
+
+// Commit k: the answered loads numbered k or less leave the list.
+pub fn remove_answered(loads: [LoadEntry; 8], k: u32) -> [LoadEntry; 8]
+    ensures { λ r. ⌜ r ≡ without (answeredBy k) noLoad loads ⌝ }
+{
+    let free = no_load();
+    let mut left = Packed {
+        out: [free; 8],
+        count: 0,
+    };
+    let mut at: usize = 0;
+    while at < 8 {
+        let l = loads[at];
+        left = keep_unless_answered(left, l, k);
+        at += 1;
+    }
+    left.out
+}
+
+// A waiting load numbered below i.
+fn is_waiting_below(l: LoadEntry, i: u32) -> bool
+    ensures { λ r. ⌜ r ≡ waitsBelow i l ⌝ }
+{
+    if l.number == 0 {
+        return false;
+    }
+    if l.number < i {
+        return l.waiting;
+    }
+    false
+}
+
+// Whether some waiting load has a smaller number than i.
+pub fn waits_below(loads: [LoadEntry; 8], i: u32) -> bool
+    ensures { λ r. ⌜ r ≡ any (waitsBelow i) loads ⌝ }
+{
+    let mut k: usize = 0;
+    while k < 8 {
+        let l = loads[k];
+        if is_waiting_below(l, i) {
+            return true;
+        }
+        k += 1;
+    }
+    false
+}

@@ -1,3 +1,0 @@
-pub mod Forwarded
-pub mod Given
-pub mod Good

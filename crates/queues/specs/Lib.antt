@@ -1,2 +1,0 @@
-pub mod Forwarded
-pub mod Good
