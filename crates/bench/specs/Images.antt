@@ -31,44 +31,55 @@ isFlag n = leb n 1
 
 -- ---- the miss register
 
+-- the register of two numbers
 abbrev pub openedRequest : ℕ → ℕ → Request
 openedRequest requested line = cond (isSet requested) (Line line) Free
 
+-- 1 where it names a line
 abbrev pub requestedOf : Request → ℕ
 requestedOf Free = 0
 requestedOf (Line l) = 1
 
+-- the line that it names, or 0
 abbrev pub lineNamed : Request → ℕ
 lineNamed Free = 0
 lineNamed (Line l) = l
 
--- free with line 0, or a line
+-- free with line 0, or a line is named
 unfoldable pub requestStands : ℕ → ℕ → Bool
 requestStands requested line = cond (eqb requested 0) (eqb line 0) (eqb requested 1)
 
 -- ---- entries and records
 
+-- the entry of its image
 unfoldable pub openedStore : StoreImage → StoreEntry
 openedStore s = record { number = s .number; address = s .address; width = s .width; value = s .value }
 
+-- the image of an entry
 unfoldable pub imagedStore : StoreEntry → StoreImage
 imagedStore s = record { number = s .number; address = s .address; width = s .width; value = s .value }
 
+-- the entry of its image
 unfoldable pub openedLoad : LoadImage → LoadEntry
 openedLoad l = record { number = l .number; address = l .address; width = l .width; waiting = isSet (l .waiting) }
 
+-- the image of an entry
 unfoldable pub imagedLoad : LoadEntry → LoadImage
 imagedLoad l = record { number = l .number; address = l .address; width = l .width; waiting = flagOf (l .waiting) }
 
+-- its flag is 0 or 1
 unfoldable pub loadStands : LoadImage → Bool
 loadStands l = isFlag (l .waiting)
 
+-- the record of its image
 unfoldable pub openedTag : TagImage → Tag
 openedTag t = record { valid = isSet (t .valid); dirty = isSet (t .dirty); line = t .line; age = t .age }
 
+-- the image of a record
 unfoldable pub imagedTag : Tag → TagImage
 imagedTag t = record { valid = flagOf (t .valid); dirty = flagOf (t .dirty); line = t .line; age = t .age; unused = 0 }
 
+-- its flags are 0 or 1, and the unused byte is 0
 unfoldable pub tagStands : TagImage → Bool
 tagStands t = isFlag (t .valid) && (isFlag (t .dirty) && eqb (t .unused) 0)
 

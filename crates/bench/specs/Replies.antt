@@ -29,6 +29,7 @@ abbrev pub numberedOf : Numbered → Option rules.Call
 numberedOf (Known c) = some (callOf c)
 numberedOf Unknown = none
 
+-- a reply by its three numbers
 abbrev pub reply : ℕ → ℕ → ℕ → Reply
 reply kind first second = record { kind = kind; first = first; second = second }
 

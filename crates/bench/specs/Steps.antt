@@ -49,6 +49,7 @@ leaves r q b = record { reply = r; image = imagedOf (stateOf q b); cache = b .ca
 
 -- ---- start
 
+-- by the rules' answer and world
 abbrev pub startedBy : StartAnswer → World → Image → List ℕ → List ℕ → Left
 startedBy ready w i cache memory = leaves readyReply (w .queues) (w .hierarchy)
 startedBy (startRefused k) w i cache memory = kept (rules.refused k) i cache memory
@@ -63,20 +64,6 @@ started sets ways i cache memory = startedBy (startAnswer sets ways cache memory
 unfoldable pub imageRefusal : Image → List ℕ → List ℕ → ℕ
 imageRefusal i cache memory = cond (fits (hierarchyOf (openedOf i) cache memory)) 10 1
 
--- a state that is not well formed, with the figures of s: "h never exceeds last"
-abbrev pub unformed : State → State
-unformed s = record {
-  sets = s .sets;
-  ways = s .ways;
-  size = s .size;
-  last = 0;
-  committed = 1;
-  request = s .request;
-  stores = s .stores;
-  loads = s .loads;
-  tags = s .tags;
-}
-
 -- what the rules make of the image's state
 unfoldable pub outcomeFrom : rules.Call → Image → List ℕ → List ℕ → rules.Outcome
 outcomeFrom c i cache memory = outcome c (queuesOf (openedOf i)) (hierarchyOf (openedOf i) cache memory)
@@ -89,5 +76,22 @@ called (some c) i cache memory =
     cond (standsFor i) (leaves (replyOf (o .answer)) (o .queues) (o .hierarchy))
     (kept (refusal c (imageRefusal i cache memory)) i cache memory)
 
+-- a call by its number
 unfoldable pub stepped : ℕ → ℕ → ℕ → ℕ → Image → List ℕ → List ℕ → Left
 stepped call x y z i cache memory = called (callNumbered call x y z) i cache memory
+
+-- ---- for the code
+
+-- a state with the figures of s that is not well formed: "h never exceeds last"
+abbrev pub unformed : State → State
+unformed s = record {
+  sets = s .sets;
+  ways = s .ways;
+  size = s .size;
+  last = 0;
+  committed = 1;
+  request = s .request;
+  stores = s .stores;
+  loads = s .loads;
+  tags = s .tags;
+}
