@@ -1,0 +1,156 @@
+-- What the functions leave is what the definitions say; and a refusal leaves everything as it was.
+use Prim.Native.Nat.{ℕ, _≤_}
+use mathlib.Core.Path.{_≡_, refl, sym, _∙_, ap}
+use mathlib.Core.Bool.{true, false, cond}
+use mathlib.Core.List.{List}
+use mathlib.Core.Option.{Option, some, none}
+use native.Mathlib.Omega.{arith}
+use Rattle.lists.proofs.Cond.{cases, wrong}
+use Rattle.rules.specs.Shape.{Queues, Hierarchy, World, fits}
+use Rattle.rules.specs.Calls as rules
+use Rattle.rules.specs.WellFormed.{wellFormed}
+use Rattle.rules.specs.Runs.{ready, startRefused, startAllowed, startAnswer, startWorld, unstarted, refusal, outcome}
+use Rattle.rules.proofs.Parts.{parts}
+use Rattle.rules.proofs.Checks.{shut, malformed, outcome-by, rule-accepts}
+use Rattle.model.specs.State.{queuesOf, hierarchyOf, worldOf, answerOf, outcomeOf, callOf}
+use Rattle.model.specs.Starts.{startAnswerOf}
+use Rattle.model.specs.declared.Call.{Call}
+use Rattle.model.specs.declared.State.{State}
+use Rattle.model.specs.declared.Step.{Step}
+use Rattle.model.specs.declared.Started.{Started}
+use Rattle.model.specs.declared.StartAnswer.the-variants.{Ready, NotAllowed}
+use Rattle.bench.specs.declared.Image.{Image}
+use Rattle.bench.specs.declared.ImageStep.{ImageStep}
+use Rattle.bench.specs.declared.replies.Numbered.{Numbered}
+use Rattle.bench.specs.declared.replies.Numbered.the-variants.{Known, Unknown}
+use Rattle.bench.specs.Images.{openedOf, imagedOf, standsFor}
+use Rattle.bench.specs.Replies.{callNumbered, numberedOf, reply, replyOf, readyReply}
+use Rattle.bench.specs.Steps.{Left, leftOf, kept, leaves, startedBy, started, imageRefusal, outcomeFrom, unformed, called, stepped}
+use Rattle.bench.specs.Claims.{Keeps, RefusedImagesKept}
+use Rattle.bench.proofs.Standing.{imaged-opened}
+
+-- ---- a call
+
+abbrev Leaves : rules.Outcome → Left
+Leaves o = leaves (replyOf (o .answer)) (o .queues) (o .hierarchy)
+
+module _ (c : rules.Call) (i : Image) (cache memory : List ℕ) where
+  abbrev outcomeAt : State → rules.Outcome
+  outcomeAt s = outcome c (queuesOf s) (hierarchyOf s cache memory)
+
+  -- h above last: refused with 1 or 10
+  unformed-outcome : (s : State) → outcomeAt (unformed s) ≡ rules.unchanged (refusal c (cond (fits (hierarchyOf s cache memory)) 10 1)) (queuesOf (unformed s)) (hierarchyOf s cache memory)
+  unformed-outcome s =
+      cases (fits b) (λ f. rw f (malformed c q b f (cases (wellFormed q b) (λ g. absurd (no g)) (λ g. g)))) (λ f. rw f (shut c q b f))
+    where
+      q : Queues
+      q = queuesOf (unformed s)
+
+      b : Hierarchy
+      b = hierarchyOf s cache memory
+
+      no : wellFormed q b ≡ true → ⊥
+      no g = let order : 1 ≤ 0 = parts q b g .order in omega arith
+
+  module _ (r : Step) (cache′ memory′ : List ℕ) (s : State) (e : outcomeOf r cache′ memory′ ≡ outcomeAt s) (t : ImageStep) (replied : t .reply ≡ replyOf (answerOf (r .answer) cache′)) where
+    pub state-stepped : s ≡ openedOf i → standsFor i ≡ true → t .next ≡ imagedOf (r .next) → leftOf t cache′ memory′ ≡ called (some c) i cache memory
+    unfolding called outcomeFrom
+    state-stepped o stands next =
+        (λ j. record { reply = replied j; image = next j; cache = cache′; memory = memory′ })
+        ∙ ap Leaves (e ∙ ap outcomeAt o) ∙ rw stands
+
+    pub image-refused : s ≡ unformed (openedOf i) → standsFor i ≡ false → t .next ≡ i → leftOf t cache′ memory′ ≡ called (some c) i cache memory
+    unfolding called imageRefusal
+    image-refused o stands next =
+        let u = e ∙ (ap outcomeAt o ∙ unformed-outcome (openedOf i)) in
+        (λ j. record {
+          reply = (replied ∙ ap (λ (o : rules.Outcome). replyOf (o .answer)) u) j;
+          image = next j;
+          cache = ap (λ (o : rules.Outcome). o .hierarchy .cache) u j;
+          memory = ap (λ (o : rules.Outcome). o .hierarchy .memory) u j;
+        })
+        ∙ rw stands
+
+-- ---- a call by its number
+
+module _ (call x y z : ℕ) (i : Image) (cache memory : List ℕ) (n : Numbered) (e : numberedOf n ≡ callNumbered call x y z) where
+  pub known-stepped : (c : Call) → n ≡ Known c → (l : Left) → l ≡ called (some (callOf c)) i cache memory → l ≡ stepped call x y z i cache memory
+  unfolding stepped
+  known-stepped c f l g = g ∙ ap (λ (o : Option rules.Call). called o i cache memory) (sym (ap numberedOf f) ∙ e)
+
+  pub unknown-stepped : n ≡ Unknown → (t : ImageStep) → t .reply ≡ reply 0 6 0 → t .next ≡ i → leftOf t cache memory ≡ stepped call x y z i cache memory
+  unfolding called stepped
+  unknown-stepped f t replied next =
+      (λ j. record { reply = replied j; image = next j; cache = cache; memory = memory })
+      ∙ ap (λ (o : Option rules.Call). called o i cache memory) (sym (ap numberedOf f) ∙ e)
+
+-- ---- start
+
+module _ (sets ways : ℕ) (i : Image) (cache memory : List ℕ) where
+  refused-cache : (k : ℕ) → startRefused k ≡ startAnswer sets ways cache memory → startWorld sets ways cache memory .hierarchy .cache ≡ cache
+  unfolding startAnswer startWorld unstarted
+  refused-cache k e = cases (startAllowed sets ways cache memory)
+      (λ t. let f : startRefused k ≡ ready = rw t at e in let z : _≡_ {A = ℕ} 0 1 = cc in let no : ⊥ = omega arith in absurd no)
+      (λ t. rw t)
+
+  module _ (r : Started) (cache′ : List ℕ) (a : startAnswerOf (r .answer) ≡ startAnswer sets ways cache memory) (w : worldOf (r .state) cache′ memory ≡ startWorld sets ways cache memory) (t : ImageStep) where
+    pub start-ready : r .answer ≡ Ready → t .reply ≡ readyReply → t .next ≡ imagedOf (r .state) → leftOf t cache′ memory ≡ started sets ways i cache memory
+    unfolding started
+    start-ready told replied next =
+        (λ j. record { reply = replied j; image = next j; cache = cache′; memory = memory })
+        ∙ (λ j. startedBy ((sym (ap startAnswerOf told) ∙ a) j) (w j) i cache memory)
+
+    pub start-refused : (k : ℕ) → r .answer ≡ NotAllowed k → t .reply ≡ reply 0 k 0 → t .next ≡ i → leftOf t cache′ memory ≡ started sets ways i cache memory
+    unfolding started
+    start-refused k told replied next =
+        let b : startRefused k ≡ startAnswer sets ways cache memory = sym (ap startAnswerOf told) ∙ a in
+        (λ j. record {
+          reply = replied j;
+          image = next j;
+          cache = (ap (λ (v : World). v .hierarchy .cache) w ∙ refused-cache k b) j;
+          memory = memory;
+        })
+        ∙ (λ j. startedBy (b j) (w j) i cache memory)
+
+-- ---- a refusal leaves everything as it was
+
+kind-refused : (a : rules.Answer) → replyOf a .kind ≡ 0 → rules.isAccepted a ≡ false
+kind-refused (rules.refused k) e = refl
+kind-refused (rules.stored i) e = let no : ⊥ = omega arith in absurd no
+kind-refused (rules.value i v) e = let no : ⊥ = omega arith in absurd no
+kind-refused (rules.waits i) e = let no : ⊥ = omega arith in absurd no
+kind-refused (rules.committed k) e = let no : ⊥ = omega arith in absurd no
+kind-refused (rules.kept k) e = let no : ⊥ = omega arith in absurd no
+kind-refused (rules.drained i) e = let no : ⊥ = omega arith in absurd no
+kind-refused (rules.requested a) e = let no : ⊥ = omega arith in absurd no
+kind-refused rules.idled e = let no : ⊥ = omega arith in absurd no
+kind-refused (rules.filled a) e = let no : ⊥ = omega arith in absurd no
+kind-refused (rules.flushed k) e = let no : ⊥ = omega arith in absurd no
+kind-refused (rules.shown p bs) e = let no : ⊥ = omega arith in absurd no
+
+module _ (i : Image) (cache memory : List ℕ) where
+  state-keeps : (c : rules.Call) → standsFor i ≡ true → Keeps (Leaves (outcomeFrom c i cache memory)) i cache memory
+  unfolding outcomeFrom
+  state-keeps c stands =
+      let q = queuesOf (openedOf i) in
+      let b = hierarchyOf (openedOf i) cache memory in
+      outcome-by c q b (λ o. Keeps (Leaves o) i cache memory)
+      (λ k e. (imaged-opened i stands, refl, refl))
+      (λ f g p e. wrong (rule-accepts q b c) (kind-refused (rules.rule c q b .answer) e))
+
+  called-keeps : (o : Option rules.Call) → Keeps (called o i cache memory) i cache memory
+  unfolding called
+  called-keeps none = λ e. (refl, refl, refl)
+  called-keeps (some c) = cases (standsFor i) (λ t. rw t (state-keeps c t)) (λ t. rw t (λ e. (refl, refl, refl)))
+
+  started-keeps : (sets ways : ℕ) → Keeps (started sets ways i cache memory) i cache memory
+  unfolding started startAnswer
+  started-keeps sets ways = cases (startAllowed sets ways cache memory)
+      (λ t. rw t (λ e. let no : ⊥ = omega arith in absurd no)) (λ t. rw t (λ e. (refl, refl, refl)))
+
+pub refused-kept : RefusedImagesKept
+unfolding stepped
+refused-kept = record {
+  by-start = λ sets ways i cache memory. started-keeps i cache memory sets ways;
+  by-call = λ call x y z i cache memory. called-keeps i cache memory (callNumbered call x y z);
+}

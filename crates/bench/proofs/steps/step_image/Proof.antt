@@ -1,0 +1,67 @@
+-- `steps::step_image` meets its contract: the image stands for a state, or for none, or the number for no call.
+use borrow.Author.Needs.{needs}
+use mathlib.Core.Path.{refl, sym, _∙_}
+use Rattle.bench.proofs.Outcomes.{known-stepped, unknown-stepped}
+use Rattle.bench.proofs.steps.step_image.Statement.{statement}
+use Rattle.bench.proofs.steps.step_image.Tie as tie
+
+call-numbered-requires : tie.Need-call-numbered-requires
+call-numbered-requires c κs = search needs
+
+enum-known-numbered : tie.Need-enum-known-numbered
+enum-known-numbered c = search needs
+
+stands-requires : tie.Need-stands-requires
+stands-requires c κs = search needs
+
+step-state-requires : tie.Need-step-state-requires
+step-state-requires c κs = sym (c .before .before .before .stands .ensures) ∙ c .before .before .if1 .taken
+
+same-length : tie.Need-same-length
+same-length c = search needs
+
+same-length-2 : tie.Need-same-length-2
+same-length-2 c = search needs
+
+returns : tie.Need-returns
+returns c = known-stepped _ _ _ _ _ _ _ _ (c .before .before .before .before .before .before .before .before .before .before .before .before .call-numbered .ensures) _ (c .before .before .before .before .before .before .before .before .before .before .numbered .given .1) _ (c .before .before .before .before .step-state .ensures)
+
+refuse-image-requires : tie.Need-refuse-image-requires
+refuse-image-requires c κs = sym (c .before .before .before .stands .ensures) ∙ c .before .before .if1 .left
+
+enum-told : tie.Need-enum-told
+enum-told c = search needs
+
+coded-requires : tie.Need-coded-requires
+coded-requires c κs = search needs
+
+same-length-3 : tie.Need-same-length-3
+same-length-3 c = search needs
+
+same-length-4 : tie.Need-same-length-4
+same-length-4 c = search needs
+
+returns-2 : tie.Need-returns-2
+returns-2 c = known-stepped _ _ _ _ _ _ _ _ (c .before .before .before .before .before .before .before .before .before .before .before .before .call-numbered .ensures) _ (c .before .before .before .before .before .before .before .before .before .before .numbered .given .1) _ (c .before .before .before .before .refuse-image .ensures)
+
+returns-3 : tie.Need-returns-3
+returns-3 c = unknown-stepped _ _ _ _ _ _ _ _ (c .before .before .before .call-numbered .ensures) (c .before .enum-told .given .1) _ (c .coded .ensures) refl
+
+pub step-image-spec : {M : Type 1} → statement M
+step-image-spec =
+    tie.close
+    (tie.spec
+    call-numbered-requires
+    enum-known-numbered
+    stands-requires
+    step-state-requires
+    same-length
+    same-length-2
+    returns
+    refuse-image-requires
+    enum-told
+    coded-requires
+    same-length-3
+    same-length-4
+    returns-2
+    returns-3)

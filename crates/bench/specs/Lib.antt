@@ -1,0 +1,4 @@
+pub mod Images
+pub mod Replies
+pub mod Steps
+pub mod Claims

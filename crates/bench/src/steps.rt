@@ -1,0 +1,108 @@
+// A start and a call on an image, by value.
+ghost use mathlib.Core.Path.{_≡_};
+ghost use Rattle.model.specs.State.{callOf};
+ghost use mathlib.Core.Option.{some};
+ghost use mathlib.Core.Bool.{true, false};
+ghost use Rattle.bench.specs.Images.{openedOf, standsFor};
+ghost use Rattle.bench.specs.Steps.{leftOf, started, called, stepped, unformed};
+use crate::Image;
+use crate::ImageStep;
+use crate::images;
+use crate::replies;
+use crate::replies::Numbered;
+use model::Call;
+use model::Figures;
+use model::StartAnswer;
+use model::State;
+
+pub(crate) fn start_image(
+    image: Image,
+    sets: u32,
+    ways: u32,
+    cache: &mut [u8],
+    memory: &[u8],
+) -> ImageStep
+    ensures { λ r. ⌜ leftOf r (now (cache .exit)) (now (memory .entry)) ≡ started sets ways image (now (cache .entry)) (now (memory .entry)) ⌝ }
+{
+    let figures = Figures { sets, ways };
+    let r = State::start(figures, cache, memory);
+    let answer = r.answer;
+    match answer {
+        StartAnswer::Ready => {
+            let state = r.state;
+            ImageStep {
+                reply: replies::coded(12, 0, 0),
+                next: images::imaged(state),
+            }
+        }
+        StartAnswer::NotAllowed(k) => ImageStep {
+            reply: replies::coded(0, k, 0),
+            next: image,
+        },
+    }
+}
+
+// A call on an image that stands for a state.
+fn step_state(image: Image, call: Call, cache: &mut [u8], memory: &mut [u8]) -> ImageStep
+    requires { ⌜ standsFor image ≡ true ⌝ }
+    ensures { λ r. ⌜ leftOf r (now (cache .exit)) (now (memory .exit)) ≡ called (some (callOf call)) image (now (cache .entry)) (now (memory .entry)) ⌝ }
+{
+    let state = images::opened(image);
+    let r = state.step(call, cache, memory);
+    let answer = r.answer;
+    let next = r.next;
+    ImageStep {
+        reply: replies::replied(answer, cache),
+        next: images::imaged(next),
+    }
+}
+
+// The image's state with a committed number above the last: not well formed, whatever the image is.
+fn unformed_state(image: Image) -> State
+    ensures { λ r. ⌜ r ≡ unformed (openedOf image) ⌝ }
+{
+    let mut state = images::opened(image);
+    state.last = 0;
+    state.committed = 1;
+    state
+}
+
+// A call on an image that stands for none: the state is refused, and the image stays.
+fn refuse_image(image: Image, call: Call, cache: &mut [u8], memory: &mut [u8]) -> ImageStep
+    requires { ⌜ standsFor image ≡ false ⌝ }
+    ensures { λ r. ⌜ leftOf r (now (cache .exit)) (now (memory .exit)) ≡ called (some (callOf call)) image (now (cache .entry)) (now (memory .entry)) ⌝ }
+{
+    let state = unformed_state(image);
+    let r = state.step(call, cache, memory);
+    let answer = r.answer;
+    ImageStep {
+        reply: replies::replied(answer, cache),
+        next: image,
+    }
+}
+
+pub(crate) fn step_image(
+    image: Image,
+    call: u32,
+    x: u32,
+    y: u32,
+    z: u32,
+    cache: &mut [u8],
+    memory: &mut [u8],
+) -> ImageStep
+    ensures { λ r. ⌜ leftOf r (now (cache .exit)) (now (memory .exit)) ≡ stepped call x y z image (now (cache .entry)) (now (memory .entry)) ⌝ }
+{
+    let numbered = replies::call_numbered(call, x, y, z);
+    match numbered {
+        Numbered::Known(c) => {
+            if images::stands(image) {
+                return step_state(image, c, cache, memory);
+            }
+            refuse_image(image, c, cache, memory)
+        }
+        Numbered::Unknown => ImageStep {
+            reply: replies::coded(0, 6, 0),
+            next: image,
+        },
+    }
+}
