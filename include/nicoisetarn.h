@@ -14,7 +14,8 @@
  * and nobody else writes them during the call. The image's bytes may be anything, also before a start.
  *
  * What a refusal means. A refused call has changed nothing: image, cache and memory are as before, byte for
- * byte. An image that no run leads to (damaged, or never started) is refused by every call but a start.
+ * byte. An image that is not well formed with its cache and memory (damaged, or never started) is refused by
+ * every call but a start and never repaired; show line, which names no refusal, then gives the empty part.
  */
 #ifndef NICOISETARN_H
 #define NICOISETARN_H

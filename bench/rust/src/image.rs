@@ -77,7 +77,8 @@ struct TagImage {
 /// The image of a state: opaque bytes that the bench stores and lends to each call.
 ///
 /// An image goes with its cache and its memory; all three together can be copied
-/// and stored. Any bytes are an image, but one that no run leads to is refused.
+/// and stored. Any bytes are an image, but one that is not well formed (damaged, or
+/// never started) is refused by every call but a start, and never repaired.
 #[derive(Clone, Debug, PartialEq, Eq, Hash)]
 #[repr(C)]
 pub struct Image {

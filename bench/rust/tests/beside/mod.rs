@@ -313,23 +313,26 @@ fn near_address(image: &Image, rng: &mut Rng) -> u32 {
 
 /// One call of each kind, mostly with operands about those of an image.
 pub fn each_call(image: &Image, rng: &mut Rng) -> [Call; 10] {
-    let (number, address): (fn(&Image, &mut Rng) -> u32, fn(&Image, &mut Rng) -> u32) =
-        if rng.one_in(4) {
-            (|_, rng| odd_number(rng), |_, rng| odd_number(rng))
-        } else {
-            (near_number, near_address)
-        };
+    let odd_ones = rng.one_in(4);
+    let number = |rng: &mut Rng| match odd_ones {
+        true => odd_number(rng),
+        false => near_number(image, rng),
+    };
+    let address = |rng: &mut Rng| match odd_ones {
+        true => odd_number(rng),
+        false => near_address(image, rng),
+    };
     let odd = odd_number(rng);
     let width = rng.pick(&[1, 1, 2, 4, odd]);
     let value = rng.pick(&[0, 1, 200, odd]);
     let (sets, ways) = (rng.pick(&[image.sets(), 1, 2, odd]), rng.pick(&[image.ways(), 1, odd]));
     [
-        Call::ShowLine { address: address(image, rng) },
-        Call::Load { address: address(image, rng), width },
-        Call::Store { address: address(image, rng), width, value },
-        Call::Retry { number: number(image, rng) },
-        Call::Commit { number: number(image, rng) },
-        Call::Abort { number: number(image, rng) },
+        Call::ShowLine { address: address(rng) },
+        Call::Load { address: address(rng), width },
+        Call::Store { address: address(rng), width, value },
+        Call::Retry { number: number(rng) },
+        Call::Commit { number: number(rng) },
+        Call::Abort { number: number(rng) },
         Call::Idle,
         Call::Reply,
         Call::Flush,
