@@ -4,6 +4,9 @@
 //! `cargo bench -- [--rounds N] [--calls N]`: the best of so many rounds, which
 //! alternate, of so many calls each.
 
+#[path = "../tests/beside/mod.rs"]
+mod beside;
+
 use std::hint::black_box;
 use std::ops::Range;
 use std::process::ExitCode;
@@ -30,6 +33,9 @@ const PIECE: usize = 250;
 
 /// The one row of a call that is refused.
 const REFUSED: &str = "load refused by 2: the checks alone";
+
+/// The row of the library alone.
+const NO_CALL: &str = "no such call: nothing is looked at";
 
 /// The command line.
 struct Arguments {
@@ -74,19 +80,11 @@ impl Machine for Image {
     type Call = Made;
 
     fn call_of(call: Call) -> Made {
-        use nicoisetarn::Call as Ours;
-        Made::Call(match call {
-            Call::Start { sets, ways } => return Made::Start(sets, ways),
-            Call::Load { address, width } => Ours::Load(address, width),
-            Call::Store { address, width, value } => Ours::Store(address, width, value),
-            Call::Retry { number } => Ours::Retry(number),
-            Call::Commit { number } => Ours::Commit(number),
-            Call::Abort { number } => Ours::Abort(number),
-            Call::Idle => Ours::Idle,
-            Call::Reply => Ours::Reply,
-            Call::Flush => Ours::Flush,
-            Call::ShowLine { address } => Ours::ShowLine(address),
-        })
+        match (call, beside::call_of(call)) {
+            (_, Some(call)) => Made::Call(call),
+            (Call::Start { sets, ways }, None) => Made::Start(sets, ways),
+            (_, None) => Made::NoCall,
+        }
     }
 
     fn unstarted() -> Image {
@@ -289,38 +287,66 @@ fn keep(best: &mut [f64; 2], seen: [f64; 2]) {
     *best = [best[0].min(seen[0]), best[1].min(seen[1])];
 }
 
-/// Nanoseconds of the library for a call number that there is not: the image is
-/// handed in and out, and nothing is looked at.
-fn measure_no_call(read: &Arguments, case: &Case) -> Result<f64, String> {
-    let mut library = Prepared::<Image>::new(case)?;
-    library.call = Made::NoCall;
-    let mut best = [f64::MAX; 2];
-    (0..read.rounds).for_each(|_| keep(&mut best, library.both(read.calls)));
-    Ok(best[0] - best[1])
+/// A case on both machines, with the best times so far.
+struct Pair {
+    name: &'static str,
+    library: Prepared<Image>,
+    model: Prepared<State>,
+    of_library: [f64; 2],
+    of_model: [f64; 2],
 }
 
-/// Nanoseconds of a case's call on the library and on the model.
-fn measure(read: &Arguments, case: &Case) -> Result<[f64; 2], String> {
-    let library = Prepared::<Image>::new(case)?;
-    let model = Prepared::<State>::new(case)?;
-    let (mut of_library, mut of_model) = ([f64::MAX; 2], [f64::MAX; 2]);
-    for _ in 0..read.rounds {
-        keep(&mut of_library, library.both(read.calls));
-        keep(&mut of_model, model.both(read.calls));
+impl Pair {
+    fn new(case: &Case) -> Result<Pair, String> {
+        let (library, model) = (Prepared::new(case)?, Prepared::new(case)?);
+        let worst = [f64::MAX; 2];
+        Ok(Pair { name: case.name, library, model, of_library: worst, of_model: worst })
     }
-    Ok([of_library, of_model].map(|[with, without]| with - without))
+
+    /// One round.
+    fn round(&mut self, calls: u64) {
+        keep(&mut self.of_library, self.library.both(calls));
+        keep(&mut self.of_model, self.model.both(calls));
+    }
+
+    /// Nanoseconds of the call on the library and on the model.
+    fn times(&self) -> [f64; 2] {
+        [self.of_library, self.of_model].map(|[with, without]| with - without)
+    }
 }
 
-/// A run of all calls, with a show line after every sixteenth.
+/// The cases of a geometry in rounds, so that each is timed now and then; the last
+/// is a call number that there is not, for the library: the image is handed in and
+/// out, and nothing is looked at.
+fn measure(read: &Arguments, figures: Figures) -> Result<Vec<Pair>, String> {
+    let cases = cases(figures);
+    let mut pairs = cases.iter().map(Pair::new).collect::<Result<Vec<Pair>, String>>()?;
+    for case in cases.iter().filter(|case| case.name == REFUSED) {
+        let mut pair = Pair::new(case)?;
+        pair.name = NO_CALL;
+        pair.library.call = Made::NoCall;
+        pairs.push(pair);
+    }
+    for _ in 0..read.rounds {
+        pairs.iter_mut().for_each(|pair| pair.round(read.calls));
+    }
+    Ok(pairs)
+}
+
+/// A run of all calls, with a show line after every sixteenth. The refused calls
+/// are left out: they change nothing, so the others are answered as before.
 fn mixed_calls(figures: Figures) -> Vec<Call> {
     let run = script_run(&mut Rng::new(1), figures, MIXED, &MIX);
+    let mut way = Way::new(figures);
+    let mut mixed = way.calls.clone();
     let mut address = 0;
-    let mut mixed = vec![Call::Start { sets: figures.0, ways: figures.1 }];
     for (place, call) in run.calls.into_iter().enumerate() {
+        if way.push(call).accepted() {
+            mixed.push(call);
+        }
         if let Call::Load { address: at, .. } | Call::Store { address: at, .. } = call {
             address = at;
         }
-        mixed.push(call);
         if place % 16 == 15 {
             mixed.push(Call::ShowLine { address });
         }
@@ -346,23 +372,20 @@ fn play<M: Machine>(figures: Figures, calls: &[Call], best: &mut [f64]) -> (usiz
     (accepted, memory)
 }
 
-/// Nanoseconds a call of a mixed run on both, and the share of calls accepted.
-fn measure_mixed(read: &Arguments, figures: Figures) -> Result<([f64; 2], f64), String> {
+/// Nanoseconds a call of a mixed run on both.
+fn measure_mixed(read: &Arguments, figures: Figures) -> Result<[f64; 2], String> {
     let calls = mixed_calls(figures);
     let pieces = calls.len().div_ceil(PIECE);
     let (mut of_library, mut of_model) = (vec![f64::MAX; pieces], vec![f64::MAX; pieces]);
-    let mut accepted = 0;
     for _ in 0..read.rounds.div_ceil(4) {
         let library = play::<Image>(figures, &calls, &mut of_library);
         let model = play::<State>(figures, &calls, &mut of_model);
-        if library != model {
-            return Err("mixed run: the machines do not agree".to_string());
+        if library != model || library.0 != calls.len() {
+            return Err("mixed run: the machines do not agree, or refuse".to_string());
         }
-        accepted = library.0;
     }
     let each = |pieces: Vec<f64>| pieces.iter().sum::<f64>() / calls.len() as f64;
-    let share = 100.0 * accepted as f64 / calls.len() as f64;
-    Ok(([each(of_library), each(of_model)], share))
+    Ok([each(of_library), each(of_model)])
 }
 
 /// Prints a row.
@@ -377,15 +400,13 @@ fn table(read: &Arguments, figures: Figures) -> Result<(), String> {
         "\n| {sets} sets, {ways} ways, {length} bytes | library, ns | Rust model, ns | ratio |"
     );
     println!("|---|---|---|---|");
-    let cases = cases(figures);
-    for case in &cases {
-        row(case.name, measure(read, case)?);
+    for pair in measure(read, figures)? {
+        match pair.name {
+            NO_CALL => println!("| {NO_CALL} | {:.0} | – | – |", pair.times()[0]),
+            name => row(name, pair.times()),
+        }
     }
-    for case in cases.iter().filter(|case| case.name == REFUSED) {
-        println!("| no such call | {:.0} | - | - |", measure_no_call(read, case)?);
-    }
-    let (mixed, share) = measure_mixed(read, figures)?;
-    row(&format!("mixed run, {share:.0} % accepted"), mixed);
+    row("mixed run", measure_mixed(read, figures)?);
     Ok(())
 }
 
