@@ -80,7 +80,7 @@ impl Teller {
 }
 
 /// The name under which an answer is counted.
-fn name(answer: Answer) -> &'static str {
+pub fn name(answer: Answer) -> &'static str {
     match answer {
         Answer::Ready => "accepted G",
         Answer::Stored(_) => "stored",

@@ -1,0 +1,183 @@
+//! The image of a state, as the library lays it out, and what it holds.
+
+use std::mem::{align_of, offset_of, size_of};
+
+use crate::boundary;
+
+/// Bytes of a line.
+pub const LINE: usize = 16;
+/// Places of the tag table.
+pub const RECORDS: usize = 256;
+/// Places of the store queue.
+pub const STORES: usize = 16;
+/// Places of the load queue.
+pub const LOADS: usize = 8;
+
+/// A held store; all zero where the place is free.
+#[derive(Clone, Copy, Debug, Default, PartialEq, Eq, Hash)]
+#[repr(C)]
+pub struct HeldStore {
+    /// The operation number; 0 where the place is free.
+    pub number: u32,
+    /// The address of its lowest byte.
+    pub address: u32,
+    /// Its bytes: 1, 2 or 4.
+    pub width: u32,
+    /// The stored value.
+    pub value: u32,
+}
+
+/// A listed load; all zero where the place is free.
+#[derive(Clone, Copy, Debug, Default, PartialEq, Eq, Hash)]
+pub struct ListedLoad {
+    /// The operation number; 0 where the place is free.
+    pub number: u32,
+    /// The address of its lowest byte.
+    pub address: u32,
+    /// Its bytes: 1, 2 or 4.
+    pub width: u32,
+    /// It waits, else it is answered.
+    pub waiting: bool,
+}
+
+/// A tag record. The bytes of record r stand at 16 × r in the cache.
+#[derive(Clone, Copy, Debug, Default, PartialEq, Eq, Hash)]
+pub struct Tag {
+    /// A line is present here.
+    pub valid: bool,
+    /// That line has bytes that memory has not.
+    pub dirty: bool,
+    /// The line number: its first address divided by 16.
+    pub line: u32,
+    /// 0 for the line of its set that was used last.
+    pub age: u32,
+}
+
+/// A listed load as it is laid out.
+#[derive(Clone, Copy, Debug, PartialEq, Eq, Hash)]
+#[repr(C)]
+struct LoadImage {
+    number: u32,
+    address: u32,
+    width: u32,
+    waiting: u32,
+}
+
+/// A tag record as it is laid out.
+#[derive(Clone, Copy, Debug, PartialEq, Eq, Hash)]
+#[repr(C)]
+struct TagImage {
+    valid: u8,
+    dirty: u8,
+    line: u16,
+    age: u8,
+    unused: u8,
+}
+
+/// The image of a state: opaque bytes that the bench stores and lends to each call.
+///
+/// An image goes with its cache and its memory; all three together can be copied
+/// and stored. Any bytes are an image, but one that is not well formed (damaged, or
+/// never started) is refused by every call but a start, and never repaired.
+#[derive(Clone, Debug, PartialEq, Eq, Hash)]
+#[repr(C)]
+pub struct Image {
+    sets: u32,
+    ways: u32,
+    memory_length: u32,
+    last: u32,
+    committed: u32,
+    requested: u32,
+    line: u32,
+    stores: [HeldStore; STORES],
+    loads: [LoadImage; LOADS],
+    tags: [TagImage; RECORDS],
+}
+
+// The library's layout. No struct has bytes between or behind its fields.
+const _: () = {
+    assert!(size_of::<Image>() == Image::SIZE && align_of::<Image>() == 4);
+    assert!(size_of::<HeldStore>() == 16 && size_of::<LoadImage>() == 16);
+    assert!(size_of::<TagImage>() == 6 && align_of::<TagImage>() == 2);
+    assert!(offset_of!(Image, sets) == 0 && offset_of!(Image, ways) == 4);
+    assert!(offset_of!(Image, memory_length) == 8 && offset_of!(Image, last) == 12);
+    assert!(offset_of!(Image, committed) == 16 && offset_of!(Image, requested) == 20);
+    assert!(offset_of!(Image, line) == 24 && offset_of!(Image, stores) == 28);
+    assert!(offset_of!(Image, loads) == 284 && offset_of!(Image, tags) == 412);
+    assert!(offset_of!(HeldStore, address) == 4 && offset_of!(HeldStore, width) == 8);
+    assert!(offset_of!(HeldStore, value) == 12 && offset_of!(LoadImage, address) == 4);
+    assert!(offset_of!(LoadImage, width) == 8 && offset_of!(LoadImage, waiting) == 12);
+    assert!(offset_of!(TagImage, dirty) == 1 && offset_of!(TagImage, line) == 2);
+    assert!(offset_of!(TagImage, age) == 4 && offset_of!(TagImage, unused) == 5);
+};
+
+/// What an image holds, whether or not a call would refuse it.
+impl Image {
+    /// Bytes of an image.
+    pub const SIZE: usize = 1948;
+
+    /// The image with these bytes.
+    pub fn from_bytes(bytes: [u8; Image::SIZE]) -> Image {
+        boundary::image_of(bytes)
+    }
+
+    /// The bytes of the image.
+    pub fn to_bytes(&self) -> [u8; Image::SIZE] {
+        boundary::bytes_of(self)
+    }
+
+    /// Sets of the cache.
+    pub fn sets(&self) -> u32 {
+        self.sets
+    }
+
+    /// Ways of each set.
+    pub fn ways(&self) -> u32 {
+        self.ways
+    }
+
+    /// Bytes of the memory.
+    pub fn memory_length(&self) -> u32 {
+        self.memory_length
+    }
+
+    /// The last operation number given.
+    pub fn last(&self) -> u32 {
+        self.last
+    }
+
+    /// The committed number.
+    pub fn committed(&self) -> u32 {
+        self.committed
+    }
+
+    /// The line that the request register names, or none where it is free.
+    pub fn requested(&self) -> Option<u32> {
+        (self.requested != 0).then_some(self.line)
+    }
+
+    /// The store queue, the oldest store first.
+    pub fn stores(&self) -> &[HeldStore; STORES] {
+        &self.stores
+    }
+
+    /// The load queue, the oldest load first.
+    pub fn loads(&self) -> [ListedLoad; LOADS] {
+        self.loads.map(|load| ListedLoad {
+            number: load.number,
+            address: load.address,
+            width: load.width,
+            waiting: load.waiting != 0,
+        })
+    }
+
+    /// The tag record of a number, set × ways + way; none past the table.
+    pub fn tag(&self, record: usize) -> Option<Tag> {
+        self.tags.get(record).map(|tag| Tag {
+            valid: tag.valid != 0,
+            dirty: tag.dirty != 0,
+            line: u32::from(tag.line),
+            age: u32::from(tag.age),
+        })
+    }
+}

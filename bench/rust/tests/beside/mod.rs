@@ -1,0 +1,341 @@
+//! The library beside the Rust model: benches, states as images, and calls
+//! played on both and compared.
+#![allow(dead_code)]
+
+use compare::check;
+use compare::counts::{Counts, Needed};
+use compare::model::Right;
+use compare::random::{self, Rng, Run};
+use compare::types::{Answer, Call, LoadEntry, Part, Request, State, StoreEntry, Tag};
+use nicoisetarn::{Image, LINE, LOADS, RECORDS, STORES};
+
+/// Where the parts of an image stand.
+pub const REQUESTED: usize = 20;
+pub const REQUESTED_LINE: usize = 24;
+pub const STORES_AT: usize = 28;
+pub const LOADS_AT: usize = 284;
+pub const TAGS_AT: usize = 412;
+/// Bytes of a place of a queue and of a tag record.
+pub const ENTRY: usize = 16;
+pub const TAG: usize = 6;
+
+/// An image with what is lent to it.
+#[derive(Clone, Debug, PartialEq, Eq)]
+pub struct Bench {
+    pub image: Image,
+    pub cache: Vec<u8>,
+    pub memory: Vec<u8>,
+}
+
+/// How many times the usual number of calls is to be made: NICOISETARN_TIMES.
+pub fn times() -> u64 {
+    let named = std::env::var("NICOISETARN_TIMES").ok();
+    named.and_then(|value| value.parse().ok()).unwrap_or(1).max(1)
+}
+
+/// Prints what was met, and fails where it is too little out of the calls.
+pub fn judge(what: &str, counts: &Counts, needed: &Needed) {
+    println!("{what}: {} calls\n{}", counts.calls, counts.rows(needed));
+    let lacking = counts.lacking_of(needed, counts.calls);
+    assert!(lacking.is_empty(), "{what}: too little met: {}", lacking.join(", "));
+}
+
+/// The 32 bits that stand so far into the bytes of an image.
+fn word(bytes: &[u8], at: usize) -> u32 {
+    u32::from_ne_bytes([bytes[at], bytes[at + 1], bytes[at + 2], bytes[at + 3]])
+}
+
+/// Every flag is 0 or 1, a free register has no line, unused bytes are 0.
+pub fn stands(image: &Image) -> bool {
+    let bytes = image.to_bytes();
+    let register = match word(&bytes, REQUESTED) {
+        0 => word(&bytes, REQUESTED_LINE) == 0,
+        flag => flag == 1,
+    };
+    let mut loads = bytes[LOADS_AT..TAGS_AT].chunks_exact(ENTRY);
+    let mut tags = bytes[TAGS_AT..].chunks_exact(TAG);
+    register
+        && loads.all(|load| word(load, 12) <= 1)
+        && tags.all(|tag| tag[0] <= 1 && tag[1] <= 1 && tag[5] == 0)
+}
+
+/// The state that an image stands for, as its accessors tell it.
+pub fn state_of(image: &Image) -> Option<State> {
+    if !stands(image) {
+        return None;
+    }
+    let mut state = State::zero();
+    (state.sets, state.ways) = (image.sets(), image.ways());
+    state.memory_length = image.memory_length();
+    (state.last, state.committed) = (image.last(), image.committed());
+    state.request = image.requested().map_or(Request::Free, Request::Line);
+    state.stores = image.stores().map(|store| StoreEntry {
+        number: store.number,
+        address: store.address,
+        width: store.width,
+        value: store.value,
+    });
+    // The model has "answered" where the image has "waiting"; a free place has neither.
+    state.loads = image.loads().map(|load| LoadEntry {
+        number: load.number,
+        address: load.address,
+        width: load.width,
+        answered: load.waiting == (load.number == 0),
+    });
+    for (record, into) in state.tags.iter_mut().enumerate() {
+        let tag = image.tag(record).unwrap_or_default();
+        *into = Tag { valid: tag.valid, dirty: tag.dirty, line: tag.line, age: tag.age };
+    }
+    Some(state)
+}
+
+/// The image of a state whose records keep the widths of an image.
+pub fn image_of(state: &State) -> Image {
+    let (requested, line) = match state.request {
+        Request::Free => (0, 0),
+        Request::Line(line) => (1, line),
+    };
+    let figures = [state.sets, state.ways, state.memory_length, state.last, state.committed];
+    let stores = state.stores.iter().flat_map(|s| [s.number, s.address, s.width, s.value]);
+    let loads = state.loads.iter().flat_map(|load| {
+        let waiting = load.answered == (load.number == 0);
+        [load.number, load.address, load.width, u32::from(waiting)]
+    });
+    let words = figures.into_iter().chain([requested, line]).chain(stores).chain(loads);
+    let mut bytes = [0; Image::SIZE];
+    for (into, word) in bytes[..TAGS_AT].chunks_exact_mut(4).zip(words) {
+        into.copy_from_slice(&word.to_ne_bytes());
+    }
+    for (into, tag) in bytes[TAGS_AT..].chunks_exact_mut(TAG).zip(&state.tags) {
+        let line = u16::try_from(tag.line).unwrap().to_ne_bytes();
+        let age = u8::try_from(tag.age).unwrap();
+        into.copy_from_slice(&[tag.valid.into(), tag.dirty.into(), line[0], line[1], age, 0]);
+    }
+    Image::from_bytes(bytes)
+}
+
+/// A call of the model as one of the library; a start has none.
+pub fn call_of(call: Call) -> Option<nicoisetarn::Call> {
+    use nicoisetarn::Call as Ours;
+    Some(match call {
+        Call::Start { .. } => return None,
+        Call::Load { address, width } => Ours::Load(address, width),
+        Call::Store { address, width, value } => Ours::Store(address, width, value),
+        Call::Retry { number } => Ours::Retry(number),
+        Call::Commit { number } => Ours::Commit(number),
+        Call::Abort { number } => Ours::Abort(number),
+        Call::Idle => Ours::Idle,
+        Call::Reply => Ours::Reply,
+        Call::Flush => Ours::Flush,
+        Call::ShowLine { address } => Ours::ShowLine(address),
+    })
+}
+
+/// An answer of the library as one of the model.
+pub fn answer_of(answer: nicoisetarn::Answer) -> Answer {
+    use nicoisetarn::Answer as Ours;
+    match answer {
+        Ours::Refused(refusal) => Answer::Refused(refusal.number()),
+        Ours::Stored(number) => Answer::Stored(number),
+        Ours::Value { number, value } => Answer::Value { number, value },
+        Ours::Waits(number) => Answer::Waits(number),
+        Ours::Committed(number) => Answer::Committed(number),
+        Ours::Kept(number) => Answer::Kept(number),
+        Ours::Drained(number) => Answer::Drained(number),
+        Ours::Requested(address) => Answer::Requested(address),
+        Ours::Idle => Answer::Idle,
+        Ours::Filled(address) => Answer::Filled(address),
+        Ours::Flushed(lines) => Answer::Flushed(lines),
+        Ours::Shown { place, length } => {
+            Answer::Shown(Part { place: place as usize, length: length as usize })
+        }
+        Ours::Ready => Answer::Ready,
+    }
+}
+
+impl Bench {
+    /// One call of the library.
+    pub fn call(&mut self, call: Call) -> Answer {
+        let Bench { image, cache, memory } = self;
+        match (call, call_of(call)) {
+            (_, Some(call)) => answer_of(image.call(cache, memory, call)),
+            (Call::Start { sets, ways }, None) => match image.restart(sets, ways, cache, memory) {
+                Ok(()) => Answer::Ready,
+                Err(refusal) => Answer::Refused(refusal.number()),
+            },
+            (_, None) => panic!("{call:?} has no number"),
+        }
+    }
+
+    /// What a run begins with: a start, on the library.
+    pub fn begin(run: &Run) -> Bench {
+        let (mut cache, memory) = (run.found_cache(), run.found.clone());
+        let mut image = Image::start(run.sets, run.ways, &mut cache, &memory).unwrap();
+        if run.numbered != 0 {
+            let mut bytes = image.to_bytes();
+            for at in [12, 16] {
+                bytes[at..at + 4].copy_from_slice(&run.numbered.to_ne_bytes());
+            }
+            image = Image::from_bytes(bytes);
+        }
+        Bench { image, cache, memory }
+    }
+
+    /// What the run of a seed has led to somewhere on its way, on the model.
+    pub fn on_the_way(seed: u64, rng: &mut Rng) -> Bench {
+        let run = random::run(seed);
+        let (mut state, mut cache, mut memory) = run.begin(Right::step);
+        let played = rng.below(run.calls.len() as u64 + 1) as usize;
+        for &call in &run.calls[..played] {
+            Right::step(&mut state, &mut cache, &mut memory, call);
+        }
+        Bench { image: image_of(&state), cache, memory }
+    }
+}
+
+/// A bench of the library, and the same in the model: no state where the image
+/// stands for none.
+#[derive(Clone, Debug)]
+pub struct Beside {
+    pub library: Bench,
+    state: Option<State>,
+    cache: Vec<u8>,
+    memory: Vec<u8>,
+}
+
+impl Beside {
+    pub fn new(bench: &Bench) -> Beside {
+        Beside {
+            library: bench.clone(),
+            state: state_of(&bench.image),
+            cache: bench.cache.clone(),
+            memory: bench.memory.clone(),
+        }
+    }
+
+    /// Back to a bench with the same lengths.
+    pub fn restore(&mut self, bench: &Bench) {
+        self.library.clone_from(bench);
+        self.state = state_of(&bench.image);
+        self.cache.copy_from_slice(&bench.cache);
+        self.memory.copy_from_slice(&bench.memory);
+    }
+
+    /// The model's call.
+    fn model(&mut self, call: Call) -> Answer {
+        let Beside { library, state, cache, memory } = self;
+        match (call, state) {
+            (Call::Start { sets, ways }, state) => {
+                let (started, answer) = Right::start(sets, ways, cache, memory);
+                if answer.accepted() {
+                    *state = Some(started);
+                }
+                answer
+            }
+            (_, Some(state)) => Right::step(state, cache, memory, call),
+            (Call::ShowLine { .. }, None) => Answer::Shown(Part::default()),
+            (_, None) => Answer::Refused(if figures_agree(library) { 10 } else { 1 }),
+        }
+    }
+
+    /// Plays a call on both and compares answer, image, cache and memory.
+    pub fn play(&mut self, call: Call) -> Result<Answer, String> {
+        let before = self.library.image.clone();
+        let expected = self.model(call);
+        let seen = self.library.call(call);
+        if seen != expected {
+            return Err(format!("{call:?}: expected {expected:?}, seen {seen:?}"));
+        }
+        let image = match &self.state {
+            Some(state) if expected.accepted() => image_of(state),
+            _ => before,
+        };
+        let Bench { image: left, cache, memory } = &self.library;
+        if *left != image || *cache != self.cache || *memory != self.memory {
+            return Err(format!("{call:?}: {seen:?}, but image, cache or memory differs"));
+        }
+        if let Call::ShowLine { address } = call {
+            self.compare_shown(address)?;
+        }
+        Ok(seen)
+    }
+
+    /// The bytes of show line and their place, on both.
+    fn compare_shown(&mut self, address: u32) -> Result<(), String> {
+        let shown = match &self.state {
+            Some(state) => Right::shown_bytes(state, &self.cache, &self.memory, address),
+            None => &[],
+        };
+        let Bench { image, cache, memory } = &mut self.library;
+        let base = cache.as_ptr() as usize;
+        let part = image.show_line(cache, memory, address);
+        let place = part.bytes.as_ptr() as usize - base;
+        if part.bytes != shown || place != part.place {
+            return Err(format!("show line {address}: expected {shown:?}, seen {part:?}"));
+        }
+        Ok(())
+    }
+}
+
+/// The figures of an image are allowed and the lent lengths agree with them.
+pub fn figures_agree(bench: &Bench) -> bool {
+    let mut figures = State::zero();
+    (figures.sets, figures.ways) = (bench.image.sets(), bench.image.ways());
+    figures.memory_length = bench.image.memory_length();
+    check::figures_agree(&figures, &bench.cache, &bench.memory)
+}
+
+/// A number that is likely to matter somewhere.
+pub fn odd_number(rng: &mut Rng) -> u32 {
+    let any = rng.word() as u32;
+    rng.pick(&[0, 1, 2, 3, 4, 5, 7, 8, 15, 16, 17, 255, 256, 65536, u32::MAX - 1, u32::MAX, any])
+}
+
+/// An operation number about those of an image.
+fn near_number(image: &Image, rng: &mut Rng) -> u32 {
+    let (last, h) = (image.last(), image.committed());
+    let store = image.stores()[rng.below(STORES as u64) as usize].number;
+    let load = image.loads()[rng.below(LOADS as u64) as usize].number;
+    let next = last.wrapping_add(1);
+    rng.pick(&[store, load, load, load, last, next, h, h.wrapping_add(1)])
+}
+
+/// An address about those of an image.
+fn near_address(image: &Image, rng: &mut Rng) -> u32 {
+    let store = image.stores()[rng.below(4) as usize].address;
+    let load = image.loads()[rng.below(4) as usize].address;
+    let used = image.sets().wrapping_mul(image.ways()).clamp(1, RECORDS as u32);
+    let line = image.tag(rng.below(u64::from(used)) as usize).map_or(0, |tag| tag.line);
+    let inside = rng.below(u64::from(image.memory_length().max(1))) as u32;
+    let address = rng.pick(&[store, load, line * LINE as u32, inside]);
+    address & rng.pick(&[!3, !3, !1, u32::MAX])
+}
+
+/// One call of each kind, mostly with operands about those of an image.
+pub fn each_call(image: &Image, rng: &mut Rng) -> [Call; 10] {
+    let odd_ones = rng.one_in(4);
+    let number = |rng: &mut Rng| match odd_ones {
+        true => odd_number(rng),
+        false => near_number(image, rng),
+    };
+    let address = |rng: &mut Rng| match odd_ones {
+        true => odd_number(rng),
+        false => near_address(image, rng),
+    };
+    let odd = odd_number(rng);
+    let width = rng.pick(&[1, 1, 2, 4, odd]);
+    let value = rng.pick(&[0, 1, 200, odd]);
+    let (sets, ways) = (rng.pick(&[image.sets(), 1, 2, odd]), rng.pick(&[image.ways(), 1, odd]));
+    [
+        Call::ShowLine { address: address(rng) },
+        Call::Load { address: address(rng), width },
+        Call::Store { address: address(rng), width, value },
+        Call::Retry { number: number(rng) },
+        Call::Commit { number: number(rng) },
+        Call::Abort { number: number(rng) },
+        Call::Idle,
+        Call::Reply,
+        Call::Flush,
+        Call::Start { sets, ways },
+    ]
+}

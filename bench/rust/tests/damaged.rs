@@ -1,0 +1,378 @@
+//! Calls on damaged benches: states that runs led to with one field damaged,
+//! images of random bytes, and lent buffers of wrong lengths. Each call is
+//! answered as the Rust model answers it, and a refused one changes nothing.
+//!
+//! NICOISETARN_TIMES=N in the environment makes N times as many calls.
+
+mod beside;
+
+use beside::{each_call, figures_agree, judge, odd_number, stands, times, Bench, Beside};
+use compare::counts::{refused, Counts};
+use compare::random::Rng;
+use compare::types::{Answer, Call};
+use nicoisetarn::{Image, Refusal};
+
+/// Where a damage is done: fields of the image by the place of the first, how
+/// many there are, how far apart and of how many bytes; or what is lent.
+#[derive(Clone, Copy, Debug)]
+enum Field {
+    Image(usize, usize, usize, usize),
+    CacheByte,
+    MemoryByte,
+    CacheLength,
+    MemoryLength,
+}
+
+/// Every field, with its name.
+const FIELDS: [(&str, Field); 24] = [
+    ("sets", Field::Image(0, 1, 0, 4)),
+    ("ways", Field::Image(4, 1, 0, 4)),
+    ("memory length", Field::Image(8, 1, 0, 4)),
+    ("last", Field::Image(12, 1, 0, 4)),
+    ("committed", Field::Image(16, 1, 0, 4)),
+    ("register: free or not", Field::Image(20, 1, 0, 4)),
+    ("register: line", Field::Image(24, 1, 0, 4)),
+    ("store: number", Field::Image(28, 16, 16, 4)),
+    ("store: address", Field::Image(32, 16, 16, 4)),
+    ("store: width", Field::Image(36, 16, 16, 4)),
+    ("store: value", Field::Image(40, 16, 16, 4)),
+    ("load: number", Field::Image(284, 8, 16, 4)),
+    ("load: address", Field::Image(288, 8, 16, 4)),
+    ("load: width", Field::Image(292, 8, 16, 4)),
+    ("load: waiting", Field::Image(296, 8, 16, 4)),
+    ("tag: valid", Field::Image(412, 256, 6, 1)),
+    ("tag: dirty", Field::Image(413, 256, 6, 1)),
+    ("tag: line", Field::Image(414, 256, 6, 2)),
+    ("tag: age", Field::Image(416, 256, 6, 1)),
+    ("tag: unused byte", Field::Image(417, 256, 6, 1)),
+    ("a byte of the cache", Field::CacheByte),
+    ("a byte of the memory", Field::MemoryByte),
+    ("length of the cache lent", Field::CacheLength),
+    ("length of the memory lent", Field::MemoryLength),
+];
+
+/// What one field's damage led to.
+#[derive(Clone, Copy, Debug, Default)]
+struct Tally {
+    by_1: u64,
+    by_10: u64,
+    accepted: u64,
+    stands_for_none: u64,
+}
+
+/// Puts another value where so many bytes of the image stand, often one that is
+/// close to it or that the next place has.
+fn damage_number(bytes: &mut [u8], at: usize, width: usize, stride: usize, rng: &mut Rng) {
+    let read = |bytes: &[u8], at: usize| {
+        let mut word = [0; 4];
+        word[..width].copy_from_slice(&bytes[at..at + width]);
+        u32::from_le_bytes(word)
+    };
+    let old = read(bytes, at);
+    let neighbour = if at + stride + width <= bytes.len() { read(bytes, at + stride) } else { 0 };
+    let (odd, any, bit) = (odd_number(rng), rng.word() as u32, 1u32 << rng.below(32));
+    let (less, more) = (old.wrapping_sub(1), old.wrapping_add(1));
+    let new = rng.pick(&[less, more, less, more, neighbour, 0, 1, old ^ bit, old & 15, odd, any]);
+    bytes[at..at + width].copy_from_slice(&new.to_le_bytes()[..width]);
+    if read(bytes, at) == old {
+        bytes[at] ^= 1;
+    }
+}
+
+/// The places that are damaged most: those in use and the next one.
+fn places_in_use(image: &Image, places: usize) -> u64 {
+    let stores = image.stores().iter().filter(|store| store.number != 0).count();
+    let loads = image.loads().iter().filter(|load| load.number != 0).count();
+    let in_use = match places {
+        16 => stores,
+        8 => loads,
+        256 => (image.sets() * image.ways()) as usize,
+        _ => 0,
+    };
+    (in_use + 1).min(places) as u64
+}
+
+/// Changes one byte, if there is one.
+fn damage_byte(bytes: &mut [u8], rng: &mut Rng) {
+    if !bytes.is_empty() {
+        let at = rng.below(bytes.len() as u64) as usize;
+        bytes[at] ^= 1 << rng.below(8);
+    }
+}
+
+/// Makes lent bytes too short, too long or empty; the new ones are zero.
+fn damage_length(bytes: &mut Vec<u8>, rng: &mut Rng) {
+    let old = bytes.len();
+    let (less, any) = (old.saturating_sub(16), rng.below(70_000) as usize);
+    let lengths = [0, old.saturating_sub(1), old + 1, less, old + 16, 2 * old, 16, 65536, any];
+    let new = rng.pick(&lengths);
+    bytes.resize(if new == old { old + 1 } else { new }, 0);
+}
+
+/// Damages one field.
+fn damage(bench: &mut Bench, field: Field, rng: &mut Rng) {
+    match field {
+        Field::Image(first, places, stride, width) => {
+            let most = places_in_use(&bench.image, places);
+            let within = if rng.one_in(4) { places as u64 } else { most };
+            let at = first + stride * rng.below(within) as usize;
+            let mut bytes = bench.image.to_bytes();
+            damage_number(&mut bytes, at, width, stride, rng);
+            bench.image = Image::from_bytes(bytes);
+        }
+        Field::CacheByte => damage_byte(&mut bench.cache, rng),
+        Field::MemoryByte => damage_byte(&mut bench.memory, rng),
+        Field::CacheLength => damage_length(&mut bench.cache, rng),
+        Field::MemoryLength => damage_length(&mut bench.memory, rng),
+    }
+}
+
+/// A call number that there is not: refused, whatever the image is.
+fn play_no_call(bench: &mut Bench, rng: &mut Rng) -> Answer {
+    let call = rng.pick(&[9, 10, 256, u32::MAX]);
+    let operands = [rng.word() as u32, rng.word() as u32, 1];
+    let Bench { image, cache, memory } = bench;
+    beside::answer_of(image.call_numbered(cache, memory, call, operands))
+}
+
+/// Plays every call on a bench, each from the beginning; a refused one has left
+/// all as it was. Gives what an idle call answered, which has no operands.
+fn play_each(bench: &Bench, rng: &mut Rng, counts: &mut Counts) -> Result<Answer, String> {
+    let mut beside = Beside::new(bench);
+    let mut idle = Answer::Idle;
+    for call in each_call(&bench.image, rng) {
+        let answer = beside.play(call)?;
+        count(counts, call, answer);
+        if call == Call::Idle {
+            idle = answer;
+        }
+        if answer.accepted() && !matches!(call, Call::ShowLine { .. }) {
+            beside.restore(bench);
+        } else if beside.library != *bench {
+            return Err(format!("{call:?}: {answer:?}, but it has changed something"));
+        }
+    }
+    let answer = play_no_call(&mut beside.library, rng);
+    count(counts, Call::Idle, answer);
+    if answer != Answer::Refused(6) || beside.library != *bench {
+        return Err(format!("a call that there is not: {answer:?}"));
+    }
+    counts.met("image that stands for no state", !stands(&bench.image));
+    Ok(idle)
+}
+
+/// Counts a call and its answer.
+fn count(counts: &mut Counts, call: Call, answer: Answer) {
+    counts.calls += 1;
+    let shown = matches!(answer, Answer::Shown(part) if part.length != 0);
+    counts.met("line shown", shown);
+    counts.met("accepted start", answer == Answer::Ready);
+    let plain = !matches!(call, Call::Start { .. } | Call::ShowLine { .. });
+    counts.met("other call accepted", plain && answer.accepted());
+    if let Answer::Refused(no) = answer {
+        counts.met(refused(no), true);
+    }
+}
+
+/// Adds what a damage led to, as an idle call told it.
+fn tally(tally: &mut Tally, bench: &Bench, idle: Answer) {
+    match idle {
+        Answer::Refused(1) => tally.by_1 += 1,
+        Answer::Refused(_) => tally.by_10 += 1,
+        _ => tally.accepted += 1,
+    }
+    tally.stands_for_none += u64::from(!stands(&bench.image));
+}
+
+/// Prints the table of the fields, and fails where damage was refused too seldom.
+fn judge_fields(tallies: &[Tally]) {
+    println!("{:<28}{:>10}{:>10}{:>10}{:>10}", "damaged", "by 1", "by 10", "accepted", "no state");
+    let mut lacking = Vec::new();
+    for ((name, field), tally) in FIELDS.iter().zip(tallies) {
+        let Tally { by_1, by_10, accepted, stands_for_none } = tally;
+        println!("{name:<28}{by_1:>10}{by_10:>10}{accepted:>10}{stands_for_none:>10}");
+        let whole = by_1 + by_10 + accepted;
+        // A byte of a memory of which little is present is damaged unnoticed.
+        let often = if matches!(field, Field::MemoryByte) { 50 } else { 10 };
+        if (by_1 + by_10) * often < whole || whole == 0 {
+            lacking.push(*name);
+        }
+    }
+    assert!(lacking.is_empty(), "damage refused too seldom: {lacking:?}");
+    let made_none: u64 = tallies.iter().map(|tally| tally.stands_for_none).sum();
+    assert!(made_none > 1000, "only {made_none} images stand for no state");
+}
+
+/// What damaged fields must meet, out of so many calls.
+const NEEDED_OF_FIELDS: [(&str, u64); 19] = [
+    ("other call accepted", 40),
+    ("accepted start", 100),
+    ("line shown", 500),
+    ("image that stands for no state", 100),
+    ("refused 1", 20),
+    ("refused 2", 2_000),
+    ("refused 3", 2_000),
+    ("refused 4", 5_000),
+    ("refused 5", 5_000),
+    ("refused 6", 20),
+    ("refused 10", 10),
+    ("refused 11", 10_000),
+    ("refused 12", 10_000),
+    ("refused 13", 10_000),
+    ("refused 14", 500),
+    ("refused 15", 2_000),
+    ("refused 16", 1_000),
+    ("refused 17", 200),
+    ("refused 18", 500),
+];
+
+#[test]
+fn one_field_damaged() {
+    let mut counts = Counts::default();
+    let mut tallies = [Tally::default(); FIELDS.len()];
+    for seed in 0..4_000 * times() {
+        let mut rng = Rng::new(seed ^ 0xDA3A_6ED0);
+        let found = Bench::on_the_way(seed, &mut rng);
+        for ((name, field), into) in FIELDS.iter().zip(&mut tallies) {
+            let mut bench = found.clone();
+            damage(&mut bench, *field, &mut rng);
+            match play_each(&bench, &mut rng, &mut counts) {
+                Ok(idle) => tally(into, &bench, idle),
+                Err(what) => panic!("seed {seed}, {name}: {what}"),
+            }
+        }
+    }
+    judge_fields(&tallies);
+    judge("one field damaged", &counts, &NEEDED_OF_FIELDS);
+    assert!(counts.calls >= 1_000_000, "only {} calls", counts.calls);
+}
+
+/// Bytes at random.
+fn random_bytes(length: usize, rng: &mut Rng) -> Vec<u8> {
+    let words = std::iter::repeat_with(|| rng.word().to_le_bytes());
+    words.take(length / 8 + 1).flatten().take(length).collect()
+}
+
+/// Makes every flag 0 or 1, the register of a state and the unused bytes 0.
+fn mend_flags(bytes: &mut [u8]) {
+    let word = |number: u32| number.to_ne_bytes();
+    let names = u32::from(bytes[beside::REQUESTED] & 1);
+    let (flag, line) = (beside::REQUESTED, beside::REQUESTED_LINE);
+    bytes[flag..flag + 4].copy_from_slice(&word(names));
+    bytes[line..line + 4].copy_from_slice(&word(names * 2));
+    for load in bytes[beside::LOADS_AT..beside::TAGS_AT].chunks_exact_mut(beside::ENTRY) {
+        let waits = u32::from(load[12] & 1);
+        load[12..].copy_from_slice(&word(waits));
+    }
+    for tag in bytes[beside::TAGS_AT..].chunks_exact_mut(beside::TAG) {
+        (tag[0], tag[1], tag[5]) = (tag[0] & 1, tag[1] & 1, 0);
+    }
+}
+
+/// An image of random bytes: also with figures that are allowed and agree, and
+/// then also with flags that are 0 or 1.
+fn random_bench(rng: &mut Rng) -> Bench {
+    let (sets, ways) = (rng.pick(&[1, 2, 4, 16, 64]), 1 + rng.below(4) as u32);
+    let lines = 1 + rng.below(40) as u32;
+    let mut bytes = [0; Image::SIZE];
+    bytes.copy_from_slice(&random_bytes(Image::SIZE, rng));
+    let kind = rng.below(8);
+    if kind != 0 {
+        for (at, figure) in [(0, sets), (4, ways), (8, lines * 16)] {
+            bytes[at..at + 4].copy_from_slice(&figure.to_ne_bytes());
+        }
+    }
+    if kind >= 4 {
+        mend_flags(&mut bytes);
+    }
+    let mut cache = random_bytes((sets * ways * 16) as usize, rng);
+    let mut memory = random_bytes(lines as usize * 16, rng);
+    match kind {
+        1 | 4 => damage_length(&mut cache, rng),
+        2 | 5 => damage_length(&mut memory, rng),
+        _ => {}
+    }
+    Bench { image: Image::from_bytes(bytes), cache, memory }
+}
+
+#[test]
+fn random_images() {
+    let mut counts = Counts::default();
+    for seed in 0..20_000 * times() {
+        let mut rng = Rng::new(seed ^ 0x0B17_E500);
+        let bench = random_bench(&mut rng);
+        let formed = stands(&bench.image);
+        match play_each(&bench, &mut rng, &mut counts) {
+            Ok(Answer::Refused(no)) => {
+                assert_eq!(no == 10, figures_agree(&bench), "seed {seed}");
+                counts.met("no state, refused 1", !formed && no == 1);
+                counts.met("no state, refused 10", !formed && no == 10);
+                counts.met("state, refused 1", formed && no == 1);
+                counts.met("state, refused 10", formed && no == 10);
+            }
+            Ok(answer) => panic!("seed {seed}: an image of random bytes: {answer:?}"),
+            Err(what) => panic!("seed {seed}: {what}"),
+        }
+    }
+    let needed = [
+        ("image that stands for no state", 40),
+        ("no state, refused 1", 60),
+        ("no state, refused 10", 120),
+        ("state, refused 1", 120),
+        ("state, refused 10", 60),
+        ("accepted start", 200),
+        ("refused 6", 20),
+    ];
+    judge("random images", &counts, &needed);
+}
+
+#[test]
+fn wrong_lengths() {
+    let mut counts = Counts::default();
+    for seed in 0..8_000 * times() {
+        let mut rng = Rng::new(seed ^ 0x1E6_7450);
+        let mut bench = Bench::on_the_way(seed, &mut rng);
+        let which = 1 + rng.below(3);
+        if which & 1 != 0 {
+            damage_length(&mut bench.cache, &mut rng);
+        }
+        if which & 2 != 0 {
+            damage_length(&mut bench.memory, &mut rng);
+        }
+        counts.met("empty cache lent", bench.cache.is_empty());
+        counts.met("empty memory lent", bench.memory.is_empty());
+        match play_each(&bench, &mut rng, &mut counts) {
+            Ok(idle) => assert_eq!(idle, Answer::Refused(1), "seed {seed}"),
+            Err(what) => panic!("seed {seed}: {what}"),
+        }
+    }
+    let needed = [
+        ("refused 1", 2),
+        ("empty cache lent", 300),
+        ("empty memory lent", 300),
+        ("accepted start", 500),
+    ];
+    judge("wrong lengths", &counts, &needed);
+}
+
+/// A length that agrees only in its lowest 32 bits is refused. The bytes behind it
+/// are never touched, so they cost no memory; none are lent where there is no room.
+#[test]
+fn lengths_beyond_32_bits() {
+    let beyond = (1usize << 32) + 32;
+    if Vec::<u8>::new().try_reserve_exact(beyond).is_err() {
+        println!("no room for a length beyond 32 bits");
+        return;
+    }
+    let (mut cache, mut memory) = (vec![0; 32], vec![0; 32]);
+    let mut image = Image::start(2, 1, &mut cache, &memory).unwrap();
+    let before = image.clone();
+    let refused = nicoisetarn::Answer::Refused(Refusal::Lengths);
+    let mut long = vec![0; beyond];
+    assert_eq!(image.load(&mut long, &mut memory, 0, 1), refused);
+    assert_eq!(image.load(&mut cache, &mut long, 0, 1), refused);
+    assert_eq!(Image::start(2, 1, &mut long, &memory), Err(Refusal::Lengths));
+    assert_eq!(Image::start(2, 1, &mut cache, &long), Err(Refusal::Lengths));
+    assert!(image.show_line(&mut long, &mut memory, 0).bytes.is_empty());
+    assert_eq!(image, before);
+}
