@@ -1,0 +1,22 @@
+-- `say_none` meets its contract.
+use Rattle.script.specs.Words.{said}
+use Rattle.script_lines.proofs.Writing.{wrote-then}
+use borrow.Author.Needs.{needs}
+use Rattle.script_lines.proofs.writer.say_none.Statement.{statement}
+use Rattle.script_lines.proofs.writer.say_none.Tie as tie
+
+put-word-requires : tie.Need-put-word-requires
+put-word-requires c κs = search needs
+
+put-byte-requires : tie.Need-put-byte-requires
+put-byte-requires c κs = search needs
+
+same-length : tie.Need-same-length
+same-length c = search needs
+
+returns : tie.Need-returns
+unfolding said
+returns c = wrote-then (c .before .before .before .before .before .before .put-word .ensures) (c .before .before .put-byte .ensures)
+
+pub say-none-spec : {M : Type 1} → statement M
+say-none-spec = tie.close (tie.spec put-word-requires put-byte-requires same-length returns)
