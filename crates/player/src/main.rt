@@ -1,0 +1,79 @@
+// Plays a script: standard input to standard output. All that a script means is in `play`; this reads and writes.
+ghost use Prim.Native.Nat.{_≤_};
+ghost use lib.ListN.{length};
+use libc::STDOUT_FILENO;
+use play::Player;
+
+// What a read gave: whether there may be more, and the player after it.
+struct Turn {
+    more: bool,
+    player: Player,
+}
+
+// Writes the first n bytes.
+fn write_front(out: &[u8], n: usize) {
+    if n <= out.len() {
+        io::write_all(STDOUT_FILENO, &out[..n]);
+    }
+}
+
+// Reads once and answers how many bytes came.
+fn read_some(input: &mut [u8]) -> usize
+    ensures { λ r. ⌜ r ≤ length (now (input .exit)) ⌝ }
+{
+    let got = libc::read(0, input);
+    io::count(got, input)
+}
+
+// Reads once, plays what came and writes what it prints.
+fn read_turn(
+    player: Player,
+    input: &mut [u8],
+    cache: &mut [u8],
+    memory: &mut [u8],
+    out: &mut [u8],
+) -> Turn {
+    let n = read_some(input);
+    if n == 0 {
+        return Turn {
+            more: false,
+            player,
+        };
+    }
+    let r = player.play(&input[..n], cache, memory, out);
+    write_front(out, r.written);
+    let next = r.player;
+    Turn {
+        more: true,
+        player: next,
+    }
+}
+
+// Until a read gives nothing. A proved loop ends, and nothing says that the input does: the turns count down from a number that no
+// run uses up.
+fn run(input: &mut [u8], cache: &mut [u8], memory: &mut [u8], out: &mut [u8]) -> Player {
+    let mut now = Turn {
+        more: true,
+        player: Player::new(),
+    };
+    let mut turns = u64::MAX;
+    while turns > 0 && now.more {
+        let p = now.player;
+        let next = read_turn(p, input, cache, memory, out);
+        now = next;
+        turns -= 1;
+    }
+    let last = now.player;
+    last
+}
+
+// A part of 2,048 bytes prints at most 65,536.
+fn main() {
+    let mut input = [0u8; 2048];
+    let mut cache = io::buffer();
+    let mut memory = io::large_buffer();
+    let mut out = io::large_buffer();
+    let p = run(&mut input, &mut cache, &mut memory, &mut out);
+    let n = p.end(&mut out, 0);
+    write_front(&out, n);
+}
