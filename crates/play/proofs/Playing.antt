@@ -25,7 +25,7 @@ use Rattle.script.proofs.Play.{cuts, held-short}
 use Rattle.script_lines.specs.Written.{Wrote, inRoom}
 use Rattle.script_lines.proofs.Writing.{wrote-then, wrote-none, printed-short}
 use Rattle.lists.proofs.Loops.{position-high}
-use Rattle.play.specs.Player.{runOf, playerOf, Lent, lentOf, laidIn, lentAfter, shortened, heldBytes, isFeed, roomy, playable, Turned, Plays, Steps}
+use Rattle.play.specs.Player.{runOf, playerOf, Lent, lentOf, laidIn, lentAfter, shortened, heldBytes, isFeed, roomy, playable, Turned, Plays, Steps, PartsPlayed}
 use Rattle.play.specs.declared.Player.{Player}
 use Rattle.play.specs.declared.turns.Turn.{Turn}
 
@@ -360,3 +360,18 @@ module _ (p : Player) (at : ℕ) (out : List ℕ) (len : length (p .line) ≡ 65
       empty zero l h e = refl
       empty (suc n) [] h e = let no : ⊥ = omega arith in absurd no
       empty (suc n) (x ∷ l) h e = let no : ⊥ = omega arith in absurd no
+
+-- ---- a whole input
+
+end-short : (run : Option World) (line : List ℕ) → atEnd (record { run = run; line = take heldBytes line }) ≡ atEnd (record { run = run; line = line })
+unfolding atEnd
+end-short run [] = refl
+end-short run (b ∷ line) =
+    rw (ne-eqb (length (take heldBytes (b ∷ line))) 0 (λ e. omega arith), ne-eqb (length (b ∷ line)) 0 (λ e. omega arith))
+
+pub parts-played : PartsPlayed
+parts-played =
+    record {
+      joined = λ xs ys f g. plays-then xs ys f g;
+      ended = λ bytes f. ap atEnd (f .player-after) ∙ end-short _ _;
+    }

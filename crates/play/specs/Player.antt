@@ -2,7 +2,7 @@
 use Prim.Native.Nat.{ℕ, _+_, _*_, _/_, _<_, _≤_}
 use mathlib.Core.Path.{_≡_}
 use mathlib.Core.Bool.{Bool, true, false, cond, _&&_}
-use mathlib.Core.List.{List, [], _∷_}
+use mathlib.Core.List.{List, [], _∷_, _++_}
 use mathlib.Core.Option.{Option, some, none}
 use lib.Dec.{leb, eqb}
 use lib.ListN.{length, take}
@@ -12,7 +12,7 @@ use Rattle.model.specs.State.{worldOf}
 use Rattle.model.specs.declared.State.{State}
 use Rattle.script.specs.Lines.{lineFeed}
 use Rattle.script.specs.Lines as lines
-use Rattle.script.specs.Play.{turn, afterByte, output, afterBytes}
+use Rattle.script.specs.Play.{turn, afterByte, output, afterBytes, atEnd}
 use Rattle.script.specs.Play as script
 use Rattle.script_lines.specs.Written.{Wrote}
 use Rattle.play.specs.declared.Player.{Player}
@@ -98,3 +98,14 @@ pub record Steps (from : ℕ) (input : List ℕ) (at : ℕ) (r : Moved) : Type 0
   pub inside : r .next ≤ length input
   pub one-line : r .at ≤ at + 32
   pub held : r .player .length ≤ 65
+
+-- ---- a whole input
+
+-- parts played one after the other are the input played whole, wherever it is cut; and at its end the player prints what 01 asks
+pub record PartsPlayed : Type 0 where
+  pub joined :
+      (xs ys : List ℕ) {p p′ p″ : script.Player} {l l′ l″ : Lent} {out out′ out″ : List ℕ} {at at′ at″ : ℕ}
+      → Plays xs p l out at p′ l′ out′ at′ → Plays ys p′ l′ out′ at′ p″ l″ out″ at″ → Plays (xs ++ ys) p l out at p″ l″ out″ at″
+  pub ended :
+      (bytes : List ℕ) {p p′ : script.Player} {l l′ : Lent} {out out′ : List ℕ} {at at′ : ℕ}
+      → Plays bytes p l out at p′ l′ out′ at′ → atEnd p′ ≡ atEnd (afterBytes bytes p)

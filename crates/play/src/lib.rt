@@ -1,7 +1,7 @@
 // Scripts played on the load/store unit: the player between two parts of its input, and what a part does.
 use model::State;
 
-mod parts;
+pub mod parts;
 mod turns;
 
 // A player: its run, once a start was accepted, and the line so far.

@@ -8,7 +8,7 @@ ghost use lib.ListN.{length, take, drop};
 ghost use Rattle.lists.specs.Padded.{position};
 ghost use Rattle.script.specs.Play.{newPlayer, atEnd};
 ghost use Rattle.script_lines.specs.Written.{Wrote, inRoom};
-ghost use Rattle.play.specs.Player.{isFeed, heldBytes, playerOf, lentOf, playable, Plays, Steps};
+ghost use Rattle.play.specs.Player.{isFeed, heldBytes, playerOf, lentOf, playable, Plays, Steps, PartsPlayed};
 use crate::Played;
 use crate::Player;
 use crate::turns;
@@ -204,10 +204,11 @@ impl Player {
         ensures { λ r. ⌜ ((cache memory : List ℕ) → playerOf r cache memory ≡ newPlayer) ⌝ }
     {
         let state = no_state();
+        let length: usize = 0;
         Player {
             started: false,
             state,
-            length: 0,
+            length,
             line: [0; 65],
         }
     }
@@ -256,3 +257,8 @@ impl Player {
         writer::write_answer(out, at, Answer::Refused(6))
     }
 }
+
+// Wherever an input is cut into parts, playing them one after the other is playing it whole.
+pub fn parts_played()
+    ensures { λ r. ⌜ PartsPlayed ⌝ }
+{}
