@@ -92,7 +92,7 @@ typedef enum nicoisetarn_refusal {
     NICOISETARN_REFUSED_NUMBERS = 13,     /* load, store: the last number is 4294967295 */
     NICOISETARN_REFUSED_RETRY = 14,       /* retry: no waiting load has that number */
     NICOISETARN_REFUSED_COMMIT = 15,      /* commit: the number is below the committed one or above the last */
-    NICOISETARN_REFUSED_ABORT = 16,       /* abort: the number is committed or above last + 1 */
+    NICOISETARN_REFUSED_ABORT = 16,       /* abort: the number is at most the committed one, or above last + 1 */
     NICOISETARN_REFUSED_NO_REQUEST = 17,  /* memory reply: the request register is free */
     NICOISETARN_REFUSED_FLUSH = 18        /* flush: a committed store is held */
 } nicoisetarn_refusal;

@@ -33,7 +33,7 @@ pub enum Refusal {
     Retry = 14,
     /// Commit: the number is below the committed one or above the last.
     Commit = 15,
-    /// Abort: the number is committed or above last + 1.
+    /// Abort: the number is at most the committed one, or above last + 1.
     Abort = 16,
     /// Reply: the request register is free.
     NoRequest = 17,

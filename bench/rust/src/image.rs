@@ -78,7 +78,8 @@ struct TagImage {
 ///
 /// An image goes with its cache and its memory; all three together can be copied
 /// and stored. Any bytes are an image, but one that is not well formed (damaged, or
-/// never started) is refused by every call but a start, and never repaired.
+/// never started) is refused by every call but a start (show line gives the empty
+/// part), and never repaired.
 #[derive(Clone, Debug, PartialEq, Eq, Hash)]
 #[repr(C)]
 pub struct Image {

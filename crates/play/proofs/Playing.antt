@@ -19,13 +19,13 @@ use Rattle.rules.specs.Calls.{Answer, stored, value, waits, committed, kept, dr
 use Rattle.rules.specs.Runs.{StartAnswer, ready, startRefused, startAnswer, startWorld, answer}
 use Rattle.script.specs.Lines.{Command, start, make, lineFeed, space, commandOf}
 use Rattle.script.specs.Words.{printed, said, valueWord, readyWord, refusedWord, idleWord, answerLine, refusedLine}
-use Rattle.script.specs.Play.{zeros, startTurn, turn, byteOutput, afterByte, output, afterBytes, atEnd}
+use Rattle.script.specs.Play.{zeros, startTurn, turn, byteOutput, afterByte, output, afterBytes, newPlayer, atEnd, played}
 use Rattle.script.specs.Play as script
 use Rattle.script.proofs.Play.{cuts, held-short}
 use Rattle.script_lines.specs.Written.{Wrote, inRoom}
 use Rattle.script_lines.proofs.Writing.{wrote-then, wrote-none, printed-short}
 use Rattle.lists.proofs.Loops.{position-high}
-use Rattle.play.specs.Player.{runOf, playerOf, Lent, lentOf, laidIn, lentAfter, shortened, heldBytes, isFeed, roomy, playable, Turned, Plays, Steps, PartsPlayed}
+use Rattle.play.specs.Player.{runOf, playerOf, Lent, lentOf, laidIn, lentAfter, shortened, heldBytes, isFeed, roomy, playable, Turned, Plays, Steps, Joined, PartsPlayed}
 use Rattle.play.specs.declared.Player.{Player}
 use Rattle.play.specs.declared.turns.Turn.{Turn}
 
@@ -80,21 +80,32 @@ plays-none p l out at h =
       wrote = wrote-none at out;
     }
 
+-- the second part on what the first one left
+pub parts-join :
+    (xs ys : List ℕ) {p p′ p″ : script.Player} {l l′ l″ : Lent} {out out′ o o′ : List ℕ} {at at′ b b′ : ℕ}
+    → Plays xs p l out at p′ l′ out′ at′ → Plays ys p′ l′ o b p″ l″ o′ b′ → Joined xs ys p p′ p″ l l″
+parts-join xs ys {p} {p′} {p″} {l} {l′} f g =
+    let q = afterBytes xs p in
+    let a : Alike p′ q = subst (λ (r : script.Player). Alike r q) (sym (f .player-after)) (short-alike q) in
+    let s = bytes-alike ys p′ q l′ a in
+    record {
+      player-after =
+          g .player-after ∙ ap₂ (λ (r : Option World) (k : List ℕ). record { run = r; line = k }) (s .0 .0) (s .0 .1)
+          ∙ ap shortened (sym (cuts xs ys p .1));
+      lent-after = g .lent-after ∙ s .2 ∙ ap (lentAfter ys q) (f .lent-after) ∙ sym (lent-cut xs ys p l);
+      printed = cuts xs ys p .0 ∙ ap (λ (k : List ℕ). output xs p ++ k) (sym (s .1));
+    }
+
+-- the same where the output goes on in one buffer
 pub plays-then :
     (xs ys : List ℕ) {p p′ p″ : script.Player} {l l′ l″ : Lent} {out out′ out″ : List ℕ} {at at′ at″ : ℕ}
     → Plays xs p l out at p′ l′ out′ at′ → Plays ys p′ l′ out′ at′ p″ l″ out″ at″ → Plays (xs ++ ys) p l out at p″ l″ out″ at″
-plays-then xs ys {p} {p′} {p″} {l} {l′} {l″} {out} {out′} {out″} {at} {at′} {at″} f g =
-    let q = afterBytes xs p in
-    let a : Alike p′ q = subst (λ (r : script.Player). Alike r q) (sym (f .player-after)) (short-alike q) in
-    let b = bytes-alike ys p′ q l′ a in
+plays-then xs ys {out = out} {out″ = out″} {at = at} {at″ = at″} f g =
+    let j = parts-join xs ys f g in
     record {
-      player-after =
-          g .player-after ∙ ap₂ (λ (r : Option World) (k : List ℕ). record { run = r; line = k }) (b .0 .0) (b .0 .1)
-          ∙ ap shortened (sym (cuts xs ys p .1));
-      lent-after = g .lent-after ∙ b .2 ∙ ap (lentAfter ys q) (f .lent-after) ∙ sym (lent-cut xs ys p l);
-      wrote =
-          subst (λ (k : List ℕ). Wrote at k out out″ at″) (ap (λ (k : List ℕ). output xs p ++ k) (b .1) ∙ sym (cuts xs ys p .0))
-          (wrote-then (f .wrote) (g .wrote));
+      player-after = j .player-after;
+      lent-after = j .lent-after;
+      wrote = subst (λ (k : List ℕ). Wrote at k out out″ at″) (sym (j .printed)) (wrote-then (f .wrote) (g .wrote));
     }
 
 -- a part of the input that goes on where another ended
@@ -370,8 +381,9 @@ end-short run (b ∷ line) =
     rw (ne-eqb (length (take heldBytes (b ∷ line))) 0 (λ e. omega arith), ne-eqb (length (b ∷ line)) 0 (λ e. omega arith))
 
 pub parts-played : PartsPlayed
+unfolding played
 parts-played =
     record {
-      joined = λ xs ys f g. plays-then xs ys f g;
-      ended = λ bytes f. ap atEnd (f .player-after) ∙ end-short _ _;
+      joined = λ xs ys f g. parts-join xs ys f g;
+      ended = λ bytes f. ap (λ (k : List ℕ). output bytes newPlayer ++ k) (ap atEnd (f .player-after) ∙ end-short _ _);
     }

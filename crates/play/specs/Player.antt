@@ -12,7 +12,7 @@ use Rattle.model.specs.State.{worldOf}
 use Rattle.model.specs.declared.State.{State}
 use Rattle.script.specs.Lines.{lineFeed}
 use Rattle.script.specs.Lines as lines
-use Rattle.script.specs.Play.{turn, afterByte, output, afterBytes, atEnd}
+use Rattle.script.specs.Play.{turn, afterByte, output, afterBytes, newPlayer, atEnd, played}
 use Rattle.script.specs.Play as script
 use Rattle.script_lines.specs.Written.{Wrote}
 use Rattle.play.specs.declared.Player.{Player}
@@ -101,11 +101,18 @@ pub record Steps (from : ℕ) (input : List ℕ) (at : ℕ) (r : Moved) : Type 0
 
 -- ---- a whole input
 
--- parts played one after the other are the input played whole, wherever it is cut; and at its end the player prints what 01 asks
+-- an input cut in two: the second part is played by the player and on the buffers that the first one left
+pub record Joined (xs ys : List ℕ) (p p′ p″ : script.Player) (l l″ : Lent) : Type 0 where
+  pub player-after : p″ ≡ shortened (afterBytes (xs ++ ys) p)
+  pub lent-after : l″ ≡ lentAfter (xs ++ ys) p l
+  pub printed : output (xs ++ ys) p ≡ output xs p ++ output ys p′
+
+-- parts played one after the other, each with an output buffer of its own, are the input played whole, wherever it is cut; and what
+-- they print, with what the player prints at the end, is what the whole input prints
 pub record PartsPlayed : Type 0 where
   pub joined :
-      (xs ys : List ℕ) {p p′ p″ : script.Player} {l l′ l″ : Lent} {out out′ out″ : List ℕ} {at at′ at″ : ℕ}
-      → Plays xs p l out at p′ l′ out′ at′ → Plays ys p′ l′ out′ at′ p″ l″ out″ at″ → Plays (xs ++ ys) p l out at p″ l″ out″ at″
+      (xs ys : List ℕ) {p p′ p″ : script.Player} {l l′ l″ : Lent} {out out′ o o′ : List ℕ} {at at′ b b′ : ℕ}
+      → Plays xs p l out at p′ l′ out′ at′ → Plays ys p′ l′ o b p″ l″ o′ b′ → Joined xs ys p p′ p″ l l″
   pub ended :
-      (bytes : List ℕ) {p p′ : script.Player} {l l′ : Lent} {out out′ : List ℕ} {at at′ : ℕ}
-      → Plays bytes p l out at p′ l′ out′ at′ → atEnd p′ ≡ atEnd (afterBytes bytes p)
+      (bytes : List ℕ) {p′ : script.Player} {l l′ : Lent} {out out′ : List ℕ} {at at′ : ℕ}
+      → Plays bytes newPlayer l out at p′ l′ out′ at′ → output bytes newPlayer ++ atEnd p′ ≡ played bytes

@@ -1,14 +1,15 @@
 // Scripts played on the load/store unit: the player between two parts of its input, and what a part does.
+ghost use Rattle.play.specs.Player.{PartsPlayed};
 use model::State;
 
-pub mod parts;
+mod parts;
 mod turns;
 
 // A player: its run, once a start was accepted, and the line so far.
 pub struct Player {
     pub started: bool,
     pub state: State,
-    // the bytes of the line, of which 65 tell whether it is too long
+    // how many bytes of the line are held: all, or the first 65, which tell that it is too long
     pub length: usize,
     pub line: [u8; 65],
 }
@@ -21,3 +22,8 @@ pub struct Played {
     // how many bytes of output stand at the front of the buffer
     pub written: usize,
 }
+
+// Wherever an input is cut into parts, playing them one after the other is playing it whole.
+pub fn parts_played()
+    ensures { λ r. ⌜ PartsPlayed ⌝ }
+{}

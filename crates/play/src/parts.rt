@@ -8,7 +8,7 @@ ghost use lib.ListN.{length, take, drop};
 ghost use Rattle.lists.specs.Padded.{position};
 ghost use Rattle.script.specs.Play.{newPlayer, atEnd};
 ghost use Rattle.script_lines.specs.Written.{Wrote, inRoom};
-ghost use Rattle.play.specs.Player.{isFeed, heldBytes, playerOf, lentOf, playable, Plays, Steps, PartsPlayed};
+ghost use Rattle.play.specs.Player.{isFeed, heldBytes, playerOf, lentOf, playable, Plays, Steps};
 use crate::Played;
 use crate::Player;
 use crate::turns;
@@ -247,7 +247,8 @@ impl Player {
         }
     }
 
-    // At the end of the input: a last line without LF is refused. Nothing is written where there is less room than 32 bytes.
+    // At the end of the input: a last line without LF is refused. Nothing is written where there is less room than 32 bytes from
+    // place at on.
     pub fn end(self, out: &mut [u8], at: usize) -> usize
         ensures { λ r. ⌜ Wrote at (inRoom at (now (out .entry)) (atEnd (playerOf self [] []))) (now (out .entry)) (now (out .exit)) r ⌝ }
     {
@@ -257,8 +258,3 @@ impl Player {
         writer::write_answer(out, at, Answer::Refused(6))
     }
 }
-
-// Wherever an input is cut into parts, playing them one after the other is playing it whole.
-pub fn parts_played()
-    ensures { λ r. ⌜ PartsPlayed ⌝ }
-{}

@@ -10,14 +10,14 @@ struct Turn {
     player: Player,
 }
 
-// Writes the first n bytes.
+// Writes the first n bytes. A write that fails is not told: the program reads on to its end.
 fn write_front(out: &[u8], n: usize) {
     if n <= out.len() {
         io::write_all(STDOUT_FILENO, &out[..n]);
     }
 }
 
-// Reads once and answers how many bytes came.
+// Reads once and answers how many bytes came: none at the end of the input, and where a read fails.
 fn read_some(input: &mut [u8]) -> usize
     ensures { λ r. ⌜ r ≤ length (now (input .exit)) ⌝ }
 {

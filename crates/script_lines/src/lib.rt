@@ -1,5 +1,5 @@
 // A line of a script read, and the line that answers written.
-// Every function takes any bytes and numbers, and none stops at bad ones.
+// Every public function takes any bytes and numbers, and none stops at bad ones.
 use model::Call;
 
 pub mod reader;

@@ -1,7 +1,7 @@
 -- `parts_played` promises what `parts-played` proves.
 use Rattle.play.proofs.Playing.{parts-played}
-use Rattle.play.proofs.parts.parts_played.Statement.{statement}
-use Rattle.play.proofs.parts.parts_played.Tie as tie
+use Rattle.play.proofs.parts_played.Statement.{statement}
+use Rattle.play.proofs.parts_played.Tie as tie
 
 returns : tie.Need-returns
 returns c = parts-played
