@@ -1,26 +1,28 @@
 -- The tests of the records one by one are the clauses of the lines: a table passes them if and only if its lines are well formed.
 -- Then the laws of the loop that makes the tests, slot by slot.
-use mathlib.Core.Path.{_≡_, sym, ap, ap₂, subst, _∙_}
-use mathlib.Core.Bool.{Bool, true, false, not, _&&_}
+use mathlib.Core.Path.{_≡_, refl, sym, ap, ap₂, subst, _∙_}
+use mathlib.Core.Bool.{Bool, true, false, not, _&&_, _||_}
 use mathlib.Core.List.{List}
-use Prim.Native.Nat.{ℕ, _+_, _*_, _-_, _/_, _%_, _<_, _≤_}
-use native.Mathlib.Nat.{mod-lt, div-add-mod', div-lt-iff-lt-mul, suc-mul, mul-le-mul-right}
+use Prim.Native.Nat.{ℕ, suc, _+_, _*_, _-_, _/_, _%_, _<_, _≤_}
+use native.Mathlib.Nat.{mod-lt, mod-eq-of-lt, add-mod-right, div-add-mod', div-lt-iff-lt-mul, suc-mul, mul-le-mul-right}
 use native.Mathlib.Numerals.{add-one}
 use native.Mathlib.Omega.{arith}
 use native.Mathlib.Decide.{ℕ-discrete, decLt}
 use lib.Dec.{ltb, leb, eqb}
 use lib.ListN.{length, getD, set, drop, List·getD-eq-default}
 use lib.Seq.{getD-set-same, getD-set-other}
-use borrow.Author.Tests.{ltb-true, leb-true, eqb-true, lt-ltb, eq-eqb, ne-eqb, not-true}
+use borrow.Author.Tests.{ltb-true, ltb-false, leb-true, eqb-true, lt-ltb, le-ltb, eq-eqb, ne-eqb, not-true}
 use Rattle.lists.specs.Padded.{every}
+use Rattle.lists.specs.Counted.{allFrom}
 use Rattle.lists.proofs.Cond.{cases, and-left, and-right, and-both, or-one, or-two, or-then, or-by, none-or, wrong}
 use Rattle.lists.proofs.Counting.{all-at, all-by, every-drop}
+use Rattle.lists.proofs.CountedLoops.{all-end}
 use Rattle.rules.specs.declared.Tag.{Tag}
 use Rattle.rules.specs.Shape.{Hierarchy, noTag, tagAt, slots, firstSlot, setsAllowed, waysAllowed, figuresAllowed, fits}
 use Rattle.rules.specs.Lines.{holdsLine}
 use Rattle.rules.specs.WellFormed.{zeroTag, linesFormed}
 use Rattle.rules.proofs.LineFacts.{Fits, Ages, Good, set-room, good-tells, good-is}
-use Rattle.lines.specs.SlotTests.{sameBytes, zeroBytes, validGood, invalidGood, slotGood, sameAgeOrLine, apartFrom}
+use Rattle.lines.specs.SlotTests.{sameBytes, zeroBytes, validGood, invalidGood, slotGood, sameAgeOrLine, apartFrom, nothing}
 
 -- ---- numbers
 
@@ -134,6 +136,50 @@ zero-tells t e =
     let r = eqb-true (t .line) 0 (and-left _ _ g) in
     let s = eqb-true (t .age) 0 (and-right (eqb (t .line) 0) _ g) in
     λ i. record { valid = p i; dirty = q i; line = r i; age = s i }
+
+-- ---- the loop over the unused records: no flag so far, and a sum of 0, is "all zero so far"
+
+sum-zero : (a b c : ℕ) → eqb (a + (b + c)) 0 ≡ (eqb a 0 && (eqb b 0 && eqb c 0))
+sum-zero a b c =
+    cases (eqb a 0 && (eqb b 0 && eqb c 0))
+    (λ e.
+    let p = eqb-true a 0 (and-left (eqb a 0) _ e) in
+    let f = and-right (eqb a 0) _ e in
+    let q = eqb-true b 0 (and-left (eqb b 0) _ f) in
+    let r = eqb-true c 0 (and-right (eqb b 0) _ f) in
+    eq-eqb (a + (b + c)) 0 (omega arith) ∙ sym e)
+    (λ e.
+    ne-eqb (a + (b + c)) 0 (λ z. wrong (and-both (eqb a 0) _ (eq-eqb a 0 (omega arith)) (and-both (eqb b 0) _ (eq-eqb b 0 (omega arith)) (eq-eqb c 0 (omega arith)))) e) ∙ sym e)
+
+pub nothing-next : (some : Bool) (sum : ℕ) (t : Tag) (rest : Bool) → (nothing some sum && (zeroTag t && rest)) ≡ (nothing (some || (t .valid || t .dirty)) (sum + (t .line + t .age)) && rest)
+unfolding zeroTag
+nothing-next true sum t rest = refl
+nothing-next false sum t rest =
+    cases (t .valid)
+    (λ v. rw v (cases (eqb sum 0) (λ e. rw e) (λ e. rw e)))
+    (λ v. cases (t .dirty)
+    (λ d. rw (v, d) (cases (eqb sum 0) (λ e. rw e) (λ e. rw e)))
+    (λ d. rw (v, d, sum-zero sum (t .line) (t .age)) (moved (eqb sum 0) (eqb (t .line) 0) (eqb (t .age) 0))))
+  where
+    moved : (a b c : Bool) → (a && ((b && c) && rest)) ≡ ((a && (b && c)) && rest)
+    moved true b c = refl
+    moved false b c = refl
+
+module _ (tags : List Tag) where
+  -- the records from slot k on are zero
+  abbrev pub zeroFrom : ℕ → Bool
+  zeroFrom k = allFrom (λ k. zeroTag (tagAt tags k)) k (256 - k)
+
+  pub zero-step :
+      (k : ℕ) (some : Bool) {more : Bool} (sum : ℕ) {r : ℕ} → k < 256 → more ≡ (some || (tagAt tags k .valid || tagAt tags k .dirty))
+      → r ≡ tagAt tags k .line + tagAt tags k .age → (nothing some sum && zeroFrom k) ≡ (nothing more (sum + r) && zeroFrom (k + 1))
+  unfolding allFrom
+  zero-step k some sum h e f =
+      let g : 256 - k ≡ suc (256 - suc k) = omega arith in
+      rw (g, add-one, e, f) (nothing-next some sum (tagAt tags k) _)
+
+  pub zero-end : (k : ℕ) {some : Bool} (sum : ℕ) → 256 ≤ k → some ≡ false → (nothing some sum && zeroFrom k) ≡ eqb sum 0
+  zero-end k sum h e = rw (e, all-end (λ k. zeroTag (tagAt tags k)) k 256 h) (cases (eqb sum 0) (λ t. rw t) (λ t. rw t))
 
 -- ---- the tests of each slot
 
@@ -285,25 +331,49 @@ module _ (b : Hierarchy) where
   unfolding linesFormed every
   unused-failed e = cases (eqb (length (b .tags)) 256) (λ t. rw (t, e)) (λ t. rw t)
 
--- ---- the loop over the slots: before slot k, way w of set s, the slots below k have passed, and `seen` has the records of the set so far
+-- ---- a record and the three before it
+
+module _ (t1 t2 t3 : Tag) (w : ℕ) (t : Tag) where
+  -- t may stand with the record that stands i places before it
+  abbrev pub Clear : ℕ → Tag → Type 0
+  Clear i u = i ≤ w → sameAgeOrLine u t ≡ false
+
+  apart-tells : apartFrom t1 t2 t3 w t ≡ true → Clear 1 t1 × Clear 2 t2 × Clear 3 t3
+  unfolding apartFrom
+  apart-tells e =
+      let first : 1 ≤ w → _ ≡ true = λ h. or-then (ltb w 1) _ e (le-ltb w 1 h) in
+      let second : 2 ≤ w → _ ≡ true = λ h. or-then (ltb w 2) _ (and-right (not (sameAgeOrLine t1 t)) _ (first (omega arith))) (le-ltb w 2 h) in (
+        λ h. not-true _ (and-left (not (sameAgeOrLine t1 t)) _ (first h)),
+        λ h. not-true _ (and-left (not (sameAgeOrLine t2 t)) _ (second h)),
+        λ h. not-true _ (or-then (ltb w 3) _ (and-right (not (sameAgeOrLine t2 t)) _ (second (omega arith))) (le-ltb w 3 h)),
+      )
+
+  apart-by : Clear 1 t1 → Clear 2 t2 → Clear 3 t3 → apartFrom t1 t2 t3 w t ≡ true
+  unfolding apartFrom
+  apart-by p q r =
+      or-by (ltb w 1) _ λ e.
+      and-both _ _ (ap not (p (ltb-false w 1 e)))
+      (or-by (ltb w 2) _ λ f.
+      and-both _ _ (ap not (q (ltb-false w 2 f)))
+      (or-by (ltb w 3) _ λ g. ap not (r (ltb-false w 3 g))))
+
+-- ---- the loop over the slots: before slot k, way w of set s, the slots below k have passed
 
 module _ (b : Hierarchy) where
-  pub record Scanned (seen : List Tag) (s w k : ℕ) : Type 0 where
+  pub record Scanned (s w k : ℕ) : Type 0 where
     pub at : k ≡ s * b .ways + w
     pub way : w < b .ways
-    pub same : (j : ℕ) → j < w → tagAt seen j ≡ tag b s j
     pub passed : (r v : ℕ) → v < b .ways → r * b .ways + v < k → Passed b r v
 
-  pub scan-start : (seen : List Tag) → 0 < b .ways → Scanned seen 0 0 0
-  scan-start seen h =
+  pub scan-start : 0 < b .ways → Scanned 0 0 0
+  scan-start h =
       record {
         at = omega arith;
         way = h;
-        same = λ j l. let no : ⊥ = omega arith in absurd no;
         passed = λ r v p l. let no : ⊥ = omega arith in absurd no;
       }
 
-module _ {b : Hierarchy} {seen : List Tag} {s w k : ℕ} (h : Scanned b seen s w k) where
+module _ {b : Hierarchy} {s w k : ℕ} (h : Scanned b s w k) where
   pub scan-end : slots b ≤ k → (r v : ℕ) → r < b .sets → v < b .ways → Passed b r v
   scan-end l r v p q = let m = set-room r (b .sets) (b .ways) p in h .passed r v q (omega arith)
 
@@ -318,6 +388,20 @@ module _ {b : Hierarchy} {seen : List Tag} {s w k : ℕ} (h : Scanned b seen s w
             absurd no
       ]
 
+  -- the record that the code finds i places before slot k, counting round the table, is that of way w - i
+  before : (i m : ℕ) → i + m ≡ 256 → i ≤ w → 0 < i → k < 256 → tagAt (b .tags) ((k + m) % 256) ≡ tag b s (w - i)
+  before i m e l pos inside =
+      let at = h .at in
+      let f : k + m ≡ (k - i) + 256 = omega arith in
+      let z : k - i ≡ s * b .ways + (w - i) = omega arith in
+      ap (tagAt (b .tags)) (ap (λ (n : ℕ). n % 256) f ∙ (add-mod-right (k - i) 256 ∙ (mod-eq-of-lt (omega arith) ∙ z)))
+
+  -- so it may stand with the record of slot k if and only if way w - i may
+  beside :
+      (i m : ℕ) → i + m ≡ 256 → i ≤ w → 0 < i → k < 256
+      → sameAgeOrLine (tagAt (b .tags) ((k + m) % 256)) (tagAt (b .tags) k) ≡ sameAgeOrLine (tag b s (w - i)) (tag b s w)
+  beside i m e l pos inside = ap₂ sameAgeOrLine (before i m e l pos inside) (ap (tagAt (b .tags)) (h .at))
+
   -- r is the answer of the test of slot k by itself, q that of the test against the records before it
   module _ {r : Bool} (tested : r ≡ slotGood (b .sets) (b .ways) (b .size) (b .cache) (b .memory) s k (tagAt (b .tags) k)) where
     pub scan-alone-fails : k < slots b → r ≡ false → linesFormed b ≡ false
@@ -325,26 +409,40 @@ module _ {b : Hierarchy} {seen : List Tag} {s w k : ℕ} (h : Scanned b seen s w
         one-failed b s w (scan-set l) (h .way) λ p.
         wrong (subst (λ (k : ℕ). slotGood (b .sets) (b .ways) (b .size) (b .cache) (b .memory) s k (tagAt (b .tags) k) ≡ true) (sym (h .at)) (p .alone)) (sym tested ∙ e)
 
-    module _ {q : Bool} (compared : q ≡ apartFrom seen w (tagAt (b .tags) k)) where
+    module _ (inside : k < 256) {q : Bool}
+        (compared : q ≡ apartFrom (tagAt (b .tags) ((k + 255) % 256)) (tagAt (b .tags) ((k + 254) % 256)) (tagAt (b .tags) ((k + 253) % 256)) w (tagAt (b .tags) k)) where
       pub scan-apart-fails : k < slots b → q ≡ false → linesFormed b ≡ false
-      unfolding apartFrom
       scan-apart-fails l e =
           one-failed b s w (scan-set l) (h .way) λ p.
           wrong
-          (all-by _ w 0 (λ j a l.
-          let m : j < w = omega arith in
-          ap not (ap₂ sameAgeOrLine (h .same j m) (ap (tagAt (b .tags)) (h .at)) ∙ p .apart j m)))
+          (apart-by _ _ _ w _
+          (λ m. beside 1 255 refl m (omega arith) inside ∙ p .apart (w - 1) (omega arith))
+          (λ m. beside 2 254 refl m (omega arith) inside ∙ p .apart (w - 2) (omega arith))
+          (λ m. beside 3 253 refl m (omega arith) inside ∙ p .apart (w - 3) (omega arith)))
           (sym compared ∙ e)
 
-      module _ (alone : r ≡ true) (apart : q ≡ true) where
+      module _ (few : b .ways ≤ 4) (alone : r ≡ true) (apart : q ≡ true) where
+        -- way j, which stands i places before way w
+        apart-at : (i m j : ℕ) → i + m ≡ 256 → 0 < i → j + i ≡ w → Clear (tagAt (b .tags) ((k + 255) % 256)) (tagAt (b .tags) ((k + 254) % 256)) (tagAt (b .tags) ((k + 253) % 256)) w (tagAt (b .tags) k) i (tagAt (b .tags) ((k + m) % 256)) → sameAgeOrLine (tag b s j) (tag b s w) ≡ false
+        apart-at i m j e pos f g =
+            let l : i ≤ w = omega arith in
+            let z : w - i ≡ j = omega arith in
+            subst (λ (j : ℕ). sameAgeOrLine (tag b s j) (tag b s w) ≡ false) z (sym (beside i m e l pos inside) ∙ g l)
+
         passes-here : Passed b s w
-        unfolding apartFrom
         passes-here =
+            let clear = apart-tells _ _ _ w _ (sym compared ∙ apart) in
+            let way = h .way in
             record {
               alone = subst (λ (k : ℕ). slotGood (b .sets) (b .ways) (b .size) (b .cache) (b .memory) s k (tagAt (b .tags) k) ≡ true) (h .at) (sym tested ∙ alone);
               apart = λ j l.
-                  sym (ap₂ sameAgeOrLine (h .same j l) (ap (tagAt (b .tags)) (h .at)))
-                  ∙ not-true _ (all-at _ w 0 (sym compared ∙ apart) j (omega arith) (omega arith));
+                  elim (ℕ-discrete (j + 1) w) [
+                    | yes e ↦ apart-at 1 255 j refl (omega arith) e (clear .0)
+                    | no d ↦ elim (ℕ-discrete (j + 2) w) [
+                      | yes e ↦ apart-at 2 254 j refl (omega arith) e (clear .1)
+                      | no f ↦ apart-at 3 253 j refl (omega arith) (omega arith) (clear .2)
+                    ]
+                  ];
             }
 
         below-next : (r v : ℕ) → v < b .ways → r * b .ways + v < k + 1 → Passed b r v
@@ -361,30 +459,23 @@ module _ {b : Hierarchy} {seen : List Tag} {s w k : ℕ} (h : Scanned b seen s w
             ]
 
         -- the set goes on
-        pub scan-on : w < length seen → (w + 1 ≡ b .ways → ⊥) → Scanned b (set seen w (tagAt (b .tags) k)) s (w + 1) (k + 1)
-        scan-on room more =
+        pub scan-on : (w + 1 ≡ b .ways → ⊥) → Scanned b s (w + 1) (k + 1)
+        scan-on more =
             let e = h .at in
             let way = h .way in
             record {
               at = omega arith;
               way = omega arith;
-              same = λ j l.
-                  elim (ℕ-discrete j w) [
-                    | yes q ↦ subst (λ (j : ℕ). tagAt (set seen w (tagAt (b .tags) k)) j ≡ tag b s j) (sym q)
-                        (getD-set-same seen w _ noTag room ∙ ap (tagAt (b .tags)) e)
-                    | no d ↦ getD-set-other seen w j _ noTag d ∙ h .same j (omega arith)
-                  ];
               passed = below-next;
             }
 
         -- the set ends
-        pub scan-wrap : (next : List Tag) → w + 1 ≡ b .ways → Scanned b next (s + 1) 0 (k + 1)
-        scan-wrap next last =
+        pub scan-wrap : w + 1 ≡ b .ways → Scanned b (s + 1) 0 (k + 1)
+        scan-wrap last =
             let e = h .at in
             let f : (s + 1) * b .ways ≡ s * b .ways + b .ways = ap (λ (n : ℕ). n * b .ways) (add-one s) ∙ suc-mul s (b .ways) in
             record {
               at = omega arith;
               way = omega arith;
-              same = λ j l. let no : ⊥ = omega arith in absurd no;
               passed = below-next;
             }

@@ -6,7 +6,6 @@ use lib.Dec.{ltb, eqb}
 use lib.ListN.{getD}
 use Rattle.lists.specs.Counted.{allFrom}
 use Rattle.rules.specs.declared.Tag.{Tag}
-use Rattle.rules.specs.Shape.{tagAt}
 use Rattle.rules.specs.Lines.{holdsLine}
 
 -- 16 bytes of the cache equal 16 bytes of memory
@@ -35,6 +34,11 @@ slotGood sets ways size cache memory s k t =
 unfoldable pub sameAgeOrLine : Tag → Tag → Bool
 sameAgeOrLine u t = eqb (u .age) (t .age) || (t .valid && holdsLine (t .line) u)
 
--- t may stand with each of the first w records of a set
-unfoldable pub apartFrom : List Tag → ℕ → Tag → Bool
-apartFrom set w t = allFrom (λ j. not (sameAgeOrLine (tagAt set j) t)) 0 w
+-- t may stand with the w records before it in its set, of which t1, t2 and t3 are the last three, the last first
+unfoldable pub apartFrom : Tag → Tag → Tag → ℕ → Tag → Bool
+apartFrom t1 t2 t3 w t =
+    ltb w 1 || (not (sameAgeOrLine t1 t) && (ltb w 2 || (not (sameAgeOrLine t2 t) && (ltb w 3 || not (sameAgeOrLine t3 t)))))
+
+-- no flag is set, and what is added is 0
+abbrev pub nothing : Bool → ℕ → Bool
+nothing some sum = not some && eqb sum 0

@@ -2,7 +2,7 @@
 // A public function takes any figures, records and buffers, and its answer is a definition of the rules.
 // A record is named by its slot, s × ways + w for way w of set s.
 ghost use mathlib.Core.Path.{_≡_};
-ghost use mathlib.Core.Bool.{true};
+ghost use mathlib.Core.Bool.{true, _||_};
 ghost use mathlib.Core.List.{[]};
 ghost use Prim.Native.Nat.{_+_, _*_, _%_, _<_, _≤_};
 ghost use lib.ListN.{length, drop};
@@ -183,57 +183,72 @@ fn alike(u: Tag, t: Tag) -> bool
     false
 }
 
-// None of the first w records of the set has the age or the line of t.
-fn apart(set: [Tag; 8], w: usize, t: Tag) -> bool
-    requires { ⌜ w ≤ 8 ⌝ }
-    ensures { λ r. ⌜ r ≡ apartFrom set w t ⌝ }
+// None of the w records before t in its set has the age or the line of t; t1 stands right before t, t2 before it, then t3.
+fn apart(t1: Tag, t2: Tag, t3: Tag, w: usize, t: Tag) -> bool
+    ensures { λ r. ⌜ r ≡ apartFrom t1 t2 t3 w t ⌝ }
 {
-    let mut j: usize = 0;
-    while j < w {
-        let u = set[j];
-        if alike(u, t) {
-            return false;
-        }
-        j += 1;
+    if w < 1 {
+        return true;
+    }
+    if alike(t1, t) {
+        return false;
+    }
+    if w < 2 {
+        return true;
+    }
+    if alike(t2, t) {
+        return false;
+    }
+    if w < 3 {
+        return true;
+    }
+    if alike(t3, t) {
+        return false;
     }
     true
 }
 
-// A record that is all zero.
-fn zero_tag(t: Tag) -> bool
-    ensures { λ r. ⌜ r ≡ zeroTag t ⌝ }
+// One of the flags of t is set, or was one before.
+fn flagged(already: bool, t: Tag) -> bool
+    ensures { λ r. ⌜ r ≡ (already || (t .valid || t .dirty)) ⌝ }
 {
     if t.valid {
-        return false;
+        return true;
     }
     if t.dirty {
-        return false;
+        return true;
     }
-    if t.line != 0 {
-        return false;
-    }
-    t.age == 0
+    already
 }
 
-// "unused records are all zero": those from slot count on.
+// The line and the age of t, added.
+fn weight(t: Tag) -> u32
+    ensures { λ r. ⌜ (r ≡ t .line + t .age) × (r ≤ 65790) ⌝ }
+{
+    t.line as u32 + t.age as u32
+}
+
+// "unused records are all zero": those from slot count on. (The loop has no early exit, like that of `same_bytes`.)
 fn unused_zero(tags: [Tag; 256], count: usize) -> bool
     requires { ⌜ count ≤ 256 ⌝ }
     ensures { λ r. ⌜ r ≡ every zeroTag (drop count tags) ⌝ }
 {
+    let mut some = false;
+    let mut sum: u32 = 0;
     let mut k = count;
     while k < 256 {
         let t = tags[k];
-        if zero_tag(t) {
-            k += 1;
-        } else {
-            return false;
-        }
+        some = flagged(some, t);
+        sum += weight(t);
+        k += 1;
     }
-    true
+    if some {
+        return false;
+    }
+    sum == 0
 }
 
-// The records of the slots in use, set by set, when the unused ones are zero. The first w places of the array have the
-// records of the set so far.
+// The records of the slots in use, set by set, when the unused ones are zero.
 fn slots_good(
     tags: [Tag; 256],
     sets: u32,
@@ -245,8 +260,6 @@ fn slots_good(
     requires { ⌜ (fits (hierarchy sets ways size tags (now cache) (now memory)) ≡ true) × (every zeroTag (drop (sets * ways) tags) ≡ true) ⌝ }
     ensures { λ r. ⌜ r ≡ linesFormed (hierarchy sets ways size tags (now (cache .entry)) (now (memory .entry))) ⌝ }
 {
-    let any = tags[0];
-    let mut set = [any; 8];
     let count = (sets * ways) as usize;
     let n = ways as usize;
     let mut s: u32 = 0;
@@ -255,8 +268,10 @@ fn slots_good(
     while k < count {
         let t = tags[k];
         if slot_good(t, s, k, sets, ways, size, cache, memory) {
-            if apart(set, w, t) {
-                set[w] = t;
+            let t1 = tags[(k + 255) % 256];
+            let t2 = tags[(k + 254) % 256];
+            let t3 = tags[(k + 253) % 256];
+            if apart(t1, t2, t3, w, t) {
                 k += 1;
                 w += 1;
                 if w == n {

@@ -1,68 +1,59 @@
--- `apart` meets its contract. The test of the records that are left is the whole test.
-use mathlib.Core.Path.{_≡_, sym, ap, _∙_}
-use mathlib.Core.Bool.{not}
-use Prim.Native.Nat.{_≤_, _-_}
-use native.Mathlib.Omega.{arith}
+-- `apart` meets its contract: its tests are those of the definition, in the same order.
+use mathlib.Core.Path.{sym, _∙_}
 use borrow.Author.Needs.{needs}
-use Rattle.lists.specs.Counted.{allFrom}
-use Rattle.lists.proofs.CountedLoops.{all-fails, all-next, all-end}
-use Rattle.rules.specs.Shape.{tagAt}
-use Rattle.lines.specs.SlotTests.{sameAgeOrLine, apartFrom}
+use borrow.Author.Tests.{lt-ltb, le-ltb}
+use Rattle.lines.specs.SlotTests.{apartFrom}
 use Rattle.lines.proofs.apart.Statement.{statement}
 use Rattle.lines.proofs.apart.Tie as tie
 
-abbrev Inv-loop : tie.InvT-loop
-Inv-loop w t set j₀ j =
-    (j ≤ w) × (apartFrom set w t ≡ allFrom (λ j. not (sameAgeOrLine (tagAt set j) t)) j (w - j))
-
-abbrev μ-loop : tie.MeasureT-loop
-μ-loop w t set j₀ j = w - j
-
-loop-holds : tie.Need-loop-holds Inv-loop μ-loop
+returns : tie.Need-returns
 unfolding apartFrom
-loop-holds c =
-    let e : c .args .w - 0 ≡ c .args .w = omega arith in
-    (omega arith, rw e)
+returns c = rw (lt-ltb _ _ (c .if1 .taken))
 
-mul-u : tie.Need-mul-u Inv-loop μ-loop
-mul-u c = search needs
-
-array-copy-out-u : tie.Need-array-copy-out-u Inv-loop μ-loop
-array-copy-out-u c = search needs
-
-alike-requires : tie.Need-alike-requires Inv-loop μ-loop
+alike-requires : tie.Need-alike-requires
 alike-requires c κs = search needs
 
-returns : tie.Need-returns Inv-loop μ-loop
-returns c =
-    sym (c .before .before .before .before .loop .inv .1 ∙ all-fails _ _ _ (c .before .before .before .loop-test .taken) (ap not (sym (c .before .alike .ensures) ∙ c .if1 .taken)))
+returns-2 : tie.Need-returns-2
+unfolding apartFrom
+returns-2 c = rw (le-ltb _ _ (c .before .before .if1 .left), sym (c .before .alike .ensures) ∙ c .if2 .taken)
 
-add-j : tie.Need-add-j Inv-loop μ-loop
-add-j c = search needs
+returns-3 : tie.Need-returns-3
+unfolding apartFrom
+returns-3 c = rw (le-ltb _ _ (c .before .before .before .if1 .left), sym (c .before .before .alike .ensures) ∙ c .before .if2 .left, lt-ltb _ _ (c .if3 .taken))
 
-loop-less : tie.Need-loop-less Inv-loop μ-loop
-loop-less c = search needs
+alike-requires-2 : tie.Need-alike-requires-2
+alike-requires-2 c κs = search needs
 
-loop-again : tie.Need-loop-again Inv-loop μ-loop
-loop-again c =
-    (omega arith, c .before .before .before .before .loop .inv .1 ∙ all-next _ _ _ (c .before .before .before .loop-test .taken) (ap not (sym (c .before .alike .ensures) ∙ c .if1 .left)))
+returns-4 : tie.Need-returns-4
+unfolding apartFrom
+returns-4 c = rw (le-ltb _ _ (c .before .before .before .before .before .if1 .left), sym (c .before .before .before .before .alike .ensures) ∙ c .before .before .before .if2 .left, le-ltb _ _ (c .before .before .if3 .left), sym (c .before .alike2 .ensures) ∙ c .if4 .taken)
 
-returns-2 : tie.Need-returns-2 Inv-loop μ-loop
-returns-2 c =
-    sym (c .before .loop .inv .1 ∙ all-end _ _ _ (c .loop-test .left))
+returns-5 : tie.Need-returns-5
+unfolding apartFrom
+returns-5 c = rw (le-ltb _ _ (c .before .before .before .before .before .before .if1 .left), sym (c .before .before .before .before .before .alike .ensures) ∙ c .before .before .before .before .if2 .left, le-ltb _ _ (c .before .before .before .if3 .left), sym (c .before .before .alike2 .ensures) ∙ c .before .if4 .left, lt-ltb _ _ (c .if5 .taken))
+
+alike-requires-3 : tie.Need-alike-requires-3
+alike-requires-3 c κs = search needs
+
+returns-6 : tie.Need-returns-6
+unfolding apartFrom
+returns-6 c = rw (le-ltb _ _ (c .before .before .before .before .before .before .before .before .if1 .left), sym (c .before .before .before .before .before .before .before .alike .ensures) ∙ c .before .before .before .before .before .before .if2 .left, le-ltb _ _ (c .before .before .before .before .before .if3 .left), sym (c .before .before .before .before .alike2 .ensures) ∙ c .before .before .before .if4 .left, le-ltb _ _ (c .before .before .if5 .left), sym (c .before .alike3 .ensures) ∙ c .if6 .taken)
+
+returns-7 : tie.Need-returns-7
+unfolding apartFrom
+returns-7 c = rw (le-ltb _ _ (c .before .before .before .before .before .before .before .before .if1 .left), sym (c .before .before .before .before .before .before .before .alike .ensures) ∙ c .before .before .before .before .before .before .if2 .left, le-ltb _ _ (c .before .before .before .before .before .if3 .left), sym (c .before .before .before .before .alike2 .ensures) ∙ c .before .before .before .if4 .left, le-ltb _ _ (c .before .before .if5 .left), sym (c .before .alike3 .ensures) ∙ c .if6 .left)
 
 pub apart-spec : {M : Type 1} → statement M
 apart-spec =
     tie.close
     (tie.spec
-    Inv-loop
-    μ-loop
-    loop-holds
-    mul-u
-    array-copy-out-u
-    alike-requires
     returns
-    add-j
-    loop-less
-    loop-again
-    returns-2)
+    alike-requires
+    returns-2
+    returns-3
+    alike-requires-2
+    returns-4
+    returns-5
+    alike-requires-3
+    returns-6
+    returns-7)
