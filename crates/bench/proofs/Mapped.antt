@@ -1,12 +1,13 @@
 -- A list made of another, entry by entry: the loop that makes it, and lists that come back.
 use Prim.Native.Nat.{ℕ, zero, suc, _+_, _-_, _≤_, _<_}
-use mathlib.Core.Path.{_≡_, refl, ap}
+use mathlib.Core.Path.{_≡_, refl, ap, _∙_}
 use mathlib.Core.Bool.{Bool, true}
 use mathlib.Core.List.{List, [], _∷_, _++_, map, append-nil}
 use native.Mathlib.Nat.{not-suc-le-zero, le-of-suc-le-suc}
 use native.Mathlib.Numerals.{add-one}
+use native.Mathlib.Decide.{decLt}
 use native.Mathlib.Omega.{arith}
-use lib.ListN.{length, take, getD, set, replicate}
+use lib.ListN.{length, take, drop, getD, set, replicate, drop-of-length-le}
 use lib.Seq.{take-all}
 use Rattle.lists.specs.Padded.{every}
 use Rattle.lists.proofs.Cond.{and-left, and-right, and-both}
@@ -33,6 +34,42 @@ module _ {A B : Type 0} (f : A → B) (free : B) where
       let none : n - i ≡ 0 = omega arith in
       let all : take i l ≡ l = take-all i l (omega arith) in
       rw (none, all, append-nil (map f l)) at e
+
+-- the first entries are made, over a list that has the others
+module _ {A B : Type 0} (f : A → B) where
+  abbrev pub over : ℕ → List A → List B → List B
+  over i l old = map f (take i l) ++ drop i old
+
+  over-next : (d : A) (i : ℕ) (l : List A) (old : List B) → i < length l → i < length old → set (over i l old) i (f (getD l i d)) ≡ over (suc i) l old
+  over-next d i [] old h g = absurd (not-suc-le-zero h)
+  over-next d i (x ∷ l) [] h g = absurd (not-suc-le-zero g)
+  over-next d zero (x ∷ l) (y ∷ old) h g = refl
+  over-next d (suc i) (x ∷ l) (y ∷ old) h g = ap (λ (r : List B). f x ∷ r) (over-next d i l old (le-of-suc-le-suc h) (le-of-suc-le-suc g))
+
+  pub over-step :
+      (d : A) (i : ℕ) (l : List A) (old out : List B) (y : B) → i < length l → i < length old → out ≡ over i l old → y ≡ f (getD l i d)
+      → set out i y ≡ over (i + 1) l old
+  over-step d i l old out y h g e made = rw (e, made, add-one i) (over-next d i l old h g)
+
+  joined : (i : ℕ) (l : List A) → map f (take i l) ++ map f (drop i l) ≡ map f l
+  joined zero l = refl
+  joined (suc i) [] = refl
+  joined (suc i) (x ∷ l) = ap (λ (r : List B). f x ∷ r) (joined i l)
+
+  -- the others, if there are any, are made in the old list
+  pub over-all :
+      (n i : ℕ) (l : List A) (old out : List B) → length l ≡ n → length old ≡ n → (i < n → drop i old ≡ map f (drop i l)) → out ≡ over i l old
+      → out ≡ map f l
+  over-all n i l old out len len′ rest e = e ∙ ap (λ (r : List B). map f (take i l) ++ r) others ∙ joined i l
+    where
+      others : drop i old ≡ map f (drop i l)
+      others = elim (decLt i n) [
+        | yes h ↦ rest h
+        | no h ↦
+            let p : length l ≤ i = omega arith in
+            let q : length old ≤ i = omega arith in
+            rw (drop-of-length-le l p, drop-of-length-le old q)
+      ]
 
 -- there and back
 module _ {A B : Type 0} (f : A → B) (g : B → A) where

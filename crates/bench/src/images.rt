@@ -1,6 +1,8 @@
 // Images and states, each made from the other.
 ghost use mathlib.Core.Path.{_≡_};
 ghost use mathlib.Core.List.{map};
+ghost use Prim.Native.Nat.{_<_, _≤_};
+ghost use lib.ListN.{drop};
 ghost use Rattle.lists.specs.Padded.{every};
 ghost use Rattle.bench.specs.Images.{flagOf, openedRequest, requestedOf, lineNamed, requestStands, openedStore, imagedStore, openedLoad, imagedLoad, loadStands, openedTag, imagedTag, tagStands, openedOf, imagedOf, standsFor};
 use crate::Image;
@@ -257,19 +259,14 @@ fn image_tag(t: Tag) -> TagImage
     }
 }
 
-fn image_tags(tags: [Tag; 256]) -> [TagImage; 256]
+// The images of the records: the first n are made, the others stand in the old image.
+fn image_tags(old: [TagImage; 256], tags: [Tag; 256], n: usize) -> [TagImage; 256]
+    requires { ⌜ (n ≤ 256) × (n < 256 → drop n old ≡ map imagedTag (drop n tags)) ⌝ }
     ensures { λ r. ⌜ r ≡ map imagedTag tags ⌝ }
 {
-    let zero = TagImage {
-        valid: 0,
-        dirty: 0,
-        line: 0,
-        age: 0,
-        unused: 0,
-    };
-    let mut out = [zero; 256];
+    let mut out = old;
     let mut i: usize = 0;
-    while i < 256 {
+    while i < n {
         let t = tags[i];
         let e = image_tag(t);
         out[i] = e;
@@ -341,14 +338,16 @@ pub(crate) fn opened(image: Image) -> State
     }
 }
 
-// The image of a state.
-pub(crate) fn imaged(state: State) -> Image
+// The image of a state, whose records but the first n have their images in the old one.
+pub(crate) fn imaged(old: Image, state: State, n: usize) -> Image
+    requires { ⌜ (n ≤ 256) × (n < 256 → drop n (old .tags) ≡ map imagedTag (drop n (state .tags))) ⌝ }
     ensures { λ r. ⌜ r ≡ imagedOf state ⌝ }
 {
     let request = state.request;
     let stores = state.stores;
     let loads = state.loads;
     let tags = state.tags;
+    let images = old.tags;
     Image {
         sets: state.sets,
         ways: state.ways,
@@ -359,6 +358,6 @@ pub(crate) fn imaged(state: State) -> Image
         line: line_named(request),
         stores: image_stores(stores),
         loads: image_loads(loads),
-        tags: image_tags(tags),
+        tags: image_tags(images, tags, n),
     }
 }

@@ -1,10 +1,11 @@
 // A start and a call on an image, by value.
 ghost use mathlib.Core.Path.{_≡_};
+ghost use Prim.Native.Nat.{_≤_};
 ghost use Rattle.model.specs.State.{callOf};
 ghost use mathlib.Core.Option.{some};
 ghost use mathlib.Core.Bool.{true, false};
 ghost use Rattle.bench.specs.Images.{openedOf, standsFor};
-ghost use Rattle.bench.specs.Steps.{leftOf, started, called, stepped, unformed};
+ghost use Rattle.bench.specs.Steps.{leftOf, started, called, stepped, unformed, recordsChanged};
 use crate::Image;
 use crate::ImageStep;
 use crate::images;
@@ -32,13 +33,30 @@ pub(crate) fn start_image(
             let state = r.state;
             ImageStep {
                 reply: replies::coded(12, 0, 0),
-                next: images::imaged(state),
+                next: images::imaged(image, state, 256),
             }
         }
         StartAnswer::NotAllowed(k) => ImageStep {
             reply: replies::coded(0, k, 0),
             next: image,
         },
+    }
+}
+
+// How many records a call may change: none or all.
+fn records_changed(call: Call) -> usize
+    ensures { λ r. ⌜ (r ≡ recordsChanged (callOf call)) × (r ≤ 256) ⌝ }
+{
+    match call {
+        Call::Load(_, _) => 0,
+        Call::Store(_, _, _) => 0,
+        Call::Retry(_) => 256,
+        Call::Commit(_) => 256,
+        Call::Abort(_) => 0,
+        Call::Idle => 256,
+        Call::Reply => 256,
+        Call::Flush => 256,
+        Call::Show(_) => 0,
     }
 }
 
@@ -51,9 +69,10 @@ fn step_state(image: Image, call: Call, cache: &mut [u8], memory: &mut [u8]) -> 
     let r = state.step(call, cache, memory);
     let answer = r.answer;
     let next = r.next;
+    let n = records_changed(call);
     ImageStep {
         reply: replies::replied(answer, cache),
-        next: images::imaged(next),
+        next: images::imaged(image, next, n),
     }
 }
 
