@@ -1,15 +1,24 @@
 -- A list made of another, entry by entry: the loop that makes it, and lists that come back.
 use Prim.Native.Nat.{ℕ, zero, suc, _+_, _-_, _≤_, _<_}
-use mathlib.Core.Path.{_≡_, refl, ap}
-use mathlib.Core.Bool.{Bool, true}
+use mathlib.Core.Path.{_≡_, refl, sym, ap, _∙_}
+use mathlib.Core.Bool.{Bool, true, _&&_}
 use mathlib.Core.List.{List, [], _∷_, _++_, map, append-nil}
 use native.Mathlib.Nat.{not-suc-le-zero, le-of-suc-le-suc}
 use native.Mathlib.Numerals.{add-one}
+use native.Mathlib.Decide.{decLt}
 use native.Mathlib.Omega.{arith}
-use lib.ListN.{length, take, getD, set, replicate}
+use lib.ListN.{length, take, drop, getD, set, replicate, drop-of-length-le}
 use lib.Seq.{take-all}
 use Rattle.lists.specs.Padded.{every}
-use Rattle.lists.proofs.Cond.{and-left, and-right, and-both}
+use Rattle.lists.proofs.Cond.{cases, and-left, and-right, and-both}
+use Rattle.lists.proofs.Loops.{rest-cons, every-end}
+
+module _ {A B : Type 0} (f : A → B) where
+  -- made in two parts
+  joined : (i : ℕ) (l : List A) → map f (take i l) ++ map f (drop i l) ≡ map f l
+  joined zero l = refl
+  joined (suc i) [] = refl
+  joined (suc i) (x ∷ l) = ap (λ (r : List B). f x ∷ r) (joined i l)
 
 module _ {A B : Type 0} (f : A → B) (free : B) where
   -- the first i entries are made, and n places are left
@@ -34,6 +43,46 @@ module _ {A B : Type 0} (f : A → B) (free : B) where
       let all : take i l ≡ l = take-all i l (omega arith) in
       rw (none, all, append-nil (map f l)) at e
 
+  -- the entries that are left, if there are any, would be made the same
+  pub made-most :
+      (i n : ℕ) (l : List A) (out : List B) → length l ≡ n → (i < n → map f (drop i l) ≡ replicate (n - i) free) → out ≡ made i (n - i) l
+      → out ≡ map f l
+  made-most i n l out len rest e = elim (decLt i n) [
+    | yes h ↦ e ∙ ap (λ (r : List B). map f (take i l) ++ r) (sym (rest h)) ∙ joined f i l
+    | no h ↦ made-all i n l out len (omega arith) e
+  ]
+
+-- the first entries are made, over a list that has the others
+module _ {A B : Type 0} (f : A → B) where
+  abbrev pub over : ℕ → List A → List B → List B
+  over i l old = map f (take i l) ++ drop i old
+
+  over-next : (d : A) (i : ℕ) (l : List A) (old : List B) → i < length l → i < length old → set (over i l old) i (f (getD l i d)) ≡ over (suc i) l old
+  over-next d i [] old h g = absurd (not-suc-le-zero h)
+  over-next d i (x ∷ l) [] h g = absurd (not-suc-le-zero g)
+  over-next d zero (x ∷ l) (y ∷ old) h g = refl
+  over-next d (suc i) (x ∷ l) (y ∷ old) h g = ap (λ (r : List B). f x ∷ r) (over-next d i l old (le-of-suc-le-suc h) (le-of-suc-le-suc g))
+
+  pub over-step :
+      (d : A) (i : ℕ) (l : List A) (old out : List B) (y : B) → i < length l → i < length old → out ≡ over i l old → y ≡ f (getD l i d)
+      → set out i y ≡ over (i + 1) l old
+  over-step d i l old out y h g e made = rw (e, made, add-one i) (over-next d i l old h g)
+
+  -- the others, if there are any, are made in the old list
+  pub over-all :
+      (n i : ℕ) (l : List A) (old out : List B) → length l ≡ n → length old ≡ n → (i < n → drop i old ≡ map f (drop i l)) → out ≡ over i l old
+      → out ≡ map f l
+  over-all n i l old out len len′ rest e = e ∙ ap (λ (r : List B). map f (take i l) ++ r) others ∙ joined f i l
+    where
+      others : drop i old ≡ map f (drop i l)
+      others = elim (decLt i n) [
+        | yes h ↦ rest h
+        | no h ↦
+            let p : length l ≤ i = omega arith in
+            let q : length old ≤ i = omega arith in
+            rw (drop-of-length-le l p, drop-of-length-le old q)
+      ]
+
 -- there and back
 module _ {A B : Type 0} (f : A → B) (g : B → A) where
   pub back : ((x : A) → g (f x) ≡ x) → (l : List A) → map g (map f l) ≡ l
@@ -51,3 +100,15 @@ pub every-made : {A B : Type 0} (f : A → B) (p : B → Bool) → ((x : A) → 
 unfolding every
 every-made f p h [] = refl
 every-made f p h (x ∷ l) = and-both (p (f x)) _ (h x) (every-made f p h l)
+
+-- a test of all that keeps the answer so far
+module _ {A : Type 0} (p : A → Bool) (d : A) (b : Bool) (l : List A) (i : ℕ) where
+  and-joined : (x y : Bool) → (b && (x && y)) ≡ ((b && x) && y)
+  and-joined x y = cases b (λ e. rw e) (λ e. rw e)
+
+  pub every-on : {c : Bool} → i < length l → c ≡ (b && p (getD l i d)) → (b && every p (drop i l)) ≡ (c && every p (drop (i + 1) l))
+  unfolding every
+  every-on h e = rw (e, rest-cons p d l i h) (and-joined (p (getD l i d)) (every p (drop (i + 1) l)))
+
+  pub every-off : length l ≤ i → (b && every p (drop i l)) ≡ b
+  every-off h = rw (every-end p d l i h) (cases b (λ e. rw e) (λ e. rw e))

@@ -1,11 +1,13 @@
 -- What the functions leave is what the definitions say; and a refusal leaves everything as it was.
-use Prim.Native.Nat.{ℕ, _≤_}
+use Prim.Native.Nat.{ℕ, _<_, _≤_}
 use mathlib.Core.Path.{_≡_, refl, sym, _∙_, ap}
 use mathlib.Core.Bool.{true, false, cond}
-use mathlib.Core.List.{List}
+use mathlib.Core.List.{List, map}
 use mathlib.Core.Option.{Option, some, none}
 use native.Mathlib.Omega.{arith}
+use lib.ListN.{drop}
 use Rattle.lists.proofs.Cond.{cases, wrong}
+use Rattle.rules.specs.declared.Tag.{Tag}
 use Rattle.rules.specs.Shape.{Queues, Hierarchy, World, fits}
 use Rattle.rules.specs.Calls as rules
 use Rattle.rules.specs.WellFormed.{wellFormed}
@@ -23,9 +25,9 @@ use Rattle.bench.specs.declared.Image.{Image}
 use Rattle.bench.specs.declared.ImageStep.{ImageStep}
 use Rattle.bench.specs.declared.replies.Numbered.{Numbered}
 use Rattle.bench.specs.declared.replies.Numbered.the-variants.{Known, Unknown}
-use Rattle.bench.specs.Images.{openedOf, imagedOf, standsFor}
+use Rattle.bench.specs.Images.{imagedTag, openedOf, imagedOf, standsFor}
 use Rattle.bench.specs.Replies.{callNumbered, numberedOf, reply, replyOf, readyReply}
-use Rattle.bench.specs.Steps.{Left, leftOf, kept, leaves, startedBy, started, imageRefusal, outcomeFrom, unformed, called, stepped}
+use Rattle.bench.specs.Steps.{Left, leftOf, kept, leaves, startedBy, started, imageRefusal, outcomeFrom, unformed, called, stepped, recordsChanged}
 use Rattle.bench.specs.Claims.{Keeps, RefusedImagesKept}
 use Rattle.bench.proofs.Standing.{imaged-opened}
 
@@ -70,6 +72,48 @@ module _ (c : rules.Call) (i : Image) (cache memory : List ℕ) where
           memory = ap (λ (o : rules.Outcome). o .hierarchy .memory) u j;
         })
         ∙ rw stands
+
+-- ---- the records that a call may change
+
+-- none or all
+none-or-all : (c : rules.Call) (P : ℕ → Type 0) → (recordsChanged c ≡ 0 → P 0) → P 256 → P (recordsChanged c)
+none-or-all (rules.load a w) P p q = p refl
+none-or-all (rules.store a w v) P p q = p refl
+none-or-all (rules.retry i) P p q = q
+none-or-all (rules.commit k) P p q = q
+none-or-all (rules.abort n) P p q = p refl
+none-or-all rules.idle P p q = q
+none-or-all rules.reply P p q = q
+none-or-all rules.flush P p q = q
+none-or-all (rules.show a) P p q = p refl
+
+module _ (q : Queues) (b : Hierarchy) where
+  rule-keeps : (c : rules.Call) → recordsChanged c ≡ 0 → rules.rule c q b .hierarchy .tags ≡ b .tags
+  unfolding rules.loadRule rules.storeRule rules.abortRule rules.showRule
+  rule-keeps (rules.load a w) e = refl
+  rule-keeps (rules.store a w v) e = refl
+  rule-keeps (rules.retry i) e = let no : ⊥ = omega arith in absurd no
+  rule-keeps (rules.commit k) e = let no : ⊥ = omega arith in absurd no
+  rule-keeps (rules.abort n) e = refl
+  rule-keeps rules.idle e = let no : ⊥ = omega arith in absurd no
+  rule-keeps rules.reply e = let no : ⊥ = omega arith in absurd no
+  rule-keeps rules.flush e = let no : ⊥ = omega arith in absurd no
+  rule-keeps (rules.show a) e = refl
+
+  outcome-keeps : (c : rules.Call) → recordsChanged c ≡ 0 → outcome c q b .hierarchy .tags ≡ b .tags
+  outcome-keeps c e = outcome-by c q b (λ o. o .hierarchy .tags ≡ b .tags) (λ k. refl) (λ f g p. rule-keeps c e)
+
+-- the others have their images in the image before the call
+module _ (c : rules.Call) (i : Image) (cache memory : List ℕ) (stands : standsFor i ≡ true) where
+  pub image-rest :
+      (n : ℕ) (s : State) (next : List Tag) → n ≡ recordsChanged c → s ≡ openedOf i
+      → next ≡ outcome c (queuesOf s) (hierarchyOf s cache memory) .hierarchy .tags → n < 256 → drop n (i .tags) ≡ map imagedTag (drop n next)
+  unfolding imagedOf
+  image-rest n s next m o e =
+      rw m
+      (none-or-all c (λ n. n < 256 → drop n (i .tags) ≡ map imagedTag (drop n next))
+      (λ z h. sym (ap (map imagedTag) (e ∙ (outcome-keeps (queuesOf s) (hierarchyOf s cache memory) c z ∙ ap (λ (s : State). s .tags) o)) ∙ ap (λ (j : Image). j .tags) (imaged-opened i stands)))
+      (λ h. let no : ⊥ = omega arith in absurd no))
 
 -- ---- a call by its number
 

@@ -1,13 +1,18 @@
 -- Images stand for states: each comes back from the other.
-use Prim.Native.Nat.{ℕ}
-use mathlib.Core.Path.{_≡_, refl, sym}
+use Prim.Native.Nat.{ℕ, _+_, _*_, _-_, _<_, _≤_}
+use mathlib.Core.Path.{_≡_, refl, sym, ap, ap₂, _∙_}
+use mathlib.Core.List.{List, [], _∷_, map}
 use mathlib.Core.Bool.{Bool, true, false, _&&_}
 use native.Mathlib.Omega.{arith}
+use native.Mathlib.Decide.{decLt}
+use lib.ListN.{length, drop, replicate, length-drop}
 use lib.Dec.{eqb}
-use borrow.Author.Tests.{leb-true, eqb-true, eqb-false}
+use borrow.Author.Tests.{leb-true, eqb-true, eqb-false, eq-eqb}
 use Rattle.lists.specs.Padded.{every}
 use Rattle.lists.proofs.Cond.{cases, and-left, and-right, and-both}
+use Rattle.lists.proofs.Loops.{every-end}
 use Rattle.rules.specs.declared.Tag.{Tag}
+use Rattle.rules.specs.Shape.{noTag}
 use Rattle.rules.specs.declared.StoreEntry.{StoreEntry}
 use Rattle.rules.specs.declared.LoadEntry.{LoadEntry}
 use Rattle.rules.specs.declared.Request.{Request}
@@ -17,7 +22,7 @@ use Rattle.bench.specs.declared.StoreImage.{StoreImage}
 use Rattle.bench.specs.declared.LoadImage.{LoadImage}
 use Rattle.bench.specs.declared.TagImage.{TagImage}
 use Rattle.bench.specs.declared.Image.{Image}
-use Rattle.bench.specs.Images.{flagOf, isSet, isFlag, openedRequest, requestedOf, lineNamed, requestStands, openedStore, imagedStore, openedLoad, imagedLoad, loadStands, openedTag, imagedTag, tagStands, openedOf, imagedOf, standsFor}
+use Rattle.bench.specs.Images.{flagOf, isSet, isFlag, openedRequest, requestedOf, lineNamed, requestStands, openedStore, imagedStore, openedLoad, imagedLoad, loadStands, openedTag, imagedTag, tagStands, zeroImage, ZeroFrom, openedOf, imagedOf, standsFor}
 use Rattle.bench.specs.Claims.{ImagesStandForStates}
 use Rattle.bench.proofs.Mapped.{back, back-every, every-made}
 
@@ -97,6 +102,60 @@ imaged-tag t e =
       age = t .age;
       unused = sym (eqb-true (t .unused) 0 (and-right (isFlag (t .dirty)) _ rest)) j;
     }
+
+-- ---- records that are zero
+
+zero-tells : (t : TagImage) → zeroImage t ≡ true → t ≡ noTagImage
+unfolding zeroImage
+zero-tells t e =
+    let e₁ = and-right (eqb (t .valid) 0) _ e in
+    let e₂ = and-right (eqb (t .dirty) 0) _ e₁ in
+    let e₃ = and-right (eqb (t .line) 0) _ e₂ in
+    let v = eqb-true (t .valid) 0 (and-left (eqb (t .valid) 0) _ e) in
+    let d = eqb-true (t .dirty) 0 (and-left (eqb (t .dirty) 0) _ e₁) in
+    let l = eqb-true (t .line) 0 (and-left (eqb (t .line) 0) _ e₂) in
+    let a = eqb-true (t .age) 0 (and-left (eqb (t .age) 0) _ e₃) in
+    let u = eqb-true (t .unused) 0 (and-right (eqb (t .age) 0) _ e₃) in
+    λ j. record { valid = v j; dirty = d j; line = l j; age = a j; unused = u j }
+
+-- by two numbers that hold its fields
+module _ (b : Bool) (t : TagImage) where
+  pub first-not : (t .valid + 256 * t .dirty + 65536 * t .line ≡ 0 → ⊥) → false ≡ (b && zeroImage t)
+  first-not nope = cases (zeroImage t)
+      (λ e. let z = zero-tells t e in absurd (nope (ap (λ (t : TagImage). t .valid + 256 * t .dirty + 65536 * t .line) z)))
+      (λ e. rw e (cases b (λ f. rw f) (λ f. rw f)))
+
+  pub second-not : (t .age + 256 * t .unused ≡ 0 → ⊥) → false ≡ (b && zeroImage t)
+  second-not nope = cases (zeroImage t)
+      (λ e. let z = zero-tells t e in absurd (nope (ap (λ (t : TagImage). t .age + 256 * t .unused) z)))
+      (λ e. rw e (cases b (λ f. rw f) (λ f. rw f)))
+
+  pub both-zero : t .valid + 256 * t .dirty + 65536 * t .line ≡ 0 → t .age + 256 * t .unused ≡ 0 → b ≡ (b && zeroImage t)
+  unfolding zeroImage
+  both-zero e f =
+      rw (eq-eqb (t .valid) 0 (omega arith), eq-eqb (t .dirty) 0 (omega arith), eq-eqb (t .line) 0 (omega arith), eq-eqb (t .age) 0 (omega arith), eq-eqb (t .unused) 0 (omega arith))
+      (cases b (λ g. rw g) (λ g. rw g))
+
+zeros-stand : (l : List TagImage) → every zeroImage l ≡ true → every tagStands l ≡ true
+unfolding every tagStands
+zeros-stand [] e = refl
+zeros-stand (t ∷ l) e =
+    and-both (tagStands t) _ (ap tagStands (zero-tells t (and-left (zeroImage t) _ e))) (zeros-stand l (and-right (zeroImage t) _ e))
+
+zeros-opened : (l : List TagImage) → every zeroImage l ≡ true → map openedTag l ≡ replicate (length l) noTag
+unfolding every openedTag
+zeros-opened [] e = refl
+zeros-opened (t ∷ l) e =
+    ap₂ (λ (t : Tag) (l : List Tag). t ∷ l) (ap openedTag (zero-tells t (and-left (zeroImage t) _ e))) (zeros-opened l (and-right (zeroImage t) _ e))
+
+module _ (n : ℕ) (l : List TagImage) (len : length l ≡ 256) (z : ZeroFrom n l) where
+  pub rest-stands : every tagStands (drop n l) ≡ true
+  rest-stands = elim (decLt n 256) [ yes h ↦ zeros-stand (drop n l) (z .1 h) | no h ↦ every-end tagStands noTagImage l n (omega arith) ]
+
+  pub rest-opened : n < 256 → map openedTag (drop n l) ≡ replicate (256 - n) noTag
+  rest-opened h =
+      let e : length (drop n l) ≡ 256 - n = length-drop n l ∙ ap (λ (m : ℕ). m - n) len in
+      zeros-opened (drop n l) (z .1 h) ∙ ap (λ (m : ℕ). replicate m noTag) e
 
 module _ (n l : ℕ) (e : requestStands n l ≡ true) where
   imaged-requested : requestedOf (openedRequest n l) ≡ n

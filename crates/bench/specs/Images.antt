@@ -1,8 +1,10 @@
 -- The image of a state, the state of an image, and which images stand for a state.
-use Prim.Native.Nat.{ℕ}
-use mathlib.Core.Bool.{Bool, cond, _&&_}
-use mathlib.Core.List.{map}
+use Prim.Native.Nat.{ℕ, _<_, _≤_}
+use mathlib.Core.Path.{_≡_}
+use mathlib.Core.Bool.{Bool, true, cond, _&&_}
+use mathlib.Core.List.{List, map}
 use lib.Dec.{leb, eqb}
+use lib.ListN.{drop}
 use Rattle.lists.specs.Padded.{every}
 use Rattle.rules.specs.declared.Tag.{Tag}
 use Rattle.rules.specs.declared.StoreEntry.{StoreEntry}
@@ -82,6 +84,14 @@ imagedTag t = record { valid = flagOf (t .valid); dirty = flagOf (t .dirty); lin
 -- its flags are 0 or 1, and the unused byte is 0
 unfoldable pub tagStands : TagImage → Bool
 tagStands t = isFlag (t .valid) && (isFlag (t .dirty) && eqb (t .unused) 0)
+
+-- it is all zero
+unfoldable pub zeroImage : TagImage → Bool
+zeroImage t = eqb (t .valid) 0 && (eqb (t .dirty) 0 && (eqb (t .line) 0 && (eqb (t .age) 0 && eqb (t .unused) 0)))
+
+-- the records from n on, if there are any, are zero
+abbrev pub ZeroFrom : ℕ → List TagImage → Type 0
+ZeroFrom n tags = (n ≤ 256) × (n < 256 → every zeroImage (drop n tags) ≡ true)
 
 -- ---- the whole
 

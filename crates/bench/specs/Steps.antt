@@ -95,3 +95,15 @@ unformed s = record {
   loads = s .loads;
   tags = s .tags;
 }
+
+-- how many records a call may change: none or all
+abbrev pub recordsChanged : rules.Call → ℕ
+recordsChanged (rules.load a w) = 0
+recordsChanged (rules.store a w v) = 0
+recordsChanged (rules.retry i) = 256
+recordsChanged (rules.commit k) = 256
+recordsChanged (rules.abort n) = 0
+recordsChanged rules.idle = 256
+recordsChanged rules.reply = 256
+recordsChanged rules.flush = 256
+recordsChanged (rules.show a) = 0

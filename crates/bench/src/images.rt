@@ -1,8 +1,11 @@
 // Images and states, each made from the other.
 ghost use mathlib.Core.Path.{_≡_};
 ghost use mathlib.Core.List.{map};
+ghost use mathlib.Core.Bool.{_&&_};
+ghost use Prim.Native.Nat.{_<_, _≤_};
+ghost use lib.ListN.{drop};
 ghost use Rattle.lists.specs.Padded.{every};
-ghost use Rattle.bench.specs.Images.{flagOf, openedRequest, requestedOf, lineNamed, requestStands, openedStore, imagedStore, openedLoad, imagedLoad, loadStands, openedTag, imagedTag, tagStands, openedOf, imagedOf, standsFor};
+ghost use Rattle.bench.specs.Images.{flagOf, openedRequest, requestedOf, lineNamed, requestStands, openedStore, imagedStore, openedLoad, imagedLoad, loadStands, openedTag, imagedTag, tagStands, zeroImage, ZeroFrom, openedOf, imagedOf, standsFor};
 use crate::Image;
 use crate::LoadImage;
 use crate::StoreImage;
@@ -225,7 +228,54 @@ fn open_tag(t: TagImage) -> Tag
     }
 }
 
-fn open_tags(tags: [TagImage; 256]) -> [Tag; 256]
+// t is all zero, and so were those before it.
+fn zero_too(already: bool, t: TagImage) -> bool
+    ensures { λ r. ⌜ r ≡ (already && zeroImage t) ⌝ }
+{
+    if t.valid as u32 + 256 * (t.dirty as u32) + 65536 * (t.line as u32) != 0 {
+        return false;
+    }
+    if t.age as u32 + 256 * (t.unused as u32) != 0 {
+        return false;
+    }
+    already
+}
+
+// The records from n on are all zero. (The loop has no early exit: in a well-formed state none would be taken.)
+fn zero_from(tags: [TagImage; 256], n: usize) -> bool
+    requires { ⌜ n ≤ 256 ⌝ }
+    ensures { λ r. ⌜ r ≡ every zeroImage (drop n tags) ⌝ }
+{
+    let mut zero = true;
+    let mut i = n;
+    while i < 256 {
+        let t = tags[i];
+        zero = zero_too(zero, t);
+        i += 1;
+    }
+    zero
+}
+
+// As many records as the figures ask for, 256 at most.
+fn figured(sets: u32, ways: u32) -> usize
+    ensures { λ r. ⌜ r ≤ 256 ⌝ }
+{
+    if 64 < sets {
+        return 256;
+    }
+    let n = sets as usize;
+    match ways {
+        1 => n,
+        2 => 2 * n,
+        3 => 3 * n,
+        4 => 4 * n,
+        _ => 256,
+    }
+}
+
+// The first n records, which alone need a look: those after them, if there are any, are zero.
+fn open_tags(tags: [TagImage; 256], n: usize) -> [Tag; 256]
+    requires { ⌜ ZeroFrom n tags ⌝ }
     ensures { λ r. ⌜ r ≡ map openedTag tags ⌝ }
 {
     let zero = Tag {
@@ -236,7 +286,7 @@ fn open_tags(tags: [TagImage; 256]) -> [Tag; 256]
     };
     let mut out = [zero; 256];
     let mut i: usize = 0;
-    while i < 256 {
+    while i < n {
         let t = tags[i];
         let e = open_tag(t);
         out[i] = e;
@@ -257,19 +307,14 @@ fn image_tag(t: Tag) -> TagImage
     }
 }
 
-fn image_tags(tags: [Tag; 256]) -> [TagImage; 256]
+// The images of the records: the first n are made, the others stand in the old image.
+fn image_tags(old: [TagImage; 256], tags: [Tag; 256], n: usize) -> [TagImage; 256]
+    requires { ⌜ (n ≤ 256) × (n < 256 → drop n old ≡ map imagedTag (drop n tags)) ⌝ }
     ensures { λ r. ⌜ r ≡ map imagedTag tags ⌝ }
 {
-    let zero = TagImage {
-        valid: 0,
-        dirty: 0,
-        line: 0,
-        age: 0,
-        unused: 0,
-    };
-    let mut out = [zero; 256];
+    let mut out = old;
     let mut i: usize = 0;
-    while i < 256 {
+    while i < n {
         let t = tags[i];
         let e = image_tag(t);
         out[i] = e;
@@ -290,11 +335,12 @@ fn tag_stands(t: TagImage) -> bool
     t.unused == 0
 }
 
-fn tags_stand(tags: [TagImage; 256]) -> bool
+fn tags_stand(tags: [TagImage; 256], n: usize) -> bool
+    requires { ⌜ ZeroFrom n tags ⌝ }
     ensures { λ r. ⌜ r ≡ every tagStands tags ⌝ }
 {
     let mut i: usize = 0;
-    while i < 256 {
+    while i < n {
         let t = tags[i];
         if tag_stands(t) {
             i += 1;
@@ -307,22 +353,36 @@ fn tags_stand(tags: [TagImage; 256]) -> bool
 
 // ---- the whole
 
+// How many records need a look: those after them, if there are any, are zero.
+pub(crate) fn used_records(image: Image) -> usize
+    ensures { λ r. ⌜ ZeroFrom r (image .tags) ⌝ }
+{
+    let n = figured(image.sets, image.ways);
+    let tags = image.tags;
+    if zero_from(tags, n) {
+        return n;
+    }
+    256
+}
+
 // The image stands for a state.
-pub(crate) fn stands(image: Image) -> bool
+pub(crate) fn stands(image: Image, n: usize) -> bool
+    requires { ⌜ ZeroFrom n (image .tags) ⌝ }
     ensures { λ r. ⌜ r ≡ standsFor image ⌝ }
 {
     if request_stands(image.requested, image.line) {
         let loads = image.loads;
         if loads_stand(loads) {
             let tags = image.tags;
-            return tags_stand(tags);
+            return tags_stand(tags, n);
         }
     }
     false
 }
 
 // The state of an image.
-pub(crate) fn opened(image: Image) -> State
+pub(crate) fn opened(image: Image, n: usize) -> State
+    requires { ⌜ ZeroFrom n (image .tags) ⌝ }
     ensures { λ r. ⌜ r ≡ openedOf image ⌝ }
 {
     let stores = image.stores;
@@ -337,18 +397,20 @@ pub(crate) fn opened(image: Image) -> State
         request: open_request(image.requested, image.line),
         stores: open_stores(stores),
         loads: open_loads(loads),
-        tags: open_tags(tags),
+        tags: open_tags(tags, n),
     }
 }
 
-// The image of a state.
-pub(crate) fn imaged(state: State) -> Image
+// The image of a state, whose records but the first n have their images in the old one.
+pub(crate) fn imaged(old: Image, state: State, n: usize) -> Image
+    requires { ⌜ (n ≤ 256) × (n < 256 → drop n (old .tags) ≡ map imagedTag (drop n (state .tags))) ⌝ }
     ensures { λ r. ⌜ r ≡ imagedOf state ⌝ }
 {
     let request = state.request;
     let stores = state.stores;
     let loads = state.loads;
     let tags = state.tags;
+    let images = old.tags;
     Image {
         sets: state.sets,
         ways: state.ways,
@@ -359,6 +421,6 @@ pub(crate) fn imaged(state: State) -> Image
         line: line_named(request),
         stores: image_stores(stores),
         loads: image_loads(loads),
-        tags: image_tags(tags),
+        tags: image_tags(images, tags, n),
     }
 }

@@ -1,10 +1,11 @@
 // A start and a call on an image, by value.
 ghost use mathlib.Core.Path.{_≡_};
+ghost use Prim.Native.Nat.{_≤_};
 ghost use Rattle.model.specs.State.{callOf};
 ghost use mathlib.Core.Option.{some};
 ghost use mathlib.Core.Bool.{true, false};
-ghost use Rattle.bench.specs.Images.{openedOf, standsFor};
-ghost use Rattle.bench.specs.Steps.{leftOf, started, called, stepped, unformed};
+ghost use Rattle.bench.specs.Images.{openedOf, standsFor, ZeroFrom};
+ghost use Rattle.bench.specs.Steps.{leftOf, started, called, stepped, unformed, recordsChanged};
 use crate::Image;
 use crate::ImageStep;
 use crate::images;
@@ -32,7 +33,7 @@ pub(crate) fn start_image(
             let state = r.state;
             ImageStep {
                 reply: replies::coded(12, 0, 0),
-                next: images::imaged(state),
+                next: images::imaged(image, state, 256),
             }
         }
         StartAnswer::NotAllowed(k) => ImageStep {
@@ -42,37 +43,68 @@ pub(crate) fn start_image(
     }
 }
 
+// How many records a call may change: none or all.
+fn records_changed(call: Call) -> usize
+    ensures { λ r. ⌜ (r ≡ recordsChanged (callOf call)) × (r ≤ 256) ⌝ }
+{
+    match call {
+        Call::Load(_, _) => 0,
+        Call::Store(_, _, _) => 0,
+        Call::Retry(_) => 256,
+        Call::Commit(_) => 256,
+        Call::Abort(_) => 0,
+        Call::Idle => 256,
+        Call::Reply => 256,
+        Call::Flush => 256,
+        Call::Show(_) => 0,
+    }
+}
+
 // A call on an image that stands for a state.
-fn step_state(image: Image, call: Call, cache: &mut [u8], memory: &mut [u8]) -> ImageStep
-    requires { ⌜ standsFor image ≡ true ⌝ }
+fn step_state(
+    image: Image,
+    used: usize,
+    call: Call,
+    cache: &mut [u8],
+    memory: &mut [u8],
+) -> ImageStep
+    requires { ⌜ (standsFor image ≡ true) × ZeroFrom used (image .tags) ⌝ }
     ensures { λ r. ⌜ leftOf r (now (cache .exit)) (now (memory .exit)) ≡ called (some (callOf call)) image (now (cache .entry)) (now (memory .entry)) ⌝ }
 {
-    let state = images::opened(image);
+    let state = images::opened(image, used);
     let r = state.step(call, cache, memory);
     let answer = r.answer;
     let next = r.next;
+    let n = records_changed(call);
     ImageStep {
         reply: replies::replied(answer, cache),
-        next: images::imaged(next),
+        next: images::imaged(image, next, n),
     }
 }
 
 // The image's state with a committed number above the last: not well formed, whatever the image is.
-fn unformed_state(image: Image) -> State
+fn unformed_state(image: Image, used: usize) -> State
+    requires { ⌜ ZeroFrom used (image .tags) ⌝ }
     ensures { λ r. ⌜ r ≡ unformed (openedOf image) ⌝ }
 {
-    let mut state = images::opened(image);
+    let mut state = images::opened(image, used);
     state.last = 0;
     state.committed = 1;
     state
 }
 
 // A call on an image that stands for none: the state is refused, and the image stays.
-fn refuse_image(image: Image, call: Call, cache: &mut [u8], memory: &mut [u8]) -> ImageStep
-    requires { ⌜ standsFor image ≡ false ⌝ }
+fn refuse_image(
+    image: Image,
+    used: usize,
+    call: Call,
+    cache: &mut [u8],
+    memory: &mut [u8],
+) -> ImageStep
+    requires { ⌜ (standsFor image ≡ false) × ZeroFrom used (image .tags) ⌝ }
     ensures { λ r. ⌜ leftOf r (now (cache .exit)) (now (memory .exit)) ≡ called (some (callOf call)) image (now (cache .entry)) (now (memory .entry)) ⌝ }
 {
-    let state = unformed_state(image);
+    let state = unformed_state(image, used);
     let r = state.step(call, cache, memory);
     let answer = r.answer;
     ImageStep {
@@ -95,10 +127,11 @@ pub(crate) fn step_image(
     let numbered = replies::call_numbered(call, x, y, z);
     match numbered {
         Numbered::Known(c) => {
-            if images::stands(image) {
-                return step_state(image, c, cache, memory);
+            let used = images::used_records(image);
+            if images::stands(image, used) {
+                return step_state(image, used, c, cache, memory);
             }
-            refuse_image(image, c, cache, memory)
+            refuse_image(image, used, c, cache, memory)
         }
         Numbered::Unknown => ImageStep {
             reply: replies::coded(0, 6, 0),

@@ -24,7 +24,7 @@ use Rattle.rules.specs.Calls as rules
 use Rattle.rules.specs.Runs.{outcome, answer}
 use Rattle.rules.proofs.Checks.{outcome-by}
 use Rattle.lines.specs.Refusal.{hierarchy}
-use Rattle.model.specs.Tables.{tabled, usedTags, victimIn, usedBy, installedIn, flushedTags, flushedMemory}
+use Rattle.model.specs.Tables.{tabled, usedTags, victimIn, installedIn, flushedTags, flushedMemory}
 use Rattle.model.proofs.CacheLoops.{used-line, flushed-all, filledAt, fill-copies, victim-slot}
 use Rattle.model.specs.State.{queuesOf, hierarchyOf, worldOf, outcomeOf, idleRequest}
 use Rattle.model.specs.Shows.{partIn, shownPart}
@@ -43,14 +43,20 @@ each-used sets ways size cache memory (l ∷ ls) tags =
     ∙ each-used sets ways size cache memory ls (usedTags sets ways (lineOf (l .address)) tags)
     ∙ ap (λ (b : Hierarchy). hierarchy sets ways size (useEach ls b .tags) cache memory) (sym (used-line (lineOf (l .address)) (tabled sets ways tags)))
 
--- the lines of the answered loads, one load further
-pub answered-step :
-    (sets ways k : ℕ) (l : LoadEntry) (ls : List LoadEntry) (tags : List Tag)
-    → useEach (filter (answeredBy k) (l ∷ ls)) (tabled sets ways tags) .tags ≡ useEach (filter (answeredBy k) ls) (tabled sets ways (usedBy sets ways k l tags)) .tags
-unfolding filter useEach usedBy
-answered-step sets ways k l ls tags = cases (answeredBy k l)
-    (λ t. rw t (ap (λ (b : Hierarchy). useEach (filter (answeredBy k) ls) b .tags) (used-line (lineOf (l .address)) (tabled sets ways tags))))
-    (λ t. rw t)
+-- the lines of the answered loads, one load further: it uses its line, or it is not answered
+module _ (sets ways k : ℕ) (l : LoadEntry) (ls : List LoadEntry) (tags : List Tag) where
+  pub answered-step :
+      answeredBy k l ≡ true
+      → useEach (filter (answeredBy k) (l ∷ ls)) (tabled sets ways tags) .tags
+      ≡ useEach (filter (answeredBy k) ls) (tabled sets ways (usedTags sets ways (lineOf (l .address)) tags)) .tags
+  unfolding filter useEach
+  answered-step t = rw t (ap (λ (b : Hierarchy). useEach (filter (answeredBy k) ls) b .tags) (used-line (lineOf (l .address)) (tabled sets ways tags)))
+
+  pub other-step :
+      answeredBy k l ≡ false
+      → useEach (filter (answeredBy k) (l ∷ ls)) (tabled sets ways tags) .tags ≡ useEach (filter (answeredBy k) ls) (tabled sets ways tags) .tags
+  unfolding filter
+  other-step t = rw t
 
 -- ---- idle
 

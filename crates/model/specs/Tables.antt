@@ -8,8 +8,6 @@ use lib.ListN.{set}
 use Rattle.lists.specs.Counted.{firstFrom, greatestFrom, stepsFrom, eachFrom}
 use Rattle.rules.specs.declared.Tag.{Tag}
 use Rattle.rules.specs.Shape.{Hierarchy, tagAt, lineOf}
-use Rattle.rules.specs.Calls.{answeredBy}
-use Rattle.rules.specs.declared.LoadEntry.{LoadEntry}
 use Rattle.rules.specs.declared.StoreEntry.{StoreEntry}
 use Rattle.lines.specs.Refusal.{hierarchy}
 use Rattle.rules.specs.Lines.{present, agedAt, useLine, writeBackSlot}
@@ -46,10 +44,6 @@ abbrev pub DirtyInside : List Tag → ℕ → ℕ → Type 0
 DirtyInside tags n size = (k : ℕ) → k < n → tagAt tags k .dirty ≡ true → 16 * tagAt tags k .line + 16 ≤ size
 
 -- ---- commit and fill
-
--- the records once the line of an answered load numbered k or less is used, if it is present
-unfoldable pub usedBy : ℕ → ℕ → ℕ → LoadEntry → List Tag → List Tag
-usedBy sets ways k l tags = cond (answeredBy k l) (usedTags sets ways (lineOf (l .address)) tags) tags
 
 -- the records once line l is in slot v, valid and clean, and is used
 unfoldable pub installedIn : ℕ → ℕ → ℕ → ℕ → List Tag → List Tag

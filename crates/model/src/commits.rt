@@ -6,7 +6,7 @@ ghost use Rattle.lists.specs.Padded.{filter};
 ghost use Rattle.rules.specs.Calls.{answeredBy, useEach, commitRule, abortRule};
 ghost use Rattle.rules.specs.Calls as rules;
 ghost use Rattle.rules.specs.Runs.{outcome};
-ghost use Rattle.model.specs.Tables.{tabled, usedBy};
+ghost use Rattle.model.specs.Tables.{tabled};
 ghost use Rattle.model.specs.State.{queuesOf, hierarchyOf, outcomeOf, Shaped};
 use crate::Answer;
 use crate::State;
@@ -14,17 +14,6 @@ use crate::Step;
 use crate::cache;
 use rules::LoadEntry;
 use rules::Tag;
-
-// The line of an answered load numbered k or less is used, if it is present.
-fn use_answered(tags: [Tag; 256], sets: u32, ways: u32, l: LoadEntry, k: u32) -> [Tag; 256]
-    requires { ⌜ (0 < sets) × (sets ≤ 64) × (ways ≤ 4) ⌝ }
-    ensures { λ r. ⌜ r ≡ usedBy sets ways k l tags ⌝ }
-{
-    if load_queue::is_answered_by(l, k) {
-        return cache::use_line(tags, sets, ways, l.address / 16);
-    }
-    tags
-}
 
 // The lines of the answered loads numbered k or less are used, in number order.
 fn use_all_answered(
@@ -41,9 +30,11 @@ fn use_all_answered(
     let mut j: usize = 0;
     while j < 8 {
         let l = loads[j];
-        let used = use_answered(out, sets, ways, l, k);
-        out = used;
         j += 1;
+        if load_queue::is_answered_by(l, k) {
+            let used = cache::use_line(out, sets, ways, l.address / 16);
+            out = used;
+        }
     }
     out
 }

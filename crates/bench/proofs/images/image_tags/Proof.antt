@@ -1,20 +1,20 @@
--- `images::image_tags` meets its contract. The loop: the first i entries are made.
+-- `images::image_tags` meets its contract. The loop: the first i records have their images, the others are as they were.
 use Prim.Native.Nat.{_-_, _≤_}
 use mathlib.Core.Path.{_≡_, refl}
+use native.Mathlib.Omega.{arith}
 use lib.ListN.{length}
 use borrow.Author.Needs.{needs}
-use Rattle.bench.specs.Images.{imagedTag}
-use Rattle.bench.proofs.Standing.{noTagImage}
 use Rattle.rules.specs.Shape.{noTag}
-use Rattle.bench.proofs.Mapped.{made, made-step, made-all}
+use Rattle.bench.specs.Images.{imagedTag}
+use Rattle.bench.proofs.Mapped.{over, over-step, over-all}
 use Rattle.bench.proofs.images.image_tags.Statement.{statement}
 use Rattle.bench.proofs.images.image_tags.Tie as tie
 
 abbrev Inv-loop : tie.InvT-loop
-Inv-loop tags out₀ i₀ out i = (i ≤ 256) × (out ≡ made imagedTag noTagImage i (256 - i) tags)
+Inv-loop n tags out₀ i₀ out i = (i ≤ n) × (out ≡ over imagedTag i tags out₀)
 
 abbrev μ-loop : tie.MeasureT-loop
-μ-loop tags out₀ i₀ out i = 256 - i
+μ-loop n tags out₀ i₀ out i = n - i
 
 loop-holds : tie.Need-loop-holds Inv-loop μ-loop
 loop-holds c = (search needs, refl)
@@ -42,16 +42,18 @@ loop-less c = search needs
 
 loop-again : tie.Need-loop-again Inv-loop μ-loop
 loop-again c =
-    let long : length (c .before .before .before .before .args .t1) ≡ 256 = search needs in (
+    let long : length (c .before .before .before .before .args .t2) ≡ 256 = search needs in
+    let old : length (c .before .before .before .before .args .old) ≡ 256 = search needs in (
       search needs,
-      made-step imagedTag noTagImage noTag (c .before .before .before .loop .i) 256 (c .before .before .before .before .args .t1) (c .before .before .before .loop .out) (c .image-tag .result) long (c .before .before .loop-test .taken)
-          (c .before .before .before .loop .inv .1) (c .image-tag .ensures),
+      over-step imagedTag noTag (c .before .before .before .loop .i) (c .before .before .before .before .args .t2) (c .before .before .before .before .args .old) (c .before .before .before .loop .out) (c .image-tag .result) (omega (arith, c .before .before .before .before .pre .0)) (omega (arith, c .before .before .before .before .pre .0)) (c .before .before .before .loop .inv .1) (c .image-tag .ensures),
     )
 
 returns : tie.Need-returns Inv-loop μ-loop
 returns c =
-    let long : length (c .before .before .args .t1) ≡ 256 = search needs in
-    made-all imagedTag noTagImage (c .before .loop .i) 256 (c .before .before .args .t1) (c .before .loop .out) long (c .loop-test .left) (c .before .loop .inv .1)
+    let long : length (c .before .before .args .t2) ≡ 256 = search needs in
+    let old : length (c .before .before .args .old) ≡ 256 = search needs in
+    let e : c .before .loop .i ≡ c .before .before .args .n = omega arith in
+    over-all imagedTag 256 (c .before .before .args .n) (c .before .before .args .t2) (c .before .before .args .old) (c .before .loop .out) long old (c .before .before .pre .1) (rw e at (c .before .loop .inv .1))
 
 pub image-tags-spec : {M : Type 1} → statement M
 image-tags-spec =

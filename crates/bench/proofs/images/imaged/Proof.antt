@@ -17,11 +17,11 @@ image-loads-requires : tie.Need-image-loads-requires
 image-loads-requires c κs = search needs
 
 image-tags-requires : tie.Need-image-tags-requires
-image-tags-requires c κs = search needs
+image-tags-requires c κs = c .before .before .before .before .before .before .before .before .pre
 
 returns : tie.Need-returns
 unfolding imagedOf
-returns c = let s = c .before .before .before .before .before .before .before .before .args .state in λ j. record { sets = s .sets; ways = s .ways; size = s .size; last = s .last; committed = s .committed; requested = c .before .before .before .before .requested .ensures j; line = c .before .before .before .line-named .ensures j; stores = c .before .before .image-stores .ensures j; loads = c .before .image-loads .ensures j; tags = c .image-tags .ensures j }
+returns c = let s = c .before .before .before .before .before .before .before .before .before .args .state in λ j. record { sets = s .sets; ways = s .ways; size = s .size; last = s .last; committed = s .committed; requested = c .before .before .before .before .requested .ensures j; line = c .before .before .before .line-named .ensures j; stores = c .before .before .image-stores .ensures j; loads = c .before .image-loads .ensures j; tags = c .image-tags .ensures j }
 
 pub imaged-spec : {M : Type 1} → statement M
 imaged-spec =

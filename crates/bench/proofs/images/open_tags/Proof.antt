@@ -1,20 +1,21 @@
 -- `images::open_tags` meets its contract. The loop: the first i entries are made.
 use Prim.Native.Nat.{_-_, _≤_}
 use mathlib.Core.Path.{_≡_, refl}
+use native.Mathlib.Omega.{arith}
 use lib.ListN.{length}
 use borrow.Author.Needs.{needs}
 use Rattle.bench.specs.Images.{openedTag}
-use Rattle.bench.proofs.Standing.{noTagImage}
 use Rattle.rules.specs.Shape.{noTag}
-use Rattle.bench.proofs.Mapped.{made, made-step, made-all}
+use Rattle.bench.proofs.Standing.{noTagImage, rest-opened}
+use Rattle.bench.proofs.Mapped.{made, made-step, made-most}
 use Rattle.bench.proofs.images.open_tags.Statement.{statement}
 use Rattle.bench.proofs.images.open_tags.Tie as tie
 
 abbrev Inv-loop : tie.InvT-loop
-Inv-loop tags out₀ i₀ out i = (i ≤ 256) × (out ≡ made openedTag noTag i (256 - i) tags)
+Inv-loop n tags out₀ i₀ out i = (i ≤ n) × (out ≡ made openedTag noTag i (256 - i) tags)
 
 abbrev μ-loop : tie.MeasureT-loop
-μ-loop tags out₀ i₀ out i = 256 - i
+μ-loop n tags out₀ i₀ out i = n - i
 
 loop-holds : tie.Need-loop-holds Inv-loop μ-loop
 loop-holds c = (search needs, refl)
@@ -44,14 +45,14 @@ loop-again : tie.Need-loop-again Inv-loop μ-loop
 loop-again c =
     let long : length (c .before .before .before .before .args .t1) ≡ 256 = search needs in (
       search needs,
-      made-step openedTag noTag noTagImage (c .before .before .before .loop .i) 256 (c .before .before .before .before .args .t1) (c .before .before .before .loop .out) (c .open-tag .result) long (c .before .before .loop-test .taken)
-          (c .before .before .before .loop .inv .1) (c .open-tag .ensures),
+      made-step openedTag noTag noTagImage (c .before .before .before .loop .i) 256 (c .before .before .before .before .args .t1) (c .before .before .before .loop .out) (c .open-tag .result) long (omega (arith, c .before .before .before .before .pre .0)) (c .before .before .before .loop .inv .1) (c .open-tag .ensures),
     )
 
 returns : tie.Need-returns Inv-loop μ-loop
 returns c =
     let long : length (c .before .before .args .t1) ≡ 256 = search needs in
-    made-all openedTag noTag (c .before .loop .i) 256 (c .before .before .args .t1) (c .before .loop .out) long (c .loop-test .left) (c .before .loop .inv .1)
+    let e : c .before .loop .i ≡ c .before .before .args .n = omega arith in
+    made-most openedTag noTag (c .before .before .args .n) 256 (c .before .before .args .t1) (c .before .loop .out) long (rest-opened (c .before .before .args .n) (c .before .before .args .t1) long (c .before .before .pre)) (rw e at (c .before .loop .inv .1))
 
 pub open-tags-spec : {M : Type 1} → statement M
 open-tags-spec =

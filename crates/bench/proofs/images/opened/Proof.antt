@@ -14,7 +14,7 @@ open-loads-requires : tie.Need-open-loads-requires
 open-loads-requires c κs = search needs
 
 open-tags-requires : tie.Need-open-tags-requires
-open-tags-requires c κs = search needs
+open-tags-requires c κs = c .before .before .before .before .before .before .pre
 
 returns : tie.Need-returns
 unfolding openedOf

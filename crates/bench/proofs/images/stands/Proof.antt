@@ -12,7 +12,7 @@ loads-stand-requires : tie.Need-loads-stand-requires
 loads-stand-requires c κs = search needs
 
 tags-stand-requires : tie.Need-tags-stand-requires
-tags-stand-requires c κs = search needs
+tags-stand-requires c κs = c .before .before .before .before .before .before .pre
 
 returns : tie.Need-returns
 unfolding standsFor

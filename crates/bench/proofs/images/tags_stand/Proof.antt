@@ -5,17 +5,17 @@ use native.Mathlib.Omega.{arith}
 use lib.ListN.{length, drop}
 use borrow.Author.Needs.{needs}
 use Rattle.lists.specs.Padded.{every}
-use Rattle.lists.proofs.Loops.{every-hit, every-miss, every-end}
+use Rattle.lists.proofs.Loops.{every-hit, every-miss}
 use Rattle.bench.specs.Images.{tagStands}
-use Rattle.bench.proofs.Standing.{noTagImage}
+use Rattle.bench.proofs.Standing.{noTagImage, rest-stands}
 use Rattle.bench.proofs.images.tags_stand.Statement.{statement}
 use Rattle.bench.proofs.images.tags_stand.Tie as tie
 
 abbrev Inv-loop : tie.InvT-loop
-Inv-loop tags i₀ i = (i ≤ 256) × (every tagStands tags ≡ every tagStands (drop i tags))
+Inv-loop n tags i₀ i = (i ≤ n) × (every tagStands tags ≡ every tagStands (drop i tags))
 
 abbrev μ-loop : tie.MeasureT-loop
-μ-loop tags i₀ i = 256 - i
+μ-loop n tags i₀ i = n - i
 
 loop-holds : tie.Need-loop-holds Inv-loop μ-loop
 loop-holds c = (search needs, refl)
@@ -38,17 +38,18 @@ loop-less c = search needs
 loop-again : tie.Need-loop-again Inv-loop μ-loop
 loop-again c =
     let long : length (c .before .before .before .before .before .args .t1) ≡ 256 = search needs in
-    (search needs, c .before .before .before .before .loop .inv .1 ∙ every-hit tagStands noTagImage (c .before .before .before .before .before .args .t1) (c .before .before .before .before .loop .i) (omega arith) (sym (c .before .tag-stands .ensures) ∙ c .if1 .taken))
+    (search needs, c .before .before .before .before .loop .inv .1 ∙ every-hit tagStands noTagImage (c .before .before .before .before .before .args .t1) (c .before .before .before .before .loop .i) (omega (arith, c .before .before .before .before .before .pre .0)) (sym (c .before .tag-stands .ensures) ∙ c .if1 .taken))
 
 returns : tie.Need-returns Inv-loop μ-loop
 returns c =
     let long : length (c .before .before .before .before .before .args .t1) ≡ 256 = search needs in
-    sym (c .before .before .before .before .loop .inv .1 ∙ every-miss tagStands noTagImage (c .before .before .before .before .before .args .t1) (c .before .before .before .before .loop .i) (omega arith) (sym (c .before .tag-stands .ensures) ∙ c .if1 .left))
+    sym (c .before .before .before .before .loop .inv .1 ∙ every-miss tagStands noTagImage (c .before .before .before .before .before .args .t1) (c .before .before .before .before .loop .i) (omega (arith, c .before .before .before .before .before .pre .0)) (sym (c .before .tag-stands .ensures) ∙ c .if1 .left))
 
 returns-2 : tie.Need-returns-2 Inv-loop μ-loop
 returns-2 c =
     let long : length (c .before .before .args .t1) ≡ 256 = search needs in
-    sym (c .before .loop .inv .1 ∙ every-end tagStands noTagImage (c .before .before .args .t1) (c .before .loop .i) (omega arith))
+    let e : c .before .loop .i ≡ c .before .before .args .n = omega arith in
+    sym ((rw e at (c .before .loop .inv .1)) ∙ rest-stands (c .before .before .args .n) (c .before .before .args .t1) long (c .before .before .pre))
 
 pub tags-stand-spec : {M : Type 1} → statement M
 tags-stand-spec =

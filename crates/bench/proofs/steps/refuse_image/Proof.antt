@@ -9,7 +9,7 @@ use Rattle.bench.proofs.steps.refuse_image.Statement.{statement}
 use Rattle.bench.proofs.steps.refuse_image.Tie as tie
 
 unformed-state-requires : tie.Need-unformed-state-requires
-unformed-state-requires c κs = search needs
+unformed-state-requires c κs = c .before .before .pre .1
 
 step-requires : tie.Need-step-requires
 step-requires c κs = search needs
@@ -24,7 +24,7 @@ same-length-2 : tie.Need-same-length-2
 same-length-2 c = search needs
 
 returns : tie.Need-returns
-returns c = image-refused _ _ _ _ (c .before .before .before .before .before .before .step .result) _ _ _ (c .before .before .before .before .before .before .step .ensures) _ (c .replied .ensures) (c .before .before .before .before .before .before .before .before .before .unformed-state .ensures) (c .before .before .before .before .before .before .before .before .before .before .before .before .pre) refl
+returns c = image-refused _ _ _ _ (c .before .before .before .before .before .before .step .result) _ _ _ (c .before .before .before .before .before .before .step .ensures) _ (c .replied .ensures) (c .before .before .before .before .before .before .before .before .before .unformed-state .ensures) (c .before .before .before .before .before .before .before .before .before .before .before .before .pre .0) refl
 
 pub refuse-image-spec : {M : Type 1} → statement M
 refuse-image-spec =

@@ -11,11 +11,14 @@ call-numbered-requires c κs = search needs
 enum-known-numbered : tie.Need-enum-known-numbered
 enum-known-numbered c = search needs
 
+used-records-requires : tie.Need-used-records-requires
+used-records-requires c κs = search needs
+
 stands-requires : tie.Need-stands-requires
-stands-requires c κs = search needs
+stands-requires c κs = c .used-records .ensures
 
 step-state-requires : tie.Need-step-state-requires
-step-state-requires c κs = sym (c .before .before .before .stands .ensures) ∙ c .before .before .if1 .taken
+step-state-requires c κs = (sym (c .before .before .before .stands .ensures) ∙ c .before .before .if1 .taken, c .before .before .before .before .used-records .ensures)
 
 same-length : tie.Need-same-length
 same-length c = search needs
@@ -24,10 +27,10 @@ same-length-2 : tie.Need-same-length-2
 same-length-2 c = search needs
 
 returns : tie.Need-returns
-returns c = known-stepped _ _ _ _ _ _ _ _ (c .before .before .before .before .before .before .before .before .before .before .before .before .call-numbered .ensures) _ (c .before .before .before .before .before .before .before .before .before .before .numbered .given .1) _ (c .before .before .before .before .step-state .ensures)
+returns c = known-stepped _ _ _ _ _ _ _ _ (c .before .before .before .before .before .before .before .before .before .before .before .before .before .call-numbered .ensures) _ (c .before .before .before .before .before .before .before .before .before .before .before .numbered .given .1) _ (c .before .before .before .before .step-state .ensures)
 
 refuse-image-requires : tie.Need-refuse-image-requires
-refuse-image-requires c κs = sym (c .before .before .before .stands .ensures) ∙ c .before .before .if1 .left
+refuse-image-requires c κs = (sym (c .before .before .before .stands .ensures) ∙ c .before .before .if1 .left, c .before .before .before .before .used-records .ensures)
 
 enum-told : tie.Need-enum-told
 enum-told c = search needs
@@ -42,7 +45,7 @@ same-length-4 : tie.Need-same-length-4
 same-length-4 c = search needs
 
 returns-2 : tie.Need-returns-2
-returns-2 c = known-stepped _ _ _ _ _ _ _ _ (c .before .before .before .before .before .before .before .before .before .before .before .before .call-numbered .ensures) _ (c .before .before .before .before .before .before .before .before .before .before .numbered .given .1) _ (c .before .before .before .before .refuse-image .ensures)
+returns-2 c = known-stepped _ _ _ _ _ _ _ _ (c .before .before .before .before .before .before .before .before .before .before .before .before .before .call-numbered .ensures) _ (c .before .before .before .before .before .before .before .before .before .before .before .numbered .given .1) _ (c .before .before .before .before .refuse-image .ensures)
 
 returns-3 : tie.Need-returns-3
 returns-3 c = unknown-stepped _ _ _ _ _ _ _ _ (c .before .before .before .call-numbered .ensures) (c .before .enum-told .given .1) _ (c .coded .ensures) refl
@@ -53,6 +56,7 @@ step-image-spec =
     (tie.spec
     call-numbered-requires
     enum-known-numbered
+    used-records-requires
     stands-requires
     step-state-requires
     same-length

@@ -6,14 +6,10 @@ use Rattle.bench.proofs.steps.unformed_state.Statement.{statement}
 use Rattle.bench.proofs.steps.unformed_state.Tie as tie
 
 opened-requires : tie.Need-opened-requires
-opened-requires c κs = search needs
+opened-requires c κs = c .pre
 
 returns : tie.Need-returns
 returns c = ap unformed (c .opened .ensures)
 
 pub unformed-state-spec : {M : Type 1} → statement M
-unformed-state-spec =
-    tie.close
-    (tie.spec
-    opened-requires
-    returns)
+unformed-state-spec = tie.close (tie.spec opened-requires returns)

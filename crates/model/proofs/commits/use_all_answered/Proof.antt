@@ -6,11 +6,11 @@ use Prim.Native.Nat.{_-_, _≤_}
 use lib.ListN.{length, drop}
 use Rattle.lists.specs.Padded.{filter}
 use Rattle.lists.proofs.Loops.{rest-cons, rest-none}
-use Rattle.rules.specs.Shape.{noLoad}
+use Rattle.rules.specs.Shape.{noLoad, lineOf}
 use Rattle.rules.specs.Calls.{answeredBy, useEach}
 use Rattle.model.specs.Tables.{tabled}
 use Rattle.model.proofs.Facts.{length-of}
-use Rattle.model.proofs.Moves.{answered-step}
+use Rattle.model.proofs.Moves.{answered-step, other-step}
 use Rattle.model.proofs.commits.use_all_answered.Statement.{statement}
 use Rattle.model.proofs.commits.use_all_answered.Tie as tie
 
@@ -29,19 +29,31 @@ mul-l c = search needs
 array-copy-out-l : tie.Need-array-copy-out-l Inv-loop μ-loop
 array-copy-out-l c = search needs
 
-use-answered-requires : tie.Need-use-answered-requires Inv-loop μ-loop
-use-answered-requires c κs = search needs
-
 add-j : tie.Need-add-j Inv-loop μ-loop
 add-j c = search needs
+
+is-answered-by-requires : tie.Need-is-answered-by-requires Inv-loop μ-loop
+is-answered-by-requires c κs = search needs
+
+use-line-requires : tie.Need-use-line-requires Inv-loop μ-loop
+use-line-requires c κs = search needs
 
 loop-less : tie.Need-loop-less Inv-loop μ-loop
 loop-less c = search needs
 
 loop-again : tie.Need-loop-again Inv-loop μ-loop
+unfolding lineOf
 loop-again c =
-    let h : length (c .before .before .before .before .args .t4) ≡ 8 = search (needs, length-of) in
-    (search needs, c .before .before .before .loop .inv .1 ∙ rw (rest-cons (answeredBy (c .before .before .before .before .args .k)) noLoad (c .before .before .before .before .args .t4) (c .before .before .before .loop .j) (omega arith)) (answered-step _ _ _ _ _ _ ∙ rw (c .use-answered .ensures)))
+    let h : length (c .before .before .before .before .before .before .before .args .t4) ≡ 8 = search (needs, length-of) in
+    (search needs, c .before .before .before .before .before .before .loop .inv .1 ∙ rw (rest-cons (answeredBy (c .before .before .before .before .before .before .before .args .k)) noLoad (c .before .before .before .before .before .before .before .args .t4) (c .before .before .before .before .before .before .loop .j) (omega arith)) (answered-step _ _ _ _ _ _ (sym (c .before .before .before .is-answered-by .ensures) ∙ c .before .before .if1 .taken) ∙ rw (c .use-line .ensures)))
+
+loop-less-2 : tie.Need-loop-less-2 Inv-loop μ-loop
+loop-less-2 c = search needs
+
+loop-again-2 : tie.Need-loop-again-2 Inv-loop μ-loop
+loop-again-2 c =
+    let h : length (c .before .before .before .before .before .args .t4) ≡ 8 = search (needs, length-of) in
+    (search needs, c .before .before .before .before .loop .inv .1 ∙ rw (rest-cons (answeredBy (c .before .before .before .before .before .args .k)) noLoad (c .before .before .before .before .before .args .t4) (c .before .before .before .before .loop .j) (omega arith)) (other-step _ _ _ _ _ _ (sym (c .before .is-answered-by .ensures) ∙ c .if1 .left)))
 
 returns : tie.Need-returns Inv-loop μ-loop
 unfolding filter useEach
@@ -58,8 +70,11 @@ use-all-answered-spec =
     loop-holds
     mul-l
     array-copy-out-l
-    use-answered-requires
     add-j
+    is-answered-by-requires
+    use-line-requires
     loop-less
     loop-again
+    loop-less-2
+    loop-again-2
     returns)
