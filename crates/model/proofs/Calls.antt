@@ -13,7 +13,7 @@ use Rattle.rules.specs.Calls.{Call, Check, widthAllowed, load, store, refused, 
 use Rattle.rules.specs.WellFormed.{wellFormed}
 use Rattle.rules.specs.Runs.{stateChecks, refusal, outcome}
 use Rattle.rules.proofs.Checks.{shut, malformed, opened, checked, guarded-append, guarded-passes}
-use Rattle.entries.specs.Good.{sized}
+use Rattle.queue_checks.specs.Good.{sized}
 use Rattle.model.specs.State.{checkedAccess, storeRest}
 use Rattle.model.specs.declared.access.Access.{Access}
 use Rattle.model.specs.declared.access.Checked.the-variants.{Passed, Failed}

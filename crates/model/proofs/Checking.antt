@@ -8,7 +8,7 @@ use borrow.Author.Tests.{le-leb, eq-eqb}
 use native.Mathlib.Omega.{arith}
 use Rattle.lists.specs.Padded.{every}
 use Rattle.lists.proofs.Cond.{cases}
-use Rattle.lines.specs.Refusal.{linesRefusal}
+use Rattle.line_checks.specs.Refusal.{linesRefusal}
 use Rattle.rules.specs.declared.Request.{Request}
 use Rattle.rules.specs.declared.Request.the-variants.{Free, Line}
 use Rattle.rules.specs.Lines.{slotOf, present, useLine}
@@ -16,7 +16,7 @@ use Rattle.rules.specs.Shape.{Queues, Hierarchy, fits, topNumber}
 use Rattle.rules.specs.Calls.{guarded, storeReady}
 use Rattle.rules.specs.WellFormed.{freeZero, freePlacesLast, committedUpToLast, numbersRise, numbersUpToLast, numbersApart, accessesPass, committedWait, waitingUncovered, storePasses, loadPasses, requestAbsent, requestInside, requestWanted, linesFormed, queuesFormed, wellFormed}
 use Rattle.rules.specs.Runs.{stateChecks}
-use Rattle.entries.specs.Good.{queuesGood, queuesWith, sized}
+use Rattle.queue_checks.specs.Good.{queuesGood, queuesWith, sized}
 use Rattle.model.specs.Tables.{tabled, usedTags}
 use Rattle.model.proofs.CacheLoops.{used-line}
 use Rattle.model.specs.State.{queuesOf, hierarchyOf}

@@ -18,10 +18,10 @@ use Rattle.rules.specs.declared.Request.the-variants.{Line}
 use Rattle.rules.specs.Shape.{Queues, Hierarchy, setsAllowed, figuresAllowed, fits, noLoad, noStore, isFreeLoad, isFreeStore}
 use Rattle.rules.specs.Calls.{widthAllowed, passes, accessChecks, waitingAt, committedStore, oldestStore, storeReady}
 use Rattle.rules.specs.WellFormed.{wellFormed, loadPasses, storePasses, freeStoreZero, freeLoadZero, committedWaitAt, waitingUncoveredAt, requestAbsent, requestInside, requestWanted}
-use Rattle.rules.proofs.Parts.{Parts, parts, goodLoad, goodStore, goodRequest, load-passes, store-passes, good-load, good-store}
+use Rattle.rules.proofs.QueueView.{Parts, parts, goodLoad, goodStore, goodRequest, load-passes, store-passes, good-load, good-store}
 use Rattle.model.specs.State.{queuesOf, hierarchyOf, Shaped, Fine}
 use Rattle.rules.proofs.LineFacts.{fits-tells, good-tells}
-use Rattle.lines.proofs.Figures.{Figured, figures-tell}
+use Rattle.line_checks.proofs.Figures.{Figured, figures-tell}
 use Rattle.model.specs.Tables.{DirtyInside}
 use Rattle.model.specs.declared.State.{State}
 use Rattle.model.proofs.CacheLoops.{dirty-inside}

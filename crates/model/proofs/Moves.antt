@@ -23,7 +23,7 @@ use Rattle.rules.specs.Calls.{Outcome, wantsLine, oldestStore, storeReady, requ
 use Rattle.rules.specs.Calls as rules
 use Rattle.rules.specs.Runs.{outcome, answer}
 use Rattle.rules.proofs.Checks.{outcome-by}
-use Rattle.lines.specs.Refusal.{hierarchy}
+use Rattle.line_checks.specs.Refusal.{hierarchy}
 use Rattle.model.specs.Tables.{tabled, usedTags, victimIn, installedIn, flushedTags, flushedMemory}
 use Rattle.model.proofs.CacheLoops.{used-line, flushed-all, filledAt, fill-copies, victim-slot}
 use Rattle.model.specs.State.{queuesOf, hierarchyOf, worldOf, outcomeOf, idleRequest}

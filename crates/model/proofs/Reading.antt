@@ -20,7 +20,7 @@ use Rattle.model.specs.State.{Fine, answerOf}
 use Rattle.store_queue.specs.Forwarded.{forwarded}
 use Rattle.model.specs.Reads.{byteAs, readOf, byteFrom, byteOrLine, joinedTo, isLacking, answerTo}
 use Rattle.store_queue.specs.declared.Byte.the-variants.{Known, Unknown}
-use Rattle.model.specs.declared.reads.Read.the-variants.{Whole, Lacking}
+use Rattle.model.specs.declared.read.Read.the-variants.{Whole, Lacking}
 
 -- ---- values put together from bytes
 

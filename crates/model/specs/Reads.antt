@@ -10,8 +10,8 @@ use Rattle.rules.specs.Shape.{noStore}
 use Rattle.rules.specs.Forward.{olderCovers, storeByte}
 use Rattle.store_queue.specs.declared.Byte.{Byte}
 use Rattle.store_queue.specs.declared.Byte.the-variants.{Known, Unknown}
-use Rattle.model.specs.declared.reads.Read.{Read}
-use Rattle.model.specs.declared.reads.Read.the-variants.{Whole, Lacking}
+use Rattle.model.specs.declared.read.Read.{Read}
+use Rattle.model.specs.declared.read.Read.the-variants.{Whole, Lacking}
 use Rattle.model.specs.declared.Answer.{Answer}
 use Rattle.model.specs.declared.Answer.the-variants.{Value, Waits}
 

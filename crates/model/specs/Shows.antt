@@ -7,7 +7,7 @@ use lib.ListN.{length, take, drop}
 use Rattle.rules.specs.Shape.{World}
 use Rattle.rules.specs.Calls as rules
 use Rattle.rules.specs.Runs.{answer}
-use Rattle.model.specs.declared.shows.Part.{Part}
+use Rattle.model.specs.declared.show_line.Part.{Part}
 
 -- the place and the length of the part that an answer shows
 abbrev pub partIn : rules.Answer → Part

@@ -8,7 +8,7 @@ use Rattle.lists.specs.Padded.{any}
 use Rattle.rules.specs.Shape.{Queues, Hierarchy, World, world, isFreeStore}
 use Rattle.rules.specs.Calls.{Outcome, guarded, accessChecks}
 use Rattle.rules.specs.Calls as rules
-use Rattle.entries.specs.Good.{sized}
+use Rattle.queue_checks.specs.Good.{sized}
 use Rattle.model.specs.declared.State.{State}
 use Rattle.model.specs.declared.Step.{Step}
 use Rattle.model.specs.declared.Call.{Call}

@@ -9,7 +9,7 @@ use Rattle.lists.specs.Counted.{firstFrom, greatestFrom, stepsFrom, eachFrom}
 use Rattle.rules.specs.declared.Tag.{Tag}
 use Rattle.rules.specs.Shape.{Hierarchy, tagAt, lineOf}
 use Rattle.rules.specs.declared.StoreEntry.{StoreEntry}
-use Rattle.lines.specs.Refusal.{hierarchy}
+use Rattle.line_checks.specs.Refusal.{hierarchy}
 use Rattle.rules.specs.Lines.{present, agedAt, useLine, writeBackSlot}
 
 -- with no bytes

@@ -6,18 +6,21 @@ use rules::Request;
 use rules::StoreEntry;
 use rules::Tag;
 
+mod abort;
 mod access;
 mod cache;
-mod checks;
-mod commits;
-mod fills;
-mod idles;
-mod loads;
-mod reads;
-mod shows;
-mod starts;
-mod steps;
-mod stores;
+mod check;
+mod commit;
+mod flush;
+mod idle;
+mod load;
+mod read;
+mod reply;
+mod retry;
+mod show_line;
+mod start;
+mod step;
+mod store;
 
 // The state. A free place of a queue and an unused record are all zero.
 pub struct State {

@@ -2,10 +2,10 @@
 ghost use Prim.Native.Nat.{_≤_};
 ghost use lib.ListN.{length};
 use libc::STDOUT_FILENO;
-use play::Player;
+use script_play::Player;
 
 // What a read gave: whether there may be more, and the player after it.
-struct Turn {
+struct Reading {
     more: bool,
     player: Player,
 }
@@ -26,16 +26,16 @@ fn read_some(input: &mut [u8]) -> usize
 }
 
 // Reads once, plays what came and writes what it prints.
-fn read_turn(
+fn read_and_play(
     player: Player,
     input: &mut [u8],
     cache: &mut [u8],
     memory: &mut [u8],
     out: &mut [u8],
-) -> Turn {
+) -> Reading {
     let n = read_some(input);
     if n == 0 {
-        return Turn {
+        return Reading {
             more: false,
             player,
         };
@@ -43,7 +43,7 @@ fn read_turn(
     let r = player.play(&input[..n], cache, memory, out);
     write_front(out, r.written);
     let next = r.player;
-    Turn {
+    Reading {
         more: true,
         player: next,
     }
@@ -52,14 +52,14 @@ fn read_turn(
 // Until a read gives nothing. A proved loop ends, and nothing says that the input does: the turns count down from a number that no
 // run uses up.
 fn run(input: &mut [u8], cache: &mut [u8], memory: &mut [u8], out: &mut [u8]) -> Player {
-    let mut now = Turn {
+    let mut now = Reading {
         more: true,
         player: Player::new(),
     };
     let mut turns = u64::MAX;
     while turns > 0 && now.more {
         let p = now.player;
-        let next = read_turn(p, input, cache, memory, out);
+        let next = read_and_play(p, input, cache, memory, out);
         now = next;
         turns -= 1;
     }

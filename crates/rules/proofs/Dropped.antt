@@ -18,7 +18,7 @@ use Rattle.rules.specs.Runs.{outcome, answer, next, after, startWorld}
 use Rattle.rules.specs.Kept.{Formed}
 use Rattle.rules.specs.Dropped.{struck, NoAbortBelow, Dropped, DroppedStretch, DroppedAfterStart}
 use Rattle.rules.proofs.Checks.{shut, malformed, outcome-by}
-use Rattle.rules.proofs.Parts.{parts, goodStore, goodLoad, store-low, load-low}
+use Rattle.rules.proofs.QueueView.{parts, goodStore, goodLoad, store-low, load-low}
 use Rattle.rules.proofs.Squash.{squashedOutcome}
 use Rattle.rules.proofs.SquashFormed.{squash-formed}
 use Rattle.rules.proofs.Struck.{Hidden, Above, outcome-steady, outcome-hidden, outcome-squash}

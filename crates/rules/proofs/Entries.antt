@@ -22,7 +22,7 @@ use Rattle.rules.specs.Lines.{present, cachedByte}
 use Rattle.rules.specs.Forward.{olderCovers, loadByte, loadValue, someUncovered}
 use Rattle.rules.specs.Calls.{load, store, retry, commit, abort, reply, flush, check, passes, widthAllowed, accessChecks, valueCheck, numberCheck, callChecks, committedStore, waitingAt, isNone, answered, answeredBy, waitsBelow, oldestStore, storeReady, wantsLine}
 use Rattle.rules.specs.WellFormed.{alone, storePasses, loadPasses, committedWaitAt, waitingUncoveredAt, waitsFor}
-use Rattle.rules.proofs.Parts.{goodStore, goodLoad, store-zero, store-low, store-passes, good-store, load-zero, load-low, load-passes, load-waits, load-exposed, good-load}
+use Rattle.rules.proofs.QueueView.{goodStore, goodLoad, store-zero, store-low, store-passes, good-store, load-zero, load-low, load-passes, load-waits, load-exposed, good-load}
 
 -- ---- an access
 

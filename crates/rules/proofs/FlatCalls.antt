@@ -26,7 +26,7 @@ use Rattle.rules.specs.Runs.{refusal, outcome, answer, next}
 use Rattle.rules.specs.Flat.{flatOf, appliedAll, heldStore, below, upTo}
 use Rattle.rules.specs.Values.{FlatCall}
 use Rattle.rules.proofs.Checks.{outcome-by}
-use Rattle.rules.proofs.Parts.{Parts, parts, goodLoad, goodRequest, free-load}
+use Rattle.rules.proofs.QueueView.{Parts, parts, goodLoad, goodRequest, free-load}
 use Rattle.rules.proofs.Entries.{Ready, store-checked, reply-checked, fine, store-access, ready-tells, alone-tells}
 use Rattle.rules.proofs.QueuesKept.{oldest-good}
 use Rattle.rules.proofs.Kept.{request-absent}

@@ -24,7 +24,7 @@ use Rattle.rules.proofs.Checks.{outcome-by}
 use Rattle.rules.proofs.LineFacts.{good-tells}
 use Rattle.rules.proofs.LineRules.{LinesKept, save-all, shaped-slots}
 use Rattle.rules.proofs.FlatLines.{back-clean}
-use Rattle.rules.proofs.Parts.{parts}
+use Rattle.rules.proofs.QueueView.{parts}
 use Rattle.rules.proofs.Entries.{flush-checked}
 use Rattle.rules.proofs.Stored.{memory-back}
 use Rattle.rules.proofs.History.{Traced, TracedAt, run-traced}

@@ -26,7 +26,7 @@ use Rattle.rules.specs.Kept.{Formed}
 use Rattle.rules.specs.Values.{historyAt}
 use Rattle.rules.proofs.Checks.{outcome-by, rule-accepts}
 use Rattle.rules.proofs.Numbers.{rule-number}
-use Rattle.rules.proofs.Parts.{Parts, parts, goodLoad, store-given, load-low}
+use Rattle.rules.proofs.QueueView.{Parts, parts, goodLoad, store-given, load-low}
 use Rattle.rules.proofs.Entries.{commit-checked, abort-checked}
 use Rattle.rules.proofs.Stored.{all-append, flat-start}
 use Rattle.rules.proofs.FlatCalls.{storesAfter, clear, Moved, rule-moved}

@@ -26,7 +26,7 @@ use Rattle.rules.proofs.Checks.{guarded-numbered, opened, outcome-by, r
 use Rattle.rules.proofs.LineFacts.{Good, good-tells, good-is}
 use Rattle.rules.proofs.LineRules.{LinesKept, kept-refl, kept-then, kept-fits, use-line, write-store, save-all, fill-line}
 use Rattle.rules.proofs.LineStart.{start-fits, start-good}
-use Rattle.rules.proofs.Parts.{Parts, parts, whole, goodStore, goodLoad, goodRequest, good-store, good-load}
+use Rattle.rules.proofs.QueueView.{Parts, parts, whole, goodStore, goodLoad, goodRequest, good-store, good-load}
 use Rattle.rules.proofs.SquashFormed.{squash-formed}
 use Rattle.rules.proofs.Entries.{load-checked, store-checked, commit-checked, abort-checked, reply-checked, fine, line-inside, one-line, store-access, load-access, load-uncovered, ready-tells, for-is, wants-tells, tried, tried-waits, none-uncovered, some-present}
 use Rattle.rules.proofs.QueuesKept.{wantedBy, asks-line, other-lines, free-load-good, oldest-good, tried-good, load-joins, store-joins, answered-leaves, commits, marks, oldest-leaves, asks}

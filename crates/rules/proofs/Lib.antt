@@ -6,7 +6,7 @@ pub mod LineSteps
 pub mod LineRules
 pub mod LineStart
 pub mod FlatLines
-pub mod Parts
+pub mod QueueView
 pub mod Squash
 pub mod SquashFormed
 pub mod Struck

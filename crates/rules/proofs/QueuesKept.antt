@@ -24,7 +24,7 @@ use Rattle.rules.specs.Calls.{retry, passes, callChecks, waitingAt, next
 use Rattle.rules.specs.WellFormed.{freeStoreZero, freeLoadZero, storePasses, loadPasses, committedWaitAt, waitingUncoveredAt, alone, requestAbsent, requestInside, requestWanted, waitsFor, wellFormed}
 use Rattle.rules.proofs.LineFacts.{Good, good-is}
 use Rattle.rules.proofs.LineRules.{Shaped, shaped-fits}
-use Rattle.rules.proofs.Parts.{Parts, parts, whole, goodStore, goodLoad, goodRequest, store-low, load-low, load-given, load-passes, good-load}
+use Rattle.rules.proofs.QueueView.{Parts, parts, whole, goodStore, goodLoad, goodRequest, store-low, load-low, load-given, load-passes, good-load}
 use Rattle.rules.proofs.Entries.{Ready, store-later, load-later, waiting-map, not-covers, ready-tells, ready-is, not-below, answered-below, free-below, for-tells, for-is, free-for, retry-checked, at-tells, tried, tried-waits, still-waits, waits-not-answered, alone-map, free-apart}
 
 -- ---- the request

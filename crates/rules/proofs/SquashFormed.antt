@@ -19,7 +19,7 @@ use Rattle.rules.specs.Shape.{Queues, Hierarchy, noStore, noLoad, isFree
 use Rattle.rules.specs.Forward.{someUncovered}
 use Rattle.rules.specs.Calls.{youngStore, youngLoad, squash, oldestStore, storeReady}
 use Rattle.rules.specs.WellFormed.{freeStoreZero, freeLoadZero, storePasses, loadPasses, committedWaitAt, waitingUncoveredAt, alone, waitsFor, requestWanted, wellFormed}
-use Rattle.rules.proofs.Parts.{Parts, parts, whole, goodStore, goodLoad, goodRequest, store-zero, store-passes, good-store, load-zero, load-passes, load-waits, load-exposed, good-load}
+use Rattle.rules.proofs.QueueView.{Parts, parts, whole, goodStore, goodLoad, goodRequest, store-zero, store-passes, good-store, load-zero, load-passes, load-waits, load-exposed, good-load}
 use Rattle.rules.proofs.Squash.{covers-untouched, ready-squash, ready-committed, head-stays}
 
 module _ (n : ℕ) (q : Queues) (b : Hierarchy) (behind : q .committed < n) where

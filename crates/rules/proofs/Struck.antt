@@ -20,7 +20,7 @@ use Rattle.rules.specs.WellFormed.{wellFormed}
 use Rattle.rules.specs.Runs.{refusal, outcome}
 use Rattle.rules.specs.Dropped.{struck, abortsBelow}
 use Rattle.rules.proofs.Checks.{guarded-same, guarded-map, shut, opened, checked, outcome-by, rule-accepts}
-use Rattle.rules.proofs.Parts.{parts, goodStore, goodLoad, free-store, free-load}
+use Rattle.rules.proofs.QueueView.{parts, goodStore, goodLoad, free-store, free-load}
 use Rattle.rules.proofs.Squash.{squashedOutcome, n-positive, flush-check, flush-squash, reply-squash, show-squash, retry-check, retry-squash, commit-check, commit-squash, abort-check, idle-squash}
 
 -- ---- a struck call is hidden

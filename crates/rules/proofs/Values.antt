@@ -23,7 +23,7 @@ use Rattle.rules.specs.Runs.{refusal, answer, after, startWorld}
 use Rattle.rules.specs.Flat.{History, noHistory, below, added, noted, historyOf, loadOf, flatOf, appliedAll, heldStore, flatBefore}
 use Rattle.rules.specs.Values.{historyAt, Claim, AfterStart, FromState, RightValue, ValuesRight, InquiryAbout, InquiriesRight, FlatAfter}
 use Rattle.rules.proofs.Checks.{outcome-by}
-use Rattle.rules.proofs.Parts.{parts}
+use Rattle.rules.proofs.QueueView.{parts}
 use Rattle.rules.proofs.Entries.{Waits, tried, tried-waits}
 use Rattle.rules.proofs.Kept.{start-leaves}
 use Rattle.rules.proofs.Stored.{all-append, olderHeld, flatOlder}

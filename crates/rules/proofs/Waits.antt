@@ -20,7 +20,7 @@ use Rattle.rules.specs.WellFormed.{wellFormed}
 use Rattle.rules.specs.Runs.{answer}
 use Rattle.rules.specs.Values.{lacksByte, waitingLoad, WaitsExactly, LoadWaits, RetryWaits}
 use Rattle.rules.proofs.Checks.{outcome-by}
-use Rattle.rules.proofs.Parts.{Parts, parts}
+use Rattle.rules.proofs.QueueView.{Parts, parts}
 use Rattle.rules.proofs.Entries.{fine, load-checked, load-access, tried, tried-waits}
 use Rattle.rules.proofs.QueuesKept.{tried-good}
 use Rattle.rules.proofs.FlatLines.{fits-memory}

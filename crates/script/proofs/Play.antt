@@ -8,7 +8,7 @@ use lib.ListN.{length, take, length-take}
 use lib.Seq.{take-all}
 use borrow.Author.Tests.{lt-ltb, ltb-true, ltb-false}
 use Rattle.lists.proofs.Cond.{cases}
-use Rattle.script.specs.Lines.{commandOf}
+use Rattle.script.specs.Commands.{commandOf}
 use Rattle.script.specs.Play.{byteOutput, afterByte, output, afterBytes}
 use Rattle.script.specs.Claims.{CutsDoNotMatter, LinesHeldShort}
 

@@ -7,7 +7,7 @@ use mathlib.Core.Option.{Option, some, none}
 use lib.ListN.{take}
 use Rattle.lists.specs.Padded.{every}
 use Rattle.rules.specs.Calls.{retry}
-use Rattle.script.specs.Lines.{Command, make, commandOf}
+use Rattle.script.specs.Commands.{Command, make, commandOf}
 use Rattle.script.specs.Play.{Player, output, afterBytes, played}
 use Rattle.script.specs.Example.{ended, exampleLines, exampleAnswers, edgeInput, edgeAnswers, badLines, longLine, largestLine}
 

@@ -2,7 +2,7 @@
 use Prim.Native.Nat.{ℕ}
 use mathlib.Core.List.{List, [], _∷_, _++_}
 use lib.ListN.{replicate}
-use Rattle.script.specs.Lines.{lineFeed}
+use Rattle.script.specs.Commands.{lineFeed}
 
 -- lines, each with its LF
 unfoldable pub ended : List (List ℕ) → List ℕ

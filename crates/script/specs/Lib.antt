@@ -1,4 +1,4 @@
-pub mod Lines
+pub mod Commands
 pub mod Words
 pub mod Play
 pub mod Example

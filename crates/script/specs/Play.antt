@@ -8,38 +8,38 @@ use lib.ListN.{length, replicate}
 use Rattle.rules.specs.Shape.{World, lineBytes}
 use Rattle.rules.specs.Calls.{Call}
 use Rattle.rules.specs.Runs.{StartAnswer, ready, startRefused, startAnswer, startWorld, answer, next}
-use Rattle.script.specs.Lines.{Command, start, make, lineFeed, commandOf}
+use Rattle.script.specs.Commands.{Command, start, make, lineFeed, commandOf}
 use Rattle.script.specs.Words.{readyLine, refusedLine, answerLine}
 
 -- ---- a line
 
 -- what a line prints, and the run after it; there is none before an accepted G
-pub record Turn : Type 0 where
+pub record Effect : Type 0 where
   pub says : List ℕ
   pub run : Option World
 
 -- 6: "script line malformed, or a call before an accepted G"
-abbrev pub refusedTurn : ℕ → Option World → Turn
-refusedTurn k r = record { says = refusedLine k; run = r }
+abbrev pub refusedEffect : ℕ → Option World → Effect
+refusedEffect k r = record { says = refusedLine k; run = r }
 
 -- a refused G leaves the run that was going on
-abbrev pub startTurn : StartAnswer → World → Option World → Turn
-startTurn ready w r = record { says = readyLine; run = some w }
-startTurn (startRefused k) w r = refusedTurn k r
+abbrev pub startEffect : StartAnswer → World → Option World → Effect
+startEffect ready w r = record { says = readyLine; run = some w }
+startEffect (startRefused k) w r = refusedEffect k r
 
-abbrev pub callTurn : Call → Option World → Turn
-callTurn c none = refusedTurn 6 none
-callTurn c (some w) = record { says = answerLine (answer c w); run = some (next c w) }
+abbrev pub callEffect : Call → Option World → Effect
+callEffect c none = refusedEffect 6 none
+callEffect c (some w) = record { says = answerLine (answer c w); run = some (next c w) }
 
 abbrev pub zeros : ℕ → List ℕ
 zeros n = replicate n 0
 
 -- "G sets ways memory (memory zeroed)"
-unfoldable pub turn : Option Command → Option World → Turn
-turn none r = refusedTurn 6 r
-turn (some (start s w m)) r =
-    startTurn (startAnswer s w (zeros (s * w * lineBytes)) (zeros m)) (startWorld s w (zeros (s * w * lineBytes)) (zeros m)) r
-turn (some (make c)) r = callTurn c r
+unfoldable pub effect : Option Command → Option World → Effect
+effect none r = refusedEffect 6 r
+effect (some (start s w m)) r =
+    startEffect (startAnswer s w (zeros (s * w * lineBytes)) (zeros m)) (startWorld s w (zeros (s * w * lineBytes)) (zeros m)) r
+effect (some (make c)) r = callEffect c r
 
 -- ---- bytes
 
@@ -53,11 +53,11 @@ newPlayer = record { run = none; line = [] }
 
 -- a byte's output: "Lines end with LF", "One output line .. answers each"
 unfoldable pub byteOutput : ℕ → Player → List ℕ
-byteOutput b p = cond (eqb b lineFeed) (turn (commandOf (p .line)) (p .run) .says) []
+byteOutput b p = cond (eqb b lineFeed) (effect (commandOf (p .line)) (p .run) .says) []
 
 unfoldable pub afterByte : ℕ → Player → Player
 afterByte b p =
-    cond (eqb b lineFeed) (record { run = turn (commandOf (p .line)) (p .run) .run; line = [] })
+    cond (eqb b lineFeed) (record { run = effect (commandOf (p .line)) (p .run) .run; line = [] })
     (record { run = p .run; line = p .line ++ (b ∷ []) })
 
 -- ---- a part of the input

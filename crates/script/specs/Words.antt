@@ -4,7 +4,7 @@ use mathlib.Core.Bool.{cond}
 use mathlib.Core.List.{List, [], _∷_, _++_}
 use lib.Dec.{ltb}
 use Rattle.rules.specs.Calls.{Answer, stored, value, waits, committed, kept, drained, requested, idled, filled, flushed, shown, refused}
-use Rattle.script.specs.Lines.{lineFeed, space}
+use Rattle.script.specs.Commands.{lineFeed, space}
 
 -- ---- numbers
 

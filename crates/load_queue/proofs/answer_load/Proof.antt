@@ -8,10 +8,14 @@ is-waiting-at-requires : tie.Need-is-waiting-at-requires
 is-waiting-at-requires c κs = search needs
 
 returns : tie.Need-returns
-returns c = rw (sym (c .before .is-waiting-at .ensures) ∙ c .if1 .taken)
+returns c =
+    let is-waiting-at = c .before .is-waiting-at in
+    rw (sym (is-waiting-at .ensures) ∙ c .if1 .taken)
 
 returns-2 : tie.Need-returns-2
-returns-2 c = rw (sym (c .before .is-waiting-at .ensures) ∙ c .if1 .left)
+returns-2 c =
+    let is-waiting-at = c .before .is-waiting-at in
+    rw (sym (is-waiting-at .ensures) ∙ c .if1 .left)
 
 pub answer-load-spec : {M : Type 1} → statement M
 answer-load-spec = tie.close (tie.spec is-waiting-at-requires returns returns-2)

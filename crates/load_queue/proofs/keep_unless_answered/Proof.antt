@@ -9,7 +9,8 @@ is-answered-by-requires c κs = search needs
 
 returns : tie.Need-returns
 returns c =
-    let e = sym (c .before .is-answered-by .ensures) ∙ c .if1 .taken in
+    let is-answered-by = c .before .is-answered-by in
+    let e = sym (is-answered-by .ensures) ∙ c .if1 .taken in
     (rw e, rw e)
 
 packed-with-requires : tie.Need-packed-with-requires
@@ -17,7 +18,9 @@ packed-with-requires c κs = search needs
 
 returns-2 : tie.Need-returns-2
 returns-2 c =
-    let e = sym (c .before .before .is-answered-by .ensures) ∙ c .before .if1 .left in
+    let is-answered-by = c .before .before .is-answered-by in
+    let if1 = c .before .if1 in
+    let e = sym (is-answered-by .ensures) ∙ if1 .left in
     (rw e (c .packed-with .ensures .0), rw e (c .packed-with .ensures .1))
 
 pub keep-unless-answered-spec : {M : Type 1} → statement M

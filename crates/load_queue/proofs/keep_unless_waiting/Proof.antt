@@ -9,7 +9,8 @@ is-waiting-at-requires c κs = search needs
 
 returns : tie.Need-returns
 returns c =
-    let e = sym (c .before .is-waiting-at .ensures) ∙ c .if1 .taken in
+    let is-waiting-at = c .before .is-waiting-at in
+    let e = sym (is-waiting-at .ensures) ∙ c .if1 .taken in
     (rw e, rw e)
 
 packed-with-requires : tie.Need-packed-with-requires
@@ -17,7 +18,9 @@ packed-with-requires c κs = search needs
 
 returns-2 : tie.Need-returns-2
 returns-2 c =
-    let e = sym (c .before .before .is-waiting-at .ensures) ∙ c .before .if1 .left in
+    let is-waiting-at = c .before .before .is-waiting-at in
+    let if1 = c .before .if1 in
+    let e = sym (is-waiting-at .ensures) ∙ if1 .left in
     (rw e (c .packed-with .ensures .0), rw e (c .packed-with .ensures .1))
 
 pub keep-unless-waiting-spec : {M : Type 1} → statement M

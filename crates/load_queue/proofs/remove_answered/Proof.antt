@@ -29,7 +29,9 @@ array-copy-out-l : tie.Need-array-copy-out-l Inv-loop μ-loop
 array-copy-out-l c = search needs
 
 keep-unless-answered-requires : tie.Need-keep-unless-answered-requires Inv-loop μ-loop
-keep-unless-answered-requires c κs = omega (arith, pack-room _ noLoad (c .before .before .loop .inv .1))
+keep-unless-answered-requires c κs =
+    let loop = c .before .before .loop in
+    omega (arith, pack-room _ noLoad (loop .inv .1))
 
 add-at : tie.Need-add-at Inv-loop μ-loop
 add-at c = search needs

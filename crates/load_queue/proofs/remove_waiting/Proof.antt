@@ -29,7 +29,9 @@ array-copy-out-l : tie.Need-array-copy-out-l Inv-loop μ-loop
 array-copy-out-l c = search needs
 
 keep-unless-waiting-requires : tie.Need-keep-unless-waiting-requires Inv-loop μ-loop
-keep-unless-waiting-requires c κs = omega (arith, pack-room _ noLoad (c .before .before .loop .inv .1))
+keep-unless-waiting-requires c κs =
+    let loop = c .before .before .loop in
+    omega (arith, pack-room _ noLoad (loop .inv .1))
 
 add-k : tie.Need-add-k Inv-loop μ-loop
 add-k c = search needs

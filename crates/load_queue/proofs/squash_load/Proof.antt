@@ -8,7 +8,9 @@ no-load-requires : tie.Need-no-load-requires
 no-load-requires c κs = search needs
 
 returns : tie.Need-returns
-returns c = rw (le-leb _ _ (c .before .if1 .taken)) (c .no-load .ensures)
+returns c =
+    let if1 = c .before .if1 in
+    rw (le-leb _ _ (if1 .taken)) (c .no-load .ensures)
 
 returns-2 : tie.Need-returns-2
 returns-2 c = rw (lt-leb _ _ (c .if1 .left))

@@ -17,8 +17,8 @@ new-requires c κs = search needs
 loop-holds : tie.Need-loop-holds Inv-loop μ-loop
 loop-holds c = search needs
 
-read-turn-requires : tie.Need-read-turn-requires Inv-loop μ-loop
-read-turn-requires c κs = search needs
+read-and-play-requires : tie.Need-read-and-play-requires Inv-loop μ-loop
+read-and-play-requires c κs = search needs
 
 sub-turns : tie.Need-sub-turns Inv-loop μ-loop
 sub-turns c = search needs
@@ -52,7 +52,7 @@ run-spec =
     μ-loop
     new-requires
     loop-holds
-    read-turn-requires
+    read-and-play-requires
     sub-turns
     loop-less
     loop-again

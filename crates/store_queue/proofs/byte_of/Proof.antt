@@ -21,7 +21,8 @@ returns c =
 returns-2 : tie.Need-returns-2
 returns-2 c =
     let args = c .before .args in
-    byte-above 4 (args .k) (args .value) (c .before .fits .value .fits) (c .if1 .left)
+    let fits = c .before .fits in
+    byte-above 4 (args .k) (args .value) (fits .value .fits) (c .if1 .left)
 
 pub byte-of-spec : {M : Type 1} → statement M
 byte-of-spec = tie.close (tie.spec mul-result shr-result cast-result returns returns-2)

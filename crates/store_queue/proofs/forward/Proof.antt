@@ -14,8 +14,12 @@ is-older-cover-requires c κs = search needs
 
 sub-k : tie.Need-sub-k
 sub-k c =
-    cover-begins _ (c .before .before .before .before .args .a) (c .before .before .before .last-cover .result)
-    (sym (c .before .before .is-older-cover .ensures) ∙ c .before .if1 .taken)
+    let args = c .before .before .before .before .args in
+    let last-cover = c .before .before .before .last-cover in
+    let is-older-cover = c .before .before .is-older-cover in
+    let if1 = c .before .if1 in
+    cover-begins _ (args .a) (last-cover .result)
+    (sym (is-older-cover .ensures) ∙ if1 .taken)
 
 byte-of-requires : tie.Need-byte-of-requires
 byte-of-requires c κs = search needs
@@ -23,16 +27,21 @@ byte-of-requires c κs = search needs
 returns : tie.Need-returns
 returns c =
     let args = c .before .before .before .before .before .args in
+    let last-cover = c .before .before .before .before .last-cover in
+    let is-older-cover = c .before .before .before .is-older-cover in
+    let if1 = c .before .before .if1 in
     ap Known (c .byte-of .ensures)
-    ∙ forwarded-known (args .i) (args .a) (args .stores) (c .before .before .before .before .last-cover .result)
-    (c .before .before .before .before .last-cover .ensures)
-    (sym (c .before .before .before .is-older-cover .ensures) ∙ c .before .before .if1 .taken)
+    ∙ forwarded-known (args .i) (args .a) (args .stores) (last-cover .result)
+    (last-cover .ensures)
+    (sym (is-older-cover .ensures) ∙ if1 .taken)
 
 returns-2 : tie.Need-returns-2
 returns-2 c =
     let args = c .before .before .before .args in
-    forwarded-unknown (args .i) (args .a) (args .stores) (c .before .before .last-cover .result)
-    (c .before .before .last-cover .ensures) (sym (c .before .is-older-cover .ensures) ∙ c .if1 .left)
+    let last-cover = c .before .before .last-cover in
+    let is-older-cover = c .before .is-older-cover in
+    forwarded-unknown (args .i) (args .a) (args .stores) (last-cover .result)
+    (last-cover .ensures) (sym (is-older-cover .ensures) ∙ c .if1 .left)
 
 pub forward-spec : {M : Type 1} → statement M
 forward-spec =

@@ -21,12 +21,16 @@ returns-3 c = search tests
 returns-4 : tie.Need-returns-4
 unfolding olderCovers
 returns-4 c =
+    let args = c .before .before .before .before .before .before .before .before .args in
+    let if1 = c .before .before .before .before .before .before .if1 in
+    let if2 = c .before .before .before .before .if2 in
+    let if3 = c .before .before .if3 in
     rw (
-      ne-eqb _ 0 (c .before .before .before .before .before .before .if1 .left),
-      lt-ltb _ _ (c .before .before .before .before .if2 .left),
+      ne-eqb _ 0 (if1 .left),
+      lt-ltb _ _ (if2 .left),
     )
-    (among-from _ _ (c .before .before .before .before .before .before .before .before .args .a)
-    (c .before .before .if3 .left))
+    (among-from _ _ (args .a)
+    (if3 .left))
 
 pub is-older-cover-spec : {M : Type 1} → statement M
 is-older-cover-spec = tie.close (tie.spec returns returns-2 returns-3 returns-4)

@@ -8,10 +8,14 @@ is-older-cover-requires : tie.Need-is-older-cover-requires
 is-older-cover-requires c κs = search needs
 
 returns : tie.Need-returns
-returns c = rw (sym (c .before .is-older-cover .ensures) ∙ c .if1 .taken)
+returns c =
+    let is-older-cover = c .before .is-older-cover in
+    rw (sym (is-older-cover .ensures) ∙ c .if1 .taken)
 
 returns-2 : tie.Need-returns-2
-returns-2 c = rw (sym (c .before .is-older-cover .ensures) ∙ c .if1 .left)
+returns-2 c =
+    let is-older-cover = c .before .is-older-cover in
+    rw (sym (is-older-cover .ensures) ∙ c .if1 .left)
 
 pub newer-cover-spec : {M : Type 1} → statement M
 newer-cover-spec = tie.close (tie.spec is-older-cover-requires returns returns-2)

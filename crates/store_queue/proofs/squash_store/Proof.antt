@@ -8,7 +8,9 @@ no-store-requires : tie.Need-no-store-requires
 no-store-requires c κs = search needs
 
 returns : tie.Need-returns
-returns c = rw (le-leb _ _ (c .before .if1 .taken)) (c .no-store .ensures)
+returns c =
+    let if1 = c .before .if1 in
+    rw (le-leb _ _ (if1 .taken)) (c .no-store .ensures)
 
 returns-2 : tie.Need-returns-2
 returns-2 c = rw (lt-leb _ _ (c .if1 .left))

@@ -15,13 +15,20 @@ refused-requires : tie.Need-refused-requires
 refused-requires c κs = search needs
 
 returns : tie.Need-returns
-returns c = rw (c .refused .ensures) (sym (state-refuses _ _ _ _ (c .before .before .state-refusal .ensures) (c .before .if1 .taken)))
+returns c =
+    let state-refusal = c .before .before .state-refusal in
+    let if1 = c .before .if1 in
+    rw (c .refused .ensures) (sym (state-refuses _ _ _ _ (state-refusal .ensures) (if1 .taken)))
 
 refused-requires-2 : tie.Need-refused-requires-2
 refused-requires-2 c κs = search needs
 
 returns-2 : tie.Need-returns-2
-returns-2 c = rw (c .refused2 .ensures) (sym (one-refuses _ _ _ (state-opens _ _ _ _ (c .before .before .before .before .state-refusal .ensures) (c .before .before .before .if1 .left)) _ _ refl (rw (le-leb _ _ (c .before .if2 .taken)))))
+returns-2 c =
+    let state-refusal = c .before .before .before .before .state-refusal in
+    let if1 = c .before .before .before .if1 in
+    let if2 = c .before .if2 in
+    rw (c .refused2 .ensures) (sym (one-refuses _ _ _ (state-opens _ _ _ _ (state-refusal .ensures) (if1 .left)) _ _ refl (rw (le-leb _ _ (if2 .taken)))))
 
 sub-if3 : tie.Need-sub-if3
 sub-if3 c = search needs
@@ -30,13 +37,23 @@ refused-requires-3 : tie.Need-refused-requires-3
 refused-requires-3 c κs = search needs
 
 returns-3 : tie.Need-returns-3
-returns-3 c = rw (c .refused3 .ensures) (sym (one-refuses _ _ _ (state-opens _ _ _ _ (c .before .before .before .before .before .before .state-refusal .ensures) (c .before .before .before .before .before .if1 .left)) _ _ refl (rw (lt-leb _ _ (c .before .before .before .if2 .left), lt-ltb (c .before .before .before .before .before .before .before .before .before .args .self .last + 1) (c .before .before .before .before .before .before .before .before .before .args .n) (omega arith)))))
+returns-3 c =
+    let args = c .before .before .before .before .before .before .before .before .before .args in
+    let state-refusal = c .before .before .before .before .before .before .state-refusal in
+    let if1 = c .before .before .before .before .before .if1 in
+    let if2 = c .before .before .before .if2 in
+    rw (c .refused3 .ensures) (sym (one-refuses _ _ _ (state-opens _ _ _ _ (state-refusal .ensures) (if1 .left)) _ _ refl (rw (lt-leb _ _ (if2 .left), lt-ltb (args .self .last + 1) (args .n) (omega arith)))))
 
 abort-accepted-requires : tie.Need-abort-accepted-requires
 abort-accepted-requires c κs = search needs
 
 returns-4 : tie.Need-returns-4
-returns-4 c = c .abort-accepted .ensures _ _ ∙ sym (one-does _ _ _ (state-opens _ _ _ _ (c .before .before .before .before .before .before .state-refusal .ensures) (c .before .before .before .before .before .if1 .left)) _ _ refl (rw (lt-leb _ _ (c .before .before .before .if2 .left), le-ltb (c .before .before .before .before .before .before .before .before .before .args .self .last + 1) (c .before .before .before .before .before .before .before .before .before .args .n) (omega arith))))
+returns-4 c =
+    let args = c .before .before .before .before .before .before .before .before .before .args in
+    let state-refusal = c .before .before .before .before .before .before .state-refusal in
+    let if1 = c .before .before .before .before .before .if1 in
+    let if2 = c .before .before .before .if2 in
+    c .abort-accepted .ensures _ _ ∙ sym (one-does _ _ _ (state-opens _ _ _ _ (state-refusal .ensures) (if1 .left)) _ _ refl (rw (lt-leb _ _ (if2 .left), le-ltb (args .self .last + 1) (args .n) (omega arith))))
 
 pub abort-spec : {M : Type 1} → statement M
 abort-spec =

@@ -15,7 +15,9 @@ sub-last c = search needs
 
 returns : tie.Need-returns
 unfolding abortRule squash
-returns c = λ k m. rw (c .before .squash-stores .ensures, c .squash-loads .ensures)
+returns c =
+    let squash-stores = c .before .squash-stores in
+    λ k m. rw (squash-stores .ensures, c .squash-loads .ensures)
 
 pub abort-accepted-spec : {M : Type 1} → statement M
 abort-accepted-spec =

@@ -15,14 +15,19 @@ use-line-requires c κs = search needs
 
 returns : tie.Need-returns
 unfolding answerLoad lineOf
-returns c = λ k m. rw (c .before .before .remove-waiting .ensures, c .use-line .ensures, le-leb _ _ (c .before .before .before .if1 .taken), used-at)
+returns c =
+    let if1 = c .before .before .before .if1 in
+    let remove-waiting = c .before .before .remove-waiting in
+    λ k m. rw (remove-waiting .ensures, c .use-line .ensures, le-leb _ _ (if1 .taken), used-at)
 
 answer-waiting-requires : tie.Need-answer-waiting-requires
 answer-waiting-requires c κs = search needs
 
 returns-2 : tie.Need-returns-2
 unfolding answerLoad
-returns-2 c = λ k m. rw (c .answer-waiting .ensures, lt-leb _ _ (c .before .if1 .left))
+returns-2 c =
+    let if1 = c .before .if1 in
+    λ k m. rw (c .answer-waiting .ensures, lt-leb _ _ (if1 .left))
 
 pub answer-load-spec : {M : Type 1} → statement M
 answer-load-spec =

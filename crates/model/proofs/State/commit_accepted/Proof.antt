@@ -13,7 +13,9 @@ remove-answered-requires c κs = search needs
 
 returns : tie.Need-returns
 unfolding commitRule
-returns c = λ k m. rw (c .before .use-all-answered .ensures, c .remove-answered .ensures, used-each)
+returns c =
+    let use-all-answered = c .before .use-all-answered in
+    λ k m. rw (use-all-answered .ensures, c .remove-answered .ensures, used-each)
 
 pub commit-accepted-spec : {M : Type 1} → statement M
 commit-accepted-spec =

@@ -27,7 +27,8 @@ same-length c = search needs
 returns : tie.Need-returns
 returns c =
     let b = c .before .before .before .before .before .before .before .before in
-    λ m. drained-state (b .args .self) (now (b .args .cache)) m (b .args .s) _ _ _ (b .pre .2) (c .before .before .before .write-store .ensures) (c .pop-store .ensures)
+    let write-store = c .before .before .before .write-store in
+    λ m. drained-state (b .args .self) (now (b .args .cache)) m (b .args .s) _ _ _ (b .pre .2) (write-store .ensures) (c .pop-store .ensures)
 
 pub drain-oldest-spec : {M : Type 1} → statement M
 drain-oldest-spec = tie.close (tie.spec write-store-requires pop-store-requires same-length returns)

@@ -34,9 +34,11 @@ array-copy-out-old c = search needs
 write-back-requires : tie.Need-write-back-requires
 write-back-requires c κs =
     let b = c .before .before .before .before .before .before .before .before .before .before .before in
+    let first-slot = c .before .before .before .before .first-slot in
+    let victim = c .before .before .before .victim in
     let g = filling (b .args .self) (now (b .args .cache)) (now (b .args .memory)) (b .args .line) (b .pre .0) (b .pre .1) in
-    let f = c .before .before .before .before .first-slot .ensures in
-    let v = c .before .before .before .victim .ensures .2 in
+    let f = first-slot .ensures in
+    let v = victim .ensures .2 in
     (slot-bytes _ _ _ _ _ v (f .1) (g .cache-long), g .dirty-lines _ (omega arith))
 
 mul-fill-slot : tie.Need-mul-fill-slot
@@ -57,23 +59,28 @@ part-fill-slot-start c = search needs
 part-fill-slot-end : tie.Need-part-fill-slot-end
 part-fill-slot-end c =
     let b = c .before .before .before .before .before .before .before .before .before .before .before .before .before .before .before .before in
+    let write-back = c .before .before .before .before .write-back in
     let g = filling (b .args .self) (now (b .args .cache)) (now (b .args .memory)) (b .args .line) (b .pre .0) (b .pre .1) in
-    rw (c .before .before .before .before .write-back .ensures, each-length) (g .inside)
+    rw (write-back .ensures, each-length) (g .inside)
 
 fill-slot-requires : tie.Need-fill-slot-requires
 fill-slot-requires c κs =
     let b = c .before .before .before .before .before .before .before .before .before .before .before .before .before .before .before .before .before in
+    let first-slot = c .before .before .before .before .before .before .before .before .before .before .first-slot in
+    let victim = c .before .before .before .before .before .before .before .before .before .victim in
     let g = filling (b .args .self) (now (b .args .cache)) (now (b .args .memory)) (b .args .line) (b .pre .0) (b .pre .1) in
-    let f = c .before .before .before .before .before .before .before .before .before .before .first-slot .ensures in
-    let v = c .before .before .before .before .before .before .before .before .before .victim .ensures .2 in
+    let f = first-slot .ensures in
+    let v = victim .ensures .2 in
     (omega arith, slot-bytes _ _ _ _ _ v (f .1) (g .cache-long))
 
 installed-requires : tie.Need-installed-requires
 installed-requires c κs =
     let b = c .before .before .before .before .before .before .before .before .before .before .before .before .before .before .before .before .before .before .before .before in
+    let first-slot = c .before .before .before .before .before .before .before .before .before .before .before .before .before .first-slot in
+    let victim = c .before .before .before .before .before .before .before .before .before .before .before .before .victim in
     let g = filling (b .args .self) (now (b .args .cache)) (now (b .args .memory)) (b .args .line) (b .pre .0) (b .pre .1) in
-    let f = c .before .before .before .before .before .before .before .before .before .before .before .before .before .first-slot .ensures in
-    let v = c .before .before .before .before .before .before .before .before .before .before .before .before .victim .ensures in
+    let f = first-slot .ensures in
+    let v = victim .ensures in
     (slot-low _ _ _ (f .1) (f .2), v .1, v .2, line-low _ _ (g .inside) (g .small))
 
 mul-t32 : tie.Need-mul-t32
@@ -91,11 +98,16 @@ same-length-2 c = search needs
 returns : tie.Need-returns
 returns c =
     let a = c .before .before .before .before .before .before .before .before .before .before .before .before .before .before .before .before .before .before .before .before .before .args in
-    filled-state (a .self) (now (a .cache)) (now (a .memory)) (a .line) _ _ _ (c .before .before .before .before .before .before .before .before .before .before .before .before .before .before .before .before .before .before .before .before .before .pre .1)
+    let pre = c .before .before .before .before .before .before .before .before .before .before .before .before .before .before .before .before .before .before .before .before .before .pre in
+    let first-slot = c .before .before .before .before .before .before .before .before .before .before .before .before .before .before .first-slot in
+    let victim = c .before .before .before .before .before .before .before .before .before .before .before .before .before .victim in
+    let write-back = c .before .before .before .before .before .before .before .before .before .write-back in
+    let fill-slot = c .before .before .before .fill-slot in
+    filled-state (a .self) (now (a .cache)) (now (a .memory)) (a .line) _ _ _ (pre .1)
     (filled-whole (a .self .sets) (a .self .ways) (a .self .tags) (now (a .cache)) (now (a .memory)) (a .line)
-    (c .before .before .before .before .before .before .before .before .before .before .before .before .before .before .first-slot .result) (c .before .before .before .before .before .before .before .before .before .before .before .before .before .victim .result) (16 * a .line + 16 - 16 * a .line) _ _ _
-    (c .before .before .before .before .before .before .before .before .before .before .before .before .before .before .first-slot .ensures .0) (c .before .before .before .before .before .before .before .before .before .before .before .before .before .victim .ensures .0) (c .before .before .before .before .before .before .before .before .before .write-back .ensures) (omega arith)
-    (c .before .before .before .fill-slot .ensures) (c .installed .ensures))
+    (first-slot .result) (victim .result) (16 * a .line + 16 - 16 * a .line) _ _ _
+    (first-slot .ensures .0) (victim .ensures .0) (write-back .ensures) (omega arith)
+    (fill-slot .ensures) (c .installed .ensures))
 
 pub fill-line-spec : {M : Type 1} → statement M
 fill-line-spec =

@@ -16,7 +16,10 @@ same-length : tie.Need-same-length
 same-length c = search needs
 
 returns : tie.Need-returns
-returns c = rw (c .refused .ensures) (sym (state-refuses _ _ _ _ (c .before .before .state-refusal .ensures) (c .before .if1 .taken)))
+returns c =
+    let state-refusal = c .before .before .state-refusal in
+    let if1 = c .before .if1 in
+    rw (c .refused .ensures) (sym (state-refuses _ _ _ _ (state-refusal .ensures) (if1 .taken)))
 
 has-committed-store-requires : tie.Need-has-committed-store-requires
 has-committed-store-requires c κs = search needs
@@ -28,16 +31,30 @@ same-length-2 : tie.Need-same-length-2
 same-length-2 c = search needs
 
 returns-2 : tie.Need-returns-2
-returns-2 c = rw (c .refused2 .ensures) (sym (one-refuses _ _ _ (state-opens _ _ _ _ (c .before .before .before .before .before .state-refusal .ensures) (c .before .before .before .before .if1 .left)) _ _ refl (sym (c .before .before .has-committed-store .ensures) ∙ c .before .if2 .taken)))
+returns-2 c =
+    let state-refusal = c .before .before .before .before .before .state-refusal in
+    let if1 = c .before .before .before .before .if1 in
+    let has-committed-store = c .before .before .has-committed-store in
+    let if2 = c .before .if2 in
+    rw (c .refused2 .ensures) (sym (one-refuses _ _ _ (state-opens _ _ _ _ (state-refusal .ensures) (if1 .left)) _ _ refl (sym (has-committed-store .ensures) ∙ if2 .taken)))
 
 flush-accepted-requires : tie.Need-flush-accepted-requires
-flush-accepted-requires c κs = (state-opens rules.idle _ _ _ (c .before .before .before .before .before .state-refusal .ensures) (c .before .before .before .before .if1 .left)) .formed
+flush-accepted-requires c κs =
+    let state-refusal = c .before .before .before .before .before .state-refusal in
+    let if1 = c .before .before .before .before .if1 in
+    (state-opens rules.idle _ _ _ (state-refusal .ensures) (if1 .left)) .formed
 
 same-length-3 : tie.Need-same-length-3
 same-length-3 c = search needs
 
 returns-3 : tie.Need-returns-3
-returns-3 c = c .before .before .flush-accepted .ensures ∙ sym (one-does _ _ _ (state-opens _ _ _ _ (c .before .before .before .before .before .before .before .before .state-refusal .ensures) (c .before .before .before .before .before .before .before .if1 .left)) _ _ refl (sym (c .before .before .before .before .before .has-committed-store .ensures) ∙ c .before .before .before .before .if2 .left))
+returns-3 c =
+    let state-refusal = c .before .before .before .before .before .before .before .before .state-refusal in
+    let if1 = c .before .before .before .before .before .before .before .if1 in
+    let has-committed-store = c .before .before .before .before .before .has-committed-store in
+    let if2 = c .before .before .before .before .if2 in
+    let flush-accepted = c .before .before .flush-accepted in
+    flush-accepted .ensures ∙ sym (one-does _ _ _ (state-opens _ _ _ _ (state-refusal .ensures) (if1 .left)) _ _ refl (sym (has-committed-store .ensures) ∙ if2 .left))
 
 pub flush-spec : {M : Type 1} → statement M
 flush-spec =

@@ -7,7 +7,7 @@ use Rattle.model.proofs.CacheLoops.{dirty-inside}
 use Rattle.model.proofs.Moves.{flush-parts}
 use native.Mathlib.Nat.{mul-le-mul}
 use Rattle.model.proofs.Facts.{fit-figures, fit-cache}
-use Rattle.rules.proofs.Parts.{parts}
+use Rattle.rules.proofs.QueueView.{parts}
 use Rattle.rules.specs.Calls.{flushRule}
 use Rattle.rules.specs.Lines.{dirtyLines}
 use Rattle.model.proofs.Facts.{fit-figures}
@@ -17,14 +17,18 @@ use Rattle.model.proofs.State.flush_accepted.Tie as tie
 
 mul-count : tie.Need-mul-count
 mul-count c =
-    let p = parts _ _ (c .before .before .before .before .pre) in
-    let f = fit-figures (c .before .before .before .before .args .self) (now (c .before .before .before .before .args .cache)) (now (c .before .before .before .before .args .memory)) (p .fit) in
+    let pre = c .before .before .before .before .pre in
+    let args = c .before .before .before .before .args in
+    let p = parts _ _ (pre) in
+    let f = fit-figures (args .self) (now (args .cache)) (now (args .memory)) (p .fit) in
     omega (arith, mul-le-mul (f .most-sets) (f .most-ways))
 
 cast-count : tie.Need-cast-count
 cast-count c =
-    let p = parts _ _ (c .before .before .before .before .pre) in
-    let f = fit-figures (c .before .before .before .before .args .self) (now (c .before .before .before .before .args .cache)) (now (c .before .before .before .before .args .memory)) (p .fit) in
+    let pre = c .before .before .before .before .pre in
+    let args = c .before .before .before .before .args in
+    let p = parts _ _ (pre) in
+    let f = fit-figures (args .self) (now (args .cache)) (now (args .memory)) (p .fit) in
     omega (arith, mul-le-mul (f .most-sets) (f .most-ways))
 
 dirty-count-requires : tie.Need-dirty-count-requires
@@ -32,14 +36,18 @@ dirty-count-requires c κs = search needs
 
 write-back-all-requires : tie.Need-write-back-all-requires
 write-back-all-requires c κs =
-    let p = parts _ _ (c .before .before .before .before .before .before .pre) in
-    let f = fit-figures (c .before .before .before .before .before .before .args .self) (now (c .before .before .before .before .before .before .args .cache)) (now (c .before .before .before .before .before .before .args .memory)) (p .fit) in
-    (omega (arith, mul-le-mul (f .most-sets) (f .most-ways)), omega (arith, fit-cache (c .before .before .before .before .before .before .args .self) (now (c .before .before .before .before .before .before .args .cache)) (now (c .before .before .before .before .before .before .args .memory)) (p .fit)), dirty-inside _ (fits-tells _ (p .fit)) (good-tells _ (p .lines)) _)
+    let pre = c .before .before .before .before .before .before .pre in
+    let args = c .before .before .before .before .before .before .args in
+    let p = parts _ _ (pre) in
+    let f = fit-figures (args .self) (now (args .cache)) (now (args .memory)) (p .fit) in
+    (omega (arith, mul-le-mul (f .most-sets) (f .most-ways)), omega (arith, fit-cache (args .self) (now (args .cache)) (now (args .memory)) (p .fit)), dirty-inside _ (fits-tells _ (p .fit)) (good-tells _ (p .lines)) _)
 
 clean-all-requires : tie.Need-clean-all-requires
 clean-all-requires c κs =
-    let p = parts _ _ (c .before .before .before .before .before .before .before .before .before .pre) in
-    let f = fit-figures (c .before .before .before .before .before .before .before .before .before .args .self) (now (c .before .before .before .before .before .before .before .before .before .args .cache)) (now (c .before .before .before .before .before .before .before .before .before .args .memory)) (p .fit) in
+    let pre = c .before .before .before .before .before .before .before .before .before .pre in
+    let args = c .before .before .before .before .before .before .before .before .before .args in
+    let p = parts _ _ (pre) in
+    let f = fit-figures (args .self) (now (args .cache)) (now (args .memory)) (p .fit) in
     omega (arith, mul-le-mul (f .most-sets) (f .most-ways))
 
 same-length : tie.Need-same-length
@@ -47,7 +55,10 @@ same-length c = search needs
 
 returns : tie.Need-returns
 unfolding flushRule dirtyLines
-returns c = rw (c .before .before .before .before .before .dirty-count .ensures, c .clean-all .ensures, c .before .before .before .write-back-all .ensures, flush-parts)
+returns c =
+    let dirty-count = c .before .before .before .before .before .dirty-count in
+    let write-back-all = c .before .before .before .write-back-all in
+    rw (dirty-count .ensures, c .clean-all .ensures, write-back-all .ensures, flush-parts)
 
 pub flush-accepted-spec : {M : Type 1} → statement M
 flush-accepted-spec =

@@ -9,7 +9,7 @@ use Rattle.model.proofs.Checking.{ready-at}
 use Rattle.model.proofs.Moves.{idle-drains, idle-absent, idle-unready}
 use Rattle.model.proofs.Calls.{state-refuses, state-opens, none-does}
 use Rattle.model.proofs.Facts.{fit-shaped, fit-figures, shaped-self, oldest-fine}
-use Rattle.rules.proofs.Parts.{parts}
+use Rattle.rules.proofs.QueueView.{parts}
 use Rattle.model.proofs.State.idle.Statement.{statement}
 use Rattle.model.proofs.State.idle.Tie as tie
 
@@ -26,7 +26,10 @@ same-length-2 : tie.Need-same-length-2
 same-length-2 c = search needs
 
 returns : tie.Need-returns
-returns c = rw (c .refused .ensures) (sym (state-refuses _ _ _ _ (c .before .before .state-refusal .ensures) (c .before .if1 .taken)))
+returns c =
+    let state-refusal = c .before .before .state-refusal in
+    let if1 = c .before .if1 in
+    rw (c .refused .ensures) (sym (state-refuses _ _ _ _ (state-refusal .ensures) (if1 .taken)))
 
 array-copy-out-s : tie.Need-array-copy-out-s
 array-copy-out-s c = search needs
@@ -35,14 +38,25 @@ store-ready-requires : tie.Need-store-ready-requires
 store-ready-requires c κs = search needs
 
 is-present-requires : tie.Need-is-present-requires
-is-present-requires c κs = shaped-self _ _ (fit-shaped (c .before .before .before .before .before .before .before .before .before .before .before .args .self) (now (c .before .before .before .before .before .before .before .before .before .before .before .args .cache)) (now (c .before .before .before .before .before .before .before .before .before .before .before .args .memory)) ((state-opens rules.idle _ _ _ (c .before .before .before .before .before .before .state-refusal .ensures) (c .before .before .before .before .before .if1 .left)) .fit))
+is-present-requires c κs =
+    let args = c .before .before .before .before .before .before .before .before .before .before .before .args in
+    let state-refusal = c .before .before .before .before .before .before .state-refusal in
+    let if1 = c .before .before .before .before .before .if1 in
+    shaped-self _ _ (fit-shaped (args .self) (now (args .cache)) (now (args .memory)) ((state-opens rules.idle _ _ _ (state-refusal .ensures) (if1 .left)) .fit))
 
 drain-oldest-requires : tie.Need-drain-oldest-requires
 unfolding lineOf
 drain-oldest-requires c κs =
-    let o = state-opens rules.idle _ _ _ (c .before .before .before .before .before .before .before .before .before .before .state-refusal .ensures) (c .before .before .before .before .before .before .before .before .before .if1 .left) in
-    let f = fit-figures (c .before .before .before .before .before .before .before .before .before .before .before .before .before .before .before .args .self) (now (c .before .before .before .before .before .before .before .before .before .before .before .before .before .before .before .args .cache)) (now (c .before .before .before .before .before .before .before .before .before .before .before .before .before .before .before .args .memory)) (o .fit) in
-    (fit-shaped (c .before .before .before .before .before .before .before .before .before .before .before .before .before .before .before .args .self) (now (c .before .before .before .before .before .before .before .before .before .before .before .before .before .before .before .args .cache)) (now (c .before .before .before .before .before .before .before .before .before .before .before .before .before .before .before .args .memory)) (o .fit), oldest-fine (queuesOf (c .before .before .before .before .before .before .before .before .before .before .before .before .before .before .before .args .self)) (hierarchyOf (c .before .before .before .before .before .before .before .before .before .before .before .before .before .before .before .args .self) (now (c .before .before .before .before .before .before .before .before .before .before .before .before .before .before .before .args .cache)) (now (c .before .before .before .before .before .before .before .before .before .before .before .before .before .before .before .args .memory))) (f .most-size) (parts _ _ (o .formed)) (sym (c .before .before .before .before .before .store-ready .ensures ∙ ready-at (c .before .before .before .before .before .before .before .before .before .before .before .before .before .before .before .args .self) (now (c .before .before .before .before .before .before .before .before .before .before .before .before .before .before .before .args .cache)) (now (c .before .before .before .before .before .before .before .before .before .before .before .before .before .before .before .args .memory))) ∙ c .before .before .if2 .taken), refl, (sym (c .before .before .before .is-present .ensures) ∙ c .before .if3 .taken))
+    let args = c .before .before .before .before .before .before .before .before .before .before .before .before .before .before .before .args in
+    let state-refusal = c .before .before .before .before .before .before .before .before .before .before .state-refusal in
+    let if1 = c .before .before .before .before .before .before .before .before .before .if1 in
+    let store-ready = c .before .before .before .before .before .store-ready in
+    let is-present = c .before .before .before .is-present in
+    let if2 = c .before .before .if2 in
+    let if3 = c .before .if3 in
+    let o = state-opens rules.idle _ _ _ (state-refusal .ensures) (if1 .left) in
+    let f = fit-figures (args .self) (now (args .cache)) (now (args .memory)) (o .fit) in
+    (fit-shaped (args .self) (now (args .cache)) (now (args .memory)) (o .fit), oldest-fine (queuesOf (args .self)) (hierarchyOf (args .self) (now (args .cache)) (now (args .memory))) (f .most-size) (parts _ _ (o .formed)) (sym (store-ready .ensures ∙ ready-at (args .self) (now (args .cache)) (now (args .memory))) ∙ if2 .taken), refl, (sym (is-present .ensures) ∙ if3 .taken))
 
 same-length-3 : tie.Need-same-length-3
 same-length-3 c = search needs
@@ -52,11 +66,26 @@ same-length-4 c = search needs
 
 returns-2 : tie.Need-returns-2
 unfolding lineOf
-returns-2 c = c .before .before .drain-oldest .ensures _ ∙ sym (none-does rules.idle _ _ (state-opens rules.idle _ _ _ (c .before .before .before .before .before .before .before .before .before .before .before .before .before .state-refusal .ensures) (c .before .before .before .before .before .before .before .before .before .before .before .before .if1 .left)) refl ∙ idle-drains (c .before .before .before .before .before .before .before .before .before .before .before .before .before .before .before .before .before .before .args .self) (now (c .before .before .before .before .before .before .before .before .before .before .before .before .before .before .before .before .before .before .args .cache)) (now (c .before .before .before .before .before .before .before .before .before .before .before .before .before .before .before .before .before .before .args .memory)) (sym (c .before .before .before .before .before .before .before .before .store-ready .ensures ∙ ready-at (c .before .before .before .before .before .before .before .before .before .before .before .before .before .before .before .before .before .before .args .self) (now (c .before .before .before .before .before .before .before .before .before .before .before .before .before .before .before .before .before .before .args .cache)) (now (c .before .before .before .before .before .before .before .before .before .before .before .before .before .before .before .before .before .before .args .memory))) ∙ c .before .before .before .before .before .if2 .taken) (sym (c .before .before .before .before .before .before .is-present .ensures) ∙ c .before .before .before .before .if3 .taken))
+returns-2 c =
+    let args = c .before .before .before .before .before .before .before .before .before .before .before .before .before .before .before .before .before .before .args in
+    let state-refusal = c .before .before .before .before .before .before .before .before .before .before .before .before .before .state-refusal in
+    let if1 = c .before .before .before .before .before .before .before .before .before .before .before .before .if1 in
+    let store-ready = c .before .before .before .before .before .before .before .before .store-ready in
+    let is-present = c .before .before .before .before .before .before .is-present in
+    let if2 = c .before .before .before .before .before .if2 in
+    let if3 = c .before .before .before .before .if3 in
+    let drain-oldest = c .before .before .drain-oldest in
+    drain-oldest .ensures _ ∙ sym (none-does rules.idle _ _ (state-opens rules.idle _ _ _ (state-refusal .ensures) (if1 .left)) refl ∙ idle-drains (args .self) (now (args .cache)) (now (args .memory)) (sym (store-ready .ensures ∙ ready-at (args .self) (now (args .cache)) (now (args .memory))) ∙ if2 .taken) (sym (is-present .ensures) ∙ if3 .taken))
 
 idle-request-requires : tie.Need-idle-request-requires
 unfolding lineOf
-idle-request-requires c κs = (shaped-self _ _ (fit-shaped (c .before .before .before .before .before .before .before .before .before .before .before .before .before .before .args .self) (now (c .before .before .before .before .before .before .before .before .before .before .before .before .before .before .args .cache)) (now (c .before .before .before .before .before .before .before .before .before .before .before .before .before .before .args .memory)) ((state-opens rules.idle _ _ _ (c .before .before .before .before .before .before .before .before .before .state-refusal .ensures) (c .before .before .before .before .before .before .before .before .if1 .left)) .fit)), (c .before .before .before .before .store-ready .ensures ∙ ready-at (c .before .before .before .before .before .before .before .before .before .before .before .before .before .before .args .self) (now (c .before .before .before .before .before .before .before .before .before .before .before .before .before .before .args .cache)) (now (c .before .before .before .before .before .before .before .before .before .before .before .before .before .before .args .memory))), refl, c .before .before .is-present .ensures)
+idle-request-requires c κs =
+    let args = c .before .before .before .before .before .before .before .before .before .before .before .before .before .before .args in
+    let state-refusal = c .before .before .before .before .before .before .before .before .before .state-refusal in
+    let if1 = c .before .before .before .before .before .before .before .before .if1 in
+    let store-ready = c .before .before .before .before .store-ready in
+    let is-present = c .before .before .is-present in
+    (shaped-self _ _ (fit-shaped (args .self) (now (args .cache)) (now (args .memory)) ((state-opens rules.idle _ _ _ (state-refusal .ensures) (if1 .left)) .fit)), (store-ready .ensures ∙ ready-at (args .self) (now (args .cache)) (now (args .memory))), refl, is-present .ensures)
 
 same-length-5 : tie.Need-same-length-5
 same-length-5 c = search needs
@@ -66,11 +95,23 @@ same-length-6 c = search needs
 
 returns-3 : tie.Need-returns-3
 unfolding lineOf
-returns-3 c = c .idle-request .ensures _ _ ∙ sym (none-does rules.idle _ _ (state-opens rules.idle _ _ _ (c .before .before .before .before .before .before .before .before .before .before .state-refusal .ensures) (c .before .before .before .before .before .before .before .before .before .if1 .left)) refl ∙ idle-absent (c .before .before .before .before .before .before .before .before .before .before .before .before .before .before .before .args .self) (now (c .before .before .before .before .before .before .before .before .before .before .before .before .before .before .before .args .cache)) (now (c .before .before .before .before .before .before .before .before .before .before .before .before .before .before .before .args .memory)) (sym (c .before .before .before .is-present .ensures) ∙ c .before .if3 .left))
+returns-3 c =
+    let args = c .before .before .before .before .before .before .before .before .before .before .before .before .before .before .before .args in
+    let state-refusal = c .before .before .before .before .before .before .before .before .before .before .state-refusal in
+    let if1 = c .before .before .before .before .before .before .before .before .before .if1 in
+    let is-present = c .before .before .before .is-present in
+    let if3 = c .before .if3 in
+    c .idle-request .ensures _ _ ∙ sym (none-does rules.idle _ _ (state-opens rules.idle _ _ _ (state-refusal .ensures) (if1 .left)) refl ∙ idle-absent (args .self) (now (args .cache)) (now (args .memory)) (sym (is-present .ensures) ∙ if3 .left))
 
 idle-request-requires-2 : tie.Need-idle-request-requires-2
 unfolding lineOf
-idle-request-requires-2 c κs = (shaped-self _ _ (fit-shaped (c .before .before .before .before .before .before .before .before .before .before .before .before .before .args .self) (now (c .before .before .before .before .before .before .before .before .before .before .before .before .before .args .cache)) (now (c .before .before .before .before .before .before .before .before .before .before .before .before .before .args .memory)) ((state-opens rules.idle _ _ _ (c .before .before .before .before .before .before .before .before .state-refusal .ensures) (c .before .before .before .before .before .before .before .if1 .left)) .fit)), (c .before .before .before .store-ready .ensures ∙ ready-at (c .before .before .before .before .before .before .before .before .before .before .before .before .before .args .self) (now (c .before .before .before .before .before .before .before .before .before .before .before .before .before .args .cache)) (now (c .before .before .before .before .before .before .before .before .before .before .before .before .before .args .memory))), refl, c .before .is-present .ensures)
+idle-request-requires-2 c κs =
+    let args = c .before .before .before .before .before .before .before .before .before .before .before .before .before .args in
+    let state-refusal = c .before .before .before .before .before .before .before .before .state-refusal in
+    let if1 = c .before .before .before .before .before .before .before .if1 in
+    let store-ready = c .before .before .before .store-ready in
+    let is-present = c .before .is-present in
+    (shaped-self _ _ (fit-shaped (args .self) (now (args .cache)) (now (args .memory)) ((state-opens rules.idle _ _ _ (state-refusal .ensures) (if1 .left)) .fit)), (store-ready .ensures ∙ ready-at (args .self) (now (args .cache)) (now (args .memory))), refl, is-present .ensures)
 
 same-length-7 : tie.Need-same-length-7
 same-length-7 c = search needs
@@ -79,7 +120,13 @@ same-length-8 : tie.Need-same-length-8
 same-length-8 c = search needs
 
 returns-4 : tie.Need-returns-4
-returns-4 c = c .idle-request2 .ensures _ _ ∙ sym (none-does rules.idle _ _ (state-opens rules.idle _ _ _ (c .before .before .before .before .before .before .before .before .before .state-refusal .ensures) (c .before .before .before .before .before .before .before .before .if1 .left)) refl ∙ idle-unready (c .before .before .before .before .before .before .before .before .before .before .before .before .before .before .args .self) (now (c .before .before .before .before .before .before .before .before .before .before .before .before .before .before .args .cache)) (now (c .before .before .before .before .before .before .before .before .before .before .before .before .before .before .args .memory)) (sym (c .before .before .before .before .store-ready .ensures ∙ ready-at (c .before .before .before .before .before .before .before .before .before .before .before .before .before .before .args .self) (now (c .before .before .before .before .before .before .before .before .before .before .before .before .before .before .args .cache)) (now (c .before .before .before .before .before .before .before .before .before .before .before .before .before .before .args .memory))) ∙ c .before .if2 .left))
+returns-4 c =
+    let args = c .before .before .before .before .before .before .before .before .before .before .before .before .before .before .args in
+    let state-refusal = c .before .before .before .before .before .before .before .before .before .state-refusal in
+    let if1 = c .before .before .before .before .before .before .before .before .if1 in
+    let store-ready = c .before .before .before .before .store-ready in
+    let if2 = c .before .if2 in
+    c .idle-request2 .ensures _ _ ∙ sym (none-does rules.idle _ _ (state-opens rules.idle _ _ _ (state-refusal .ensures) (if1 .left)) refl ∙ idle-unready (args .self) (now (args .cache)) (now (args .memory)) (sym (store-ready .ensures ∙ ready-at (args .self) (now (args .cache)) (now (args .memory))) ∙ if2 .left))
 
 pub idle-spec : {M : Type 1} → statement M
 idle-spec =

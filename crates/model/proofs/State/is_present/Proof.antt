@@ -18,7 +18,9 @@ add-result c = search needs
 
 returns : tie.Need-returns
 unfolding present slotOf
-returns c = rw (c .find .ensures, c .before .first-slot .ensures .0)
+returns c =
+    let first-slot = c .before .first-slot in
+    rw (c .find .ensures, first-slot .ensures .0)
 
 pub is-present-spec : {M : Type 1} → statement M
 is-present-spec =

@@ -6,7 +6,7 @@ use mathlib.Core.List.{[]}
 use borrow.Author.Tests.{lt-ltb, le-ltb}
 use Rattle.rules.specs.declared.Request.{Request}
 use Rattle.rules.specs.WellFormed.{requestAbsent, requestInside, requestWanted}
-use Rattle.entries.specs.Good.{sized}
+use Rattle.queue_checks.specs.Good.{sized}
 use Rattle.model.specs.Tables.{tabled}
 use Rattle.model.specs.State.{queuesOf}
 use Rattle.model.proofs.Checking.{wanted-at}
@@ -24,7 +24,10 @@ is-present-requires c κs = search needs
 
 returns : tie.Need-returns
 unfolding requestAbsent
-returns c = rw (c .before .before .before .request .given .1, sym (c .before .is-present .ensures) ∙ c .if1 .taken)
+returns c =
+    let request = c .before .before .before .request in
+    let is-present = c .before .is-present in
+    rw (request .given .1, sym (is-present .ensures) ∙ c .if1 .taken)
 
 cast-if2 : tie.Need-cast-if2
 cast-if2 c = search needs
@@ -37,7 +40,11 @@ mul-if2 c = search needs
 
 returns-2 : tie.Need-returns-2
 unfolding requestAbsent requestInside
-returns-2 c = rw (c .before .before .before .before .before .request .given .1, sym (c .before .before .before .is-present .ensures) ∙ c .before .before .if1 .left, le-ltb _ _ (c .if2 .taken))
+returns-2 c =
+    let request = c .before .before .before .before .before .request in
+    let is-present = c .before .before .before .is-present in
+    let if1 = c .before .before .if1 in
+    rw (request .given .1, sym (is-present .ensures) ∙ if1 .left, le-ltb _ _ (c .if2 .taken))
 
 request-wanted-requires : tie.Need-request-wanted-requires
 request-wanted-requires c κs = search needs
@@ -49,10 +56,15 @@ returns-3 c = rw (c .enum-told .given .1)
 returns-4 : tie.Need-returns-4
 unfolding requestAbsent requestInside
 returns-4 c =
-    let s = c .before .before .before .before .before .before .before .before .before .before .args .self in
-    let x : requestAbsent (s .request) (tabled (s .sets) (s .ways) (s .tags)) ≡ true = rw (c .before .before .before .before .before .before .before .before .request .given .1, sym (c .before .before .before .before .before .before .is-present .ensures) ∙ c .before .before .before .before .before .if1 .left) in
-    let y : requestInside (s .request) (sized (s .size)) ≡ true = rw (c .before .before .before .before .before .before .before .before .request .given .1, lt-ltb _ _ (c .before .before .before .if2 .left)) in
-    rw (x, y) (c .request-wanted .ensures ∙ wanted-at s [] [] _ ∙ ap (λ (r : Request). requestWanted r (queuesOf s)) (sym (c .before .before .before .before .before .before .before .before .request .given .1)))
+    let args = c .before .before .before .before .before .before .before .before .before .before .args in
+    let request = c .before .before .before .before .before .before .before .before .request in
+    let is-present = c .before .before .before .before .before .before .is-present in
+    let if1 = c .before .before .before .before .before .if1 in
+    let if2 = c .before .before .before .if2 in
+    let s = args .self in
+    let x : requestAbsent (s .request) (tabled (s .sets) (s .ways) (s .tags)) ≡ true = rw (request .given .1, sym (is-present .ensures) ∙ if1 .left) in
+    let y : requestInside (s .request) (sized (s .size)) ≡ true = rw (request .given .1, lt-ltb _ _ (if2 .left)) in
+    rw (x, y) (c .request-wanted .ensures ∙ wanted-at s [] [] _ ∙ ap (λ (r : Request). requestWanted r (queuesOf s)) (sym (request .given .1)))
 
 pub is-request-good-spec : {M : Type 1} → statement M
 is-request-good-spec =

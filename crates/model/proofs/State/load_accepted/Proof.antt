@@ -22,7 +22,11 @@ place-load-requires c κs = search needs
 
 returns : tie.Need-returns
 unfolding loadRule
-returns c = λ m. rw (c .before .before .before .answer-to .ensures, c .place-load .ensures, c .before .is-lacking .ensures, c .before .before .before .before .read .ensures m, answer-read, lacking-read)
+returns c =
+    let read = c .before .before .before .before .read in
+    let answer-to = c .before .before .before .answer-to in
+    let is-lacking = c .before .is-lacking in
+    λ m. rw (answer-to .ensures, c .place-load .ensures, is-lacking .ensures, read .ensures m, answer-read, lacking-read)
 
 pub load-accepted-spec : {M : Type 1} → statement M
 load-accepted-spec =

@@ -34,11 +34,19 @@ add-read-bytes : tie.Need-add-read-bytes
 add-read-bytes c = search needs
 
 read-bytes-requires : tie.Need-read-bytes-requires
-read-bytes-requires c κs = (c .before .before .before .before .before .before .pre .1 .narrow, c .before .before .before .before .before .before .pre .1 .inside, omega (arith, found-low _ _ _ _ (c .find .ensures) .1), λ h. omega (arith, ltb-true (c .find .result) (c .before .first-slot .result + c .before .before .before .before .before .before .args .self .ways) h))
+read-bytes-requires c κs =
+    let pre = c .before .before .before .before .before .before .pre in
+    let args = c .before .before .before .before .before .before .args in
+    let first-slot = c .before .first-slot in
+    (pre .1 .narrow, pre .1 .inside, omega (arith, found-low _ _ _ _ (c .find .ensures) .1), λ h. omega (arith, ltb-true (c .find .result) (first-slot .result + args .self .ways) h))
 
 returns : tie.Need-returns
 unfolding slotOf lineOf
-returns c = λ m. c .read-bytes .ensures ∙ rw (c .before .find .ensures, c .before .before .first-slot .ensures .0) (ap readOf (read-value _ _ _ _ _ (c .before .before .before .before .before .before .before .pre .1)))
+returns c =
+    let pre = c .before .before .before .before .before .before .before .pre in
+    let first-slot = c .before .before .first-slot in
+    let find = c .before .find in
+    λ m. c .read-bytes .ensures ∙ rw (find .ensures, first-slot .ensures .0) (ap readOf (read-value _ _ _ _ _ (pre .1)))
 
 pub read-spec : {M : Type 1} → statement M
 read-spec =

@@ -20,7 +20,10 @@ same-length-2 : tie.Need-same-length-2
 same-length-2 c = search needs
 
 returns : tie.Need-returns
-returns c = rw (c .refused .ensures) (sym (state-refuses _ _ _ _ (c .before .before .state-refusal .ensures) (c .before .if1 .taken)))
+returns c =
+    let state-refusal = c .before .before .state-refusal in
+    let if1 = c .before .if1 in
+    rw (c .refused .ensures) (sym (state-refuses _ _ _ _ (state-refusal .ensures) (if1 .taken)))
 
 enum-told : tie.Need-enum-told
 enum-told c = search needs
@@ -32,7 +35,11 @@ enum-known-request : tie.Need-enum-known-request
 enum-known-request c = search needs
 
 fill-line-requires : tie.Need-fill-line-requires
-fill-line-requires c κs = ((state-opens rules.idle _ _ _ (c .before .before .before .before .before .before .state-refusal .ensures) (c .before .before .before .before .before .if1 .left)) .formed, c .before .before .before .request .given .1)
+fill-line-requires c κs =
+    let state-refusal = c .before .before .before .before .before .before .state-refusal in
+    let if1 = c .before .before .before .before .before .if1 in
+    let request = c .before .before .before .request in
+    ((state-opens rules.idle _ _ _ (state-refusal .ensures) (if1 .left)) .formed, request .given .1)
 
 same-length-3 : tie.Need-same-length-3
 same-length-3 c = search needs
@@ -41,7 +48,11 @@ same-length-4 : tie.Need-same-length-4
 same-length-4 c = search needs
 
 returns-2 : tie.Need-returns-2
-returns-2 c = rw (c .refused2 .ensures) (sym (one-refuses _ _ _ (state-opens _ _ _ _ (c .before .before .before .before .state-refusal .ensures) (c .before .before .before .if1 .left)) _ _ refl (ap isFree (c .before .enum-told .given .1))))
+returns-2 c =
+    let state-refusal = c .before .before .before .before .state-refusal in
+    let if1 = c .before .before .before .if1 in
+    let enum-told = c .before .enum-told in
+    rw (c .refused2 .ensures) (sym (one-refuses _ _ _ (state-opens _ _ _ _ (state-refusal .ensures) (if1 .left)) _ _ refl (ap isFree (enum-told .given .1))))
 
 same-length-5 : tie.Need-same-length-5
 same-length-5 c = search needs
@@ -50,7 +61,12 @@ same-length-6 : tie.Need-same-length-6
 same-length-6 c = search needs
 
 returns-3 : tie.Need-returns-3
-returns-3 c = c .before .before .before .before .fill-line .ensures ∙ sym (one-does _ _ _ (state-opens _ _ _ _ (c .before .before .before .before .before .before .before .before .before .before .before .state-refusal .ensures) (c .before .before .before .before .before .before .before .before .before .before .if1 .left)) _ _ refl (ap isFree (c .before .before .before .before .before .before .before .before .request .given .1)))
+returns-3 c =
+    let state-refusal = c .before .before .before .before .before .before .before .before .before .before .before .state-refusal in
+    let if1 = c .before .before .before .before .before .before .before .before .before .before .if1 in
+    let request = c .before .before .before .before .before .before .before .before .request in
+    let fill-line = c .before .before .before .before .fill-line in
+    fill-line .ensures ∙ sym (one-does _ _ _ (state-opens _ _ _ _ (state-refusal .ensures) (if1 .left)) _ _ refl (ap isFree (request .given .1)))
 
 pub reply-spec : {M : Type 1} → statement M
 reply-spec =

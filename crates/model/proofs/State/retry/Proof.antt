@@ -7,7 +7,7 @@ use denote.Ref.{now}
 use Rattle.model.specs.State.{queuesOf, hierarchyOf}
 use Rattle.model.proofs.Calls.{state-refuses, state-opens, one-refuses, one-does}
 use Rattle.model.proofs.Facts.{fit-shaped, fit-figures, waiting-fine}
-use Rattle.rules.proofs.Parts.{parts}
+use Rattle.rules.proofs.QueueView.{parts}
 use Rattle.model.proofs.Calls.{state-refuses, state-opens, one-refuses, one-does}
 use Rattle.model.proofs.Facts.{fit-shaped, fit-figures, waiting-fine}
 use Rattle.model.proofs.State.retry.Statement.{statement}
@@ -20,7 +20,10 @@ refused-requires : tie.Need-refused-requires
 refused-requires c κs = search needs
 
 returns : tie.Need-returns
-returns c = rw (c .refused .ensures) (sym (state-refuses _ _ _ _ (c .before .before .state-refusal .ensures) (c .before .if1 .taken)))
+returns c =
+    let state-refusal = c .before .before .state-refusal in
+    let if1 = c .before .if1 in
+    rw (c .refused .ensures) (sym (state-refuses _ _ _ _ (state-refusal .ensures) (if1 .taken)))
 
 has-waiting-requires : tie.Need-has-waiting-requires
 has-waiting-requires c κs = search needs
@@ -30,17 +33,32 @@ waiting-load-requires c κs = search needs
 
 retry-accepted-requires : tie.Need-retry-accepted-requires
 retry-accepted-requires c κs =
-    let o = state-opens rules.idle _ _ _ (c .before .before .before .before .before .state-refusal .ensures) (c .before .before .before .before .if1 .left) in
-    (fit-shaped (c .before .before .before .before .before .before .before .before .args .self) (now (c .before .before .before .before .before .before .before .before .args .cache)) (now (c .before .before .before .before .before .before .before .before .args .memory)) (o .fit), rw (c .waiting-load .ensures) (waiting-fine (queuesOf (c .before .before .before .before .before .before .before .before .args .self)) (hierarchyOf (c .before .before .before .before .before .before .before .before .args .self) (now (c .before .before .before .before .before .before .before .before .args .cache)) (now (c .before .before .before .before .before .before .before .before .args .memory))) (fit-figures (c .before .before .before .before .before .before .before .before .args .self) (now (c .before .before .before .before .before .before .before .before .args .cache)) (now (c .before .before .before .before .before .before .before .before .args .memory)) (o .fit) .most-size) (parts _ _ (o .formed)) _ (sym (c .before .before .has-waiting .ensures) ∙ c .before .if2 .taken)), c .waiting-load .ensures)
+    let args = c .before .before .before .before .before .before .before .before .args in
+    let state-refusal = c .before .before .before .before .before .state-refusal in
+    let if1 = c .before .before .before .before .if1 in
+    let has-waiting = c .before .before .has-waiting in
+    let if2 = c .before .if2 in
+    let o = state-opens rules.idle _ _ _ (state-refusal .ensures) (if1 .left) in
+    (fit-shaped (args .self) (now (args .cache)) (now (args .memory)) (o .fit), rw (c .waiting-load .ensures) (waiting-fine (queuesOf (args .self)) (hierarchyOf (args .self) (now (args .cache)) (now (args .memory))) (fit-figures (args .self) (now (args .cache)) (now (args .memory)) (o .fit) .most-size) (parts _ _ (o .formed)) _ (sym (has-waiting .ensures) ∙ if2 .taken)), c .waiting-load .ensures)
 
 refused-requires-2 : tie.Need-refused-requires-2
 refused-requires-2 c κs = search needs
 
 returns-2 : tie.Need-returns-2
-returns-2 c = c .retry-accepted .ensures _ ∙ sym (one-does _ _ _ (state-opens _ _ _ _ (c .before .before .before .before .before .before .state-refusal .ensures) (c .before .before .before .before .before .if1 .left)) _ _ refl (ap not (sym (c .before .before .before .has-waiting .ensures) ∙ c .before .before .if2 .taken)))
+returns-2 c =
+    let state-refusal = c .before .before .before .before .before .before .state-refusal in
+    let if1 = c .before .before .before .before .before .if1 in
+    let has-waiting = c .before .before .before .has-waiting in
+    let if2 = c .before .before .if2 in
+    c .retry-accepted .ensures _ ∙ sym (one-does _ _ _ (state-opens _ _ _ _ (state-refusal .ensures) (if1 .left)) _ _ refl (ap not (sym (has-waiting .ensures) ∙ if2 .taken)))
 
 returns-3 : tie.Need-returns-3
-returns-3 c = rw (c .refused2 .ensures) (sym (one-refuses _ _ _ (state-opens _ _ _ _ (c .before .before .before .before .before .state-refusal .ensures) (c .before .before .before .before .if1 .left)) _ _ refl (ap not (sym (c .before .before .has-waiting .ensures) ∙ c .before .if2 .left))))
+returns-3 c =
+    let state-refusal = c .before .before .before .before .before .state-refusal in
+    let if1 = c .before .before .before .before .if1 in
+    let has-waiting = c .before .before .has-waiting in
+    let if2 = c .before .if2 in
+    rw (c .refused2 .ensures) (sym (one-refuses _ _ _ (state-opens _ _ _ _ (state-refusal .ensures) (if1 .left)) _ _ refl (ap not (sym (has-waiting .ensures) ∙ if2 .left))))
 
 pub retry-spec : {M : Type 1} → statement M
 retry-spec =

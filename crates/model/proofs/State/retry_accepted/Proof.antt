@@ -23,11 +23,20 @@ answer-load-requires c κs = search needs
 
 returns : tie.Need-returns
 unfolding retryRule retryWith
-returns c = λ m. rw (← (c .before .before .before .before .pre .2), lacks (loadValue (c .before .before .before .before .args .i) (c .before .before .before .before .args .l .address) (c .before .before .before .before .args .l .width) (c .before .before .before .before .args .self .stores) (hierarchyOf (c .before .before .before .before .args .self) (now (c .before .before .before .before .args .cache)) m)) (sym (c .before .before .read .ensures m) ∙ c .enum-told .given .1))
+returns c =
+    let pre = c .before .before .before .before .pre in
+    let args = c .before .before .before .before .args in
+    let read = c .before .before .read in
+    λ m. rw (← (pre .2), lacks (loadValue (args .i) (args .l .address) (args .l .width) (args .self .stores) (hierarchyOf (args .self) (now (args .cache)) m)) (sym (read .ensures m) ∙ c .enum-told .given .1))
 
 returns-2 : tie.Need-returns-2
 unfolding retryRule retryWith
-returns-2 c = λ m. c .answer-load .ensures _ m ∙ rw (← (c .before .before .before .before .before .before .pre .2), whole-of (loadValue (c .before .before .before .before .before .before .args .i) (c .before .before .before .before .before .before .args .l .address) (c .before .before .before .before .before .before .args .l .width) (c .before .before .before .before .before .before .args .self .stores) (hierarchyOf (c .before .before .before .before .before .before .args .self) (now (c .before .before .before .before .before .before .args .cache)) m)) _ (sym (c .before .before .before .before .read .ensures m) ∙ c .before .before .r .given .1))
+returns-2 c =
+    let pre = c .before .before .before .before .before .before .pre in
+    let args = c .before .before .before .before .before .before .args in
+    let read = c .before .before .before .before .read in
+    let r = c .before .before .r in
+    λ m. c .answer-load .ensures _ m ∙ rw (← (pre .2), whole-of (loadValue (args .i) (args .l .address) (args .l .width) (args .self .stores) (hierarchyOf (args .self) (now (args .cache)) m)) _ (sym (read .ensures m) ∙ r .given .1))
 
 pub retry-accepted-spec : {M : Type 1} → statement M
 retry-accepted-spec =

@@ -10,7 +10,9 @@ show-part-requires : tie.Need-show-part-requires
 show-part-requires c κs = search needs
 
 add-e : tie.Need-add-e
-add-e c = omega (arith, c .before .show-part .ensures .1)
+add-e c =
+    let show-part = c .before .show-part in
+    omega (arith, show-part .ensures .1)
 
 sub-result : tie.Need-sub-result
 sub-result c = search needs
@@ -19,13 +21,16 @@ part-result-start : tie.Need-part-result-start
 part-result-start c = search needs
 
 part-result-end : tie.Need-part-result-end
-part-result-end c = omega (arith, c .before .show-part .ensures .1)
+part-result-end c =
+    let show-part = c .before .show-part in
+    omega (arith, show-part .ensures .1)
 
 returns : tie.Need-returns
 returns c =
-    let p = c .before .before .show-part .result in
+    let show-part = c .before .before .show-part in
+    let p = show-part .result in
     let e : p .start + p .length - p .start ≡ p .length = omega arith in
-    rw (← (c .before .before .show-part .ensures .0)) (record { bytes = rw e; place = refl })
+    rw (← (show-part .ensures .0)) (record { bytes = rw e; place = refl })
 
 pub show-line-spec : {M : Type 1} → statement M
 show-line-spec =

@@ -19,51 +19,81 @@ state-refusal-requires : tie.Need-state-refusal-requires
 state-refusal-requires c κs = search needs
 
 returns : tie.Need-returns
-returns c = (show-refused _ _ _ _ 0 (state-refuses _ _ _ _ (c .before .state-refusal .ensures) (c .if1 .taken)), omega arith)
+returns c =
+    let state-refusal = c .before .state-refusal in
+    (show-refused _ _ _ _ 0 (state-refuses _ _ _ _ (state-refusal .ensures) (c .if1 .taken)), omega arith)
 
 returns-2 : tie.Need-returns-2
-returns-2 c = (show-outside _ _ _ _ (none-does _ _ _ (state-opens (rules.show (c .before .before .before .before .before .before .args .address)) _ _ _ (c .before .before .before .state-refusal .ensures) (c .before .before .if1 .left)) refl) (c .if2 .taken), omega arith)
+returns-2 c =
+    let args = c .before .before .before .before .before .before .args in
+    let state-refusal = c .before .before .before .state-refusal in
+    let if1 = c .before .before .if1 in
+    (show-outside _ _ _ _ (none-does _ _ _ (state-opens (rules.show (args .address)) _ _ _ (state-refusal .ensures) (if1 .left)) refl) (c .if2 .taken), omega arith)
 
 cast-ways : tie.Need-cast-ways
 cast-ways c = search needs
 
 first-slot-requires : tie.Need-first-slot-requires
 first-slot-requires c κs =
-    let o = state-opens (rules.show (c .before .before .before .before .before .before .before .before .args .address)) _ _ _ (c .before .before .before .before .before .state-refusal .ensures) (c .before .before .before .before .if1 .left) in
-    let f = fit-shaped (c .before .before .before .before .before .before .before .before .args .self) (now (c .before .before .before .before .before .before .before .before .args .cache)) (now (c .before .before .before .before .before .before .before .before .args .memory)) (o .fit) in
+    let args = c .before .before .before .before .before .before .before .before .args in
+    let state-refusal = c .before .before .before .before .before .state-refusal in
+    let if1 = c .before .before .before .before .if1 in
+    let o = state-opens (rules.show (args .address)) _ _ _ (state-refusal .ensures) (if1 .left) in
+    let f = fit-shaped (args .self) (now (args .cache)) (now (args .memory)) (o .fit) in
     (f .some-set, f .most-sets, f .most-ways)
 
 find-requires : tie.Need-find-requires
 find-requires c κs =
-    let o = state-opens (rules.show (c .before .before .before .before .before .before .before .before .before .args .address)) _ _ _ (c .before .before .before .before .before .before .state-refusal .ensures) (c .before .before .before .before .before .if1 .left) in
-    let f = fit-shaped (c .before .before .before .before .before .before .before .before .before .args .self) (now (c .before .before .before .before .before .before .before .before .before .args .cache)) (now (c .before .before .before .before .before .before .before .before .before .args .memory)) (o .fit) in
+    let args = c .before .before .before .before .before .before .before .before .before .args in
+    let state-refusal = c .before .before .before .before .before .before .state-refusal in
+    let if1 = c .before .before .before .before .before .if1 in
+    let o = state-opens (rules.show (args .address)) _ _ _ (state-refusal .ensures) (if1 .left) in
+    let f = fit-shaped (args .self) (now (args .cache)) (now (args .memory)) (o .fit) in
     omega arith
 
 add-if3 : tie.Need-add-if3
 add-if3 c =
-    let o = state-opens (rules.show (c .before .before .before .before .before .before .before .before .before .before .args .address)) _ _ _ (c .before .before .before .before .before .before .before .state-refusal .ensures) (c .before .before .before .before .before .before .if1 .left) in
-    let f = fit-shaped (c .before .before .before .before .before .before .before .before .before .before .args .self) (now (c .before .before .before .before .before .before .before .before .before .before .args .cache)) (now (c .before .before .before .before .before .before .before .before .before .before .args .memory)) (o .fit) in
+    let args = c .before .before .before .before .before .before .before .before .before .before .args in
+    let state-refusal = c .before .before .before .before .before .before .before .state-refusal in
+    let if1 = c .before .before .before .before .before .before .if1 in
+    let o = state-opens (rules.show (args .address)) _ _ _ (state-refusal .ensures) (if1 .left) in
+    let f = fit-shaped (args .self) (now (args .cache)) (now (args .memory)) (o .fit) in
     omega arith
 
 mul-t13 : tie.Need-mul-t13
 mul-t13 c =
-    let o = state-opens (rules.show (c .before .before .before .before .before .before .before .before .before .before .before .args .address)) _ _ _ (c .before .before .before .before .before .before .before .before .state-refusal .ensures) (c .before .before .before .before .before .before .before .if1 .left) in
-    let f = fit-shaped (c .before .before .before .before .before .before .before .before .before .before .before .args .self) (now (c .before .before .before .before .before .before .before .before .before .before .before .args .cache)) (now (c .before .before .before .before .before .before .before .before .before .before .before .args .memory)) (o .fit) in
+    let args = c .before .before .before .before .before .before .before .before .before .before .before .args in
+    let state-refusal = c .before .before .before .before .before .before .before .before .state-refusal in
+    let if1 = c .before .before .before .before .before .before .before .if1 in
+    let o = state-opens (rules.show (args .address)) _ _ _ (state-refusal .ensures) (if1 .left) in
+    let f = fit-shaped (args .self) (now (args .cache)) (now (args .memory)) (o .fit) in
     omega arith
 
 returns-3 : tie.Need-returns-3
 unfolding lineOf
 returns-3 c =
-    let o = state-opens (rules.show (c .before .before .before .before .before .before .before .before .before .before .before .args .address)) _ _ _ (c .before .before .before .before .before .before .before .before .state-refusal .ensures) (c .before .before .before .before .before .before .before .if1 .left) in
-    let f = fit-shaped (c .before .before .before .before .before .before .before .before .before .before .before .args .self) (now (c .before .before .before .before .before .before .before .before .before .before .before .args .cache)) (now (c .before .before .before .before .before .before .before .before .before .before .before .args .memory)) (o .fit) in
-    (show-present _ _ _ _ (none-does _ _ _ o refl) _ (c .before .before .before .before .before .if2 .left) (sym (found-present (hierarchyOf (c .before .before .before .before .before .before .before .before .before .before .before .args .self) (now (c .before .before .before .before .before .before .before .before .before .before .before .args .cache)) (now (c .before .before .before .before .before .before .before .before .before .before .before .args .memory))) (lineOf (c .before .before .before .before .before .before .before .before .before .before .before .args .address)) _ _ (c .before .before .first-slot .ensures .0) (c .before .find .ensures)) ∙ lt-ltb _ _ (c .if3 .taken)) (found-slot (hierarchyOf (c .before .before .before .before .before .before .before .before .before .before .before .args .self) (now (c .before .before .before .before .before .before .before .before .before .before .before .args .cache)) (now (c .before .before .before .before .before .before .before .before .before .before .before .args .memory))) (lineOf (c .before .before .before .before .before .before .before .before .before .before .before .args .address)) _ _ (c .before .before .first-slot .ensures .0) (c .before .find .ensures)) (omega (arith, f .cache-long)), omega (arith, f .cache-long))
+    let args = c .before .before .before .before .before .before .before .before .before .before .before .args in
+    let state-refusal = c .before .before .before .before .before .before .before .before .state-refusal in
+    let if1 = c .before .before .before .before .before .before .before .if1 in
+    let if2 = c .before .before .before .before .before .if2 in
+    let first-slot = c .before .before .first-slot in
+    let find = c .before .find in
+    let o = state-opens (rules.show (args .address)) _ _ _ (state-refusal .ensures) (if1 .left) in
+    let f = fit-shaped (args .self) (now (args .cache)) (now (args .memory)) (o .fit) in
+    (show-present _ _ _ _ (none-does _ _ _ o refl) _ (if2 .left) (sym (found-present (hierarchyOf (args .self) (now (args .cache)) (now (args .memory))) (lineOf (args .address)) _ _ (first-slot .ensures .0) (find .ensures)) ∙ lt-ltb _ _ (c .if3 .taken)) (found-slot (hierarchyOf (args .self) (now (args .cache)) (now (args .memory))) (lineOf (args .address)) _ _ (first-slot .ensures .0) (find .ensures)) (omega (arith, f .cache-long)), omega (arith, f .cache-long))
 
 returns-4 : tie.Need-returns-4
 unfolding lineOf
 returns-4 c =
-    let o = state-opens (rules.show (c .before .before .before .before .before .before .before .before .before .before .before .args .address)) _ _ _ (c .before .before .before .before .before .before .before .before .state-refusal .ensures) (c .before .before .before .before .before .before .before .if1 .left) in
-    let f = fit-shaped (c .before .before .before .before .before .before .before .before .before .before .before .args .self) (now (c .before .before .before .before .before .before .before .before .before .before .before .args .cache)) (now (c .before .before .before .before .before .before .before .before .before .before .before .args .memory)) (o .fit) in
-    (show-absent _ _ _ _ (none-does _ _ _ o refl) (c .before .before .before .before .before .if2 .left) (sym (found-present (hierarchyOf (c .before .before .before .before .before .before .before .before .before .before .before .args .self) (now (c .before .before .before .before .before .before .before .before .before .before .before .args .cache)) (now (c .before .before .before .before .before .before .before .before .before .before .before .args .memory))) (lineOf (c .before .before .before .before .before .before .before .before .before .before .before .args .address)) _ _ (c .before .before .first-slot .ensures .0) (c .before .find .ensures)) ∙ le-ltb _ _ (c .if3 .left)), omega arith)
+    let args = c .before .before .before .before .before .before .before .before .before .before .before .args in
+    let state-refusal = c .before .before .before .before .before .before .before .before .state-refusal in
+    let if1 = c .before .before .before .before .before .before .before .if1 in
+    let if2 = c .before .before .before .before .before .if2 in
+    let first-slot = c .before .before .first-slot in
+    let find = c .before .find in
+    let o = state-opens (rules.show (args .address)) _ _ _ (state-refusal .ensures) (if1 .left) in
+    let f = fit-shaped (args .self) (now (args .cache)) (now (args .memory)) (o .fit) in
+    (show-absent _ _ _ _ (none-does _ _ _ o refl) (if2 .left) (sym (found-present (hierarchyOf (args .self) (now (args .cache)) (now (args .memory))) (lineOf (args .address)) _ _ (first-slot .ensures .0) (find .ensures)) ∙ le-ltb _ _ (c .if3 .left)), omega arith)
 
 pub show-part-spec : {M : Type 1} → statement M
 show-part-spec =

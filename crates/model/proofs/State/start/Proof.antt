@@ -4,7 +4,7 @@ use mathlib.Core.Path.{refl, sym, _∙_}
 use native.Mathlib.Omega.{arith}
 use borrow.Author.Tests.{eq-eqb, ne-eqb}
 use native.Mathlib.Nat.{mul-le-mul}
-use Rattle.lines.proofs.Figures.{figures-tell}
+use Rattle.line_checks.proofs.Figures.{figures-tell}
 use Rattle.rules.specs.Runs.{startAllowed, startAnswer, startWorld, started, unstarted}
 use Rattle.model.proofs.State.start.Statement.{statement}
 use Rattle.model.proofs.State.start.Tie as tie
@@ -14,17 +14,20 @@ figures-allowed-requires c κs = search needs
 
 mul-if2 : tie.Need-mul-if2
 mul-if2 c =
-    let f = figures-tell _ _ _ (sym (c .before .figures-allowed .ensures) ∙ c .if1 .taken) in
+    let figures-allowed = c .before .figures-allowed in
+    let f = figures-tell _ _ _ (sym (figures-allowed .ensures) ∙ c .if1 .taken) in
     omega (arith, mul-le-mul (f .most-sets) (f .most-ways))
 
 cast-if2 : tie.Need-cast-if2
 cast-if2 c =
-    let f = figures-tell _ _ _ (sym (c .before .figures-allowed .ensures) ∙ c .if1 .taken) in
+    let figures-allowed = c .before .figures-allowed in
+    let f = figures-tell _ _ _ (sym (figures-allowed .ensures) ∙ c .if1 .taken) in
     omega (arith, mul-le-mul (f .most-sets) (f .most-ways))
 
 mul-if2-2 : tie.Need-mul-if2-2
 mul-if2-2 c =
-    let f = figures-tell _ _ _ (sym (c .before .figures-allowed .ensures) ∙ c .if1 .taken) in
+    let figures-allowed = c .before .figures-allowed in
+    let f = figures-tell _ _ _ (sym (figures-allowed .ensures) ∙ c .if1 .taken) in
     omega (arith, mul-le-mul (f .most-sets) (f .most-ways))
 
 not-started-requires : tie.Need-not-started-requires
@@ -32,19 +35,27 @@ not-started-requires c κs = search needs
 
 returns : tie.Need-returns
 unfolding startAllowed startAnswer startWorld unstarted
-returns c = rw (c .not-started .ensures, sym (c .before .before .before .figures-allowed .ensures) ∙ c .before .before .if1 .taken, ne-eqb _ _ (c .before .if2 .taken)) (refl, refl)
+returns c =
+    let figures-allowed = c .before .before .before .figures-allowed in
+    let if1 = c .before .before .if1 in
+    let if2 = c .before .if2 in
+    rw (c .not-started .ensures, sym (figures-allowed .ensures) ∙ if1 .taken, ne-eqb _ _ (if2 .taken)) (refl, refl)
 
 zero-cache-requires : tie.Need-zero-cache-requires
 zero-cache-requires c κs = search needs
 
 start-tags-requires : tie.Need-start-tags-requires
 start-tags-requires c κs =
-    let f = figures-tell _ _ _ (sym (c .before .before .before .before .before .before .figures-allowed .ensures) ∙ c .before .before .before .before .before .if1 .taken) in
+    let figures-allowed = c .before .before .before .before .before .before .figures-allowed in
+    let if1 = c .before .before .before .before .before .if1 in
+    let f = figures-tell _ _ _ (sym (figures-allowed .ensures) ∙ if1 .taken) in
     (omega (arith, mul-le-mul (f .most-sets) (f .most-ways)), f .some-way, f .most-ways)
 
 cast-empty-state : tie.Need-cast-empty-state
 cast-empty-state c =
-    let f = figures-tell _ _ _ (sym (c .before .before .before .before .before .before .before .figures-allowed .ensures) ∙ c .before .before .before .before .before .before .if1 .taken) in
+    let figures-allowed = c .before .before .before .before .before .before .before .figures-allowed in
+    let if1 = c .before .before .before .before .before .before .if1 in
+    let f = figures-tell _ _ _ (sym (figures-allowed .ensures) ∙ if1 .taken) in
     omega (arith, f .most-size)
 
 empty-state-requires : tie.Need-empty-state-requires
@@ -55,14 +66,23 @@ same-length c = search needs
 
 returns-2 : tie.Need-returns-2
 unfolding startAllowed startAnswer startWorld started
-returns-2 c = rw (sym (c .before .before .before .before .before .before .before .before .figures-allowed .ensures) ∙ c .before .before .before .before .before .before .before .if1 .taken, eq-eqb _ _ (c .before .before .before .before .before .before .if2 .left), c .empty-state .ensures, c .before .start-tags .ensures, c .before .before .before .before .zero-cache .ensures, c .before .before .before .before .before .before .if2 .left) (refl, refl)
+returns-2 c =
+    let figures-allowed = c .before .before .before .before .before .before .before .before .figures-allowed in
+    let if1 = c .before .before .before .before .before .before .before .if1 in
+    let if2 = c .before .before .before .before .before .before .if2 in
+    let zero-cache = c .before .before .before .before .zero-cache in
+    let start-tags = c .before .start-tags in
+    rw (sym (figures-allowed .ensures) ∙ if1 .taken, eq-eqb _ _ (if2 .left), c .empty-state .ensures, start-tags .ensures, zero-cache .ensures, if2 .left) (refl, refl)
 
 not-started-requires-2 : tie.Need-not-started-requires-2
 not-started-requires-2 c κs = search needs
 
 returns-3 : tie.Need-returns-3
 unfolding startAllowed startAnswer startWorld unstarted
-returns-3 c = rw (c .not-started2 .ensures, sym (c .before .before .figures-allowed .ensures) ∙ c .before .if1 .left) (refl, refl)
+returns-3 c =
+    let figures-allowed = c .before .before .figures-allowed in
+    let if1 = c .before .if1 in
+    rw (c .not-started2 .ensures, sym (figures-allowed .ensures) ∙ if1 .left) (refl, refl)
 
 pub start-spec : {M : Type 1} → statement M
 start-spec =

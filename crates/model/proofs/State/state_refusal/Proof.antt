@@ -31,7 +31,9 @@ queues-good-requires c κs = search needs
 
 is-request-good-requires : tie.Need-is-request-good-requires
 is-request-good-requires c κs =
-    shaped-self _ _ (fit-shaped _ _ _ (lines-fit _ (sym (c .before .before .before .lines-refusal .ensures) ∙ c .before .before .if1 .left)))
+    let lines-refusal = c .before .before .before .lines-refusal in
+    let if1 = c .before .before .if1 in
+    shaped-self _ _ (fit-shaped _ _ _ (lines-fit _ (sym (lines-refusal .ensures) ∙ if1 .left)))
 
 returns-2 : tie.Need-returns-2
 returns-2 c =

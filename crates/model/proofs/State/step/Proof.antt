@@ -64,7 +64,9 @@ same-length-2 : tie.Need-same-length-2
 same-length-2 c = search needs
 
 returns : tie.Need-returns
-returns c = rw (c .before .before .before .before .call .given .1) (c .load .ensures)
+returns c =
+    let call = c .before .before .before .before .call in
+    rw (call .given .1) (c .load .ensures)
 
 same-length-3 : tie.Need-same-length-3
 same-length-3 c = search needs
@@ -73,7 +75,9 @@ same-length-4 : tie.Need-same-length-4
 same-length-4 c = search needs
 
 returns-2 : tie.Need-returns-2
-returns-2 c = rw (c .before .before .before .before .call2 .given .1) (c .store .ensures)
+returns-2 c =
+    let call2 = c .before .before .before .before .call2 in
+    rw (call2 .given .1) (c .store .ensures)
 
 same-length-5 : tie.Need-same-length-5
 same-length-5 c = search needs
@@ -82,7 +86,9 @@ same-length-6 : tie.Need-same-length-6
 same-length-6 c = search needs
 
 returns-3 : tie.Need-returns-3
-returns-3 c = rw (c .before .before .before .before .call3 .given .1) (c .retry .ensures)
+returns-3 c =
+    let call3 = c .before .before .before .before .call3 in
+    rw (call3 .given .1) (c .retry .ensures)
 
 same-length-7 : tie.Need-same-length-7
 same-length-7 c = search needs
@@ -91,7 +97,9 @@ same-length-8 : tie.Need-same-length-8
 same-length-8 c = search needs
 
 returns-4 : tie.Need-returns-4
-returns-4 c = rw (c .before .before .before .before .call4 .given .1) (c .commit .ensures)
+returns-4 c =
+    let call4 = c .before .before .before .before .call4 in
+    rw (call4 .given .1) (c .commit .ensures)
 
 same-length-9 : tie.Need-same-length-9
 same-length-9 c = search needs
@@ -100,7 +108,9 @@ same-length-10 : tie.Need-same-length-10
 same-length-10 c = search needs
 
 returns-5 : tie.Need-returns-5
-returns-5 c = rw (c .before .before .before .before .call5 .given .1) (c .abort .ensures)
+returns-5 c =
+    let call5 = c .before .before .before .before .call5 in
+    rw (call5 .given .1) (c .abort .ensures)
 
 same-length-11 : tie.Need-same-length-11
 same-length-11 c = search needs
@@ -109,7 +119,10 @@ same-length-12 : tie.Need-same-length-12
 same-length-12 c = search needs
 
 returns-6 : tie.Need-returns-6
-returns-6 c = rw (c .before .before .before .before .before .before .before .enum-told .given .1) (c .before .before .before .before .idle .ensures)
+returns-6 c =
+    let enum-told = c .before .before .before .before .before .before .before .enum-told in
+    let idle = c .before .before .before .before .idle in
+    rw (enum-told .given .1) (idle .ensures)
 
 same-length-13 : tie.Need-same-length-13
 same-length-13 c = search needs
@@ -118,7 +131,10 @@ same-length-14 : tie.Need-same-length-14
 same-length-14 c = search needs
 
 returns-7 : tie.Need-returns-7
-returns-7 c = rw (c .before .before .before .before .before .before .before .enum-told2 .given .1) (c .before .before .before .before .reply .ensures)
+returns-7 c =
+    let enum-told2 = c .before .before .before .before .before .before .before .enum-told2 in
+    let reply = c .before .before .before .before .reply in
+    rw (enum-told2 .given .1) (reply .ensures)
 
 same-length-15 : tie.Need-same-length-15
 same-length-15 c = search needs
@@ -127,7 +143,10 @@ same-length-16 : tie.Need-same-length-16
 same-length-16 c = search needs
 
 returns-8 : tie.Need-returns-8
-returns-8 c = rw (c .before .before .before .before .before .enum-told3 .given .1) (c .before .before .flush .ensures)
+returns-8 c =
+    let enum-told3 = c .before .before .before .before .before .enum-told3 in
+    let flush = c .before .before .flush in
+    rw (enum-told3 .given .1) (flush .ensures)
 
 same-length-17 : tie.Need-same-length-17
 same-length-17 c = search needs
@@ -136,7 +155,9 @@ same-length-18 : tie.Need-same-length-18
 same-length-18 c = search needs
 
 returns-9 : tie.Need-returns-9
-returns-9 c = rw (c .before .before .before .before .call6 .given .1) (c .show .ensures)
+returns-9 c =
+    let call6 = c .before .before .before .before .call6 in
+    rw (call6 .given .1) (c .show .ensures)
 
 pub step-spec : {M : Type 1} → statement M
 step-spec =

@@ -1,7 +1,7 @@
 -- `State::store` meets its contract.
 use borrow.Author.Needs.{needs}
 use mathlib.Core.Path.{refl, sym, _∙_}
-use Rattle.entries.specs.Good.{sized}
+use Rattle.queue_checks.specs.Good.{sized}
 use Rattle.model.proofs.Calls.{state-refuses, state-opens, access-refuses, store-goes, passed-access}
 use Rattle.model.proofs.Facts.{access-width}
 use Rattle.model.proofs.Facts.{access-width}
@@ -15,7 +15,10 @@ refused-requires : tie.Need-refused-requires
 refused-requires c κs = search needs
 
 returns : tie.Need-returns
-returns c = rw (c .refused .ensures) (sym (state-refuses _ _ _ _ (c .before .before .state-refusal .ensures) (c .before .if1 .taken)))
+returns c =
+    let state-refusal = c .before .before .state-refusal in
+    let if1 = c .before .if1 in
+    rw (c .refused .ensures) (sym (state-refuses _ _ _ _ (state-refusal .ensures) (if1 .taken)))
 
 check-access-requires : tie.Need-check-access-requires
 check-access-requires c κs = search needs
@@ -34,18 +37,30 @@ refused-requires-2 c κs = search needs
 
 returns-2 : tie.Need-returns-2
 returns-2 c =
-    rw (c .refused2 .ensures, c .before .failure .ensures, c .before .before .enum-told .given .1)
-    (sym (access-refuses _ _ _ _ _ _ refl (state-opens _ _ _ _ (c .before .before .before .before .before .before .state-refusal .ensures) (c .before .before .before .before .before .if1 .left)) _ (sym (c .before .before .before .before .check-access .ensures) ∙ c .before .before .enum-told .given .1)))
+    let state-refusal = c .before .before .before .before .before .before .state-refusal in
+    let if1 = c .before .before .before .before .before .if1 in
+    let check-access = c .before .before .before .before .check-access in
+    let enum-told = c .before .before .enum-told in
+    let failure = c .before .failure in
+    rw (c .refused2 .ensures, failure .ensures, enum-told .given .1)
+    (sym (access-refuses _ _ _ _ _ _ refl (state-opens _ _ _ _ (state-refusal .ensures) (if1 .left)) _ (sym (check-access .ensures) ∙ enum-told .given .1)))
 
 store-checked-requires : tie.Need-store-checked-requires
 store-checked-requires c κs =
-    let p = passed-access _ _ _ _ (sym (c .before .before .before .check-access .ensures) ∙ c .before .checked .given .1) in
-    rw (p .1) (access-width (sized (c .before .before .before .before .before .before .before .before .args .self .size)) (c .before .before .before .before .before .before .before .before .args .address) (c .before .before .before .before .before .before .before .before .args .width) (p .0))
+    let args = c .before .before .before .before .before .before .before .before .args in
+    let check-access = c .before .before .before .check-access in
+    let checked = c .before .checked in
+    let p = passed-access _ _ _ _ (sym (check-access .ensures) ∙ checked .given .1) in
+    rw (p .1) (access-width (sized (args .self .size)) (args .address) (args .width) (p .0))
 
 returns-3 : tie.Need-returns-3
 returns-3 c =
-    let e = sym (c .before .before .before .before .check-access .ensures) ∙ c .before .before .checked .given .1 in
-    c .store-checked .ensures _ _ ∙ rw (passed-access _ _ _ _ e .1) (store-goes _ _ _ _ _ (state-opens _ _ _ _ (c .before .before .before .before .before .before .state-refusal .ensures) (c .before .before .before .before .before .if1 .left)) _ e)
+    let state-refusal = c .before .before .before .before .before .before .state-refusal in
+    let if1 = c .before .before .before .before .before .if1 in
+    let check-access = c .before .before .before .before .check-access in
+    let checked = c .before .before .checked in
+    let e = sym (check-access .ensures) ∙ checked .given .1 in
+    c .store-checked .ensures _ _ ∙ rw (passed-access _ _ _ _ e .1) (store-goes _ _ _ _ _ (state-opens _ _ _ _ (state-refusal .ensures) (if1 .left)) _ e)
 
 pub store-spec : {M : Type 1} → statement M
 store-spec =

@@ -13,22 +13,37 @@ returns c = rw (eq-eqb _ _ (c .if1 .taken))
 
 returns-2 : tie.Need-returns-2
 unfolding wantsLine lineOf
-returns-2 c = rw (ne-eqb _ _ (c .before .before .before .if1 .left), lt-leb _ _ (c .if2 .taken))
+returns-2 c =
+    let if1 = c .before .before .before .if1 in
+    rw (ne-eqb _ _ (if1 .left), lt-leb _ _ (c .if2 .taken))
 
 is-present-requires : tie.Need-is-present-requires
 is-present-requires c κs = search needs
 
 returns-3 : tie.Need-returns-3
 unfolding wantsLine lineOf
-returns-3 c = rw (ne-eqb _ _ (c .before .before .before .before .before .before .before .if1 .left), le-leb _ _ (c .before .before .before .before .if2 .left), c .before .before .before .if3 .taken, sym (c .before .is-present .ensures) ∙ c .if4 .taken)
+returns-3 c =
+    let if1 = c .before .before .before .before .before .before .before .if1 in
+    let if2 = c .before .before .before .before .if2 in
+    let if3 = c .before .before .before .if3 in
+    let is-present = c .before .is-present in
+    rw (ne-eqb _ _ (if1 .left), le-leb _ _ (if2 .left), if3 .taken, sym (is-present .ensures) ∙ c .if4 .taken)
 
 returns-4 : tie.Need-returns-4
 unfolding wantsLine lineOf
-returns-4 c = rw (ne-eqb _ _ (c .before .before .before .before .before .before .before .if1 .left), le-leb _ _ (c .before .before .before .before .if2 .left), c .before .before .before .if3 .taken, sym (c .before .is-present .ensures) ∙ c .if4 .left)
+returns-4 c =
+    let if1 = c .before .before .before .before .before .before .before .if1 in
+    let if2 = c .before .before .before .before .if2 in
+    let if3 = c .before .before .before .if3 in
+    let is-present = c .before .is-present in
+    rw (ne-eqb _ _ (if1 .left), le-leb _ _ (if2 .left), if3 .taken, sym (is-present .ensures) ∙ c .if4 .left)
 
 returns-5 : tie.Need-returns-5
 unfolding wantsLine lineOf
-returns-5 c = rw (ne-eqb _ _ (c .before .before .before .before .if1 .left), le-leb _ _ (c .before .if2 .left), c .if3 .left)
+returns-5 c =
+    let if1 = c .before .before .before .before .if1 in
+    let if2 = c .before .if2 in
+    rw (ne-eqb _ _ (if1 .left), le-leb _ _ (if2 .left), c .if3 .left)
 
 pub wants-line-spec : {M : Type 1} → statement M
 wants-line-spec =

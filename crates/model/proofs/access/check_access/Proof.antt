@@ -14,23 +14,42 @@ width-allowed-requires : tie.Need-width-allowed-requires
 width-allowed-requires c κs = search needs
 
 rem-if2 : tie.Need-rem-if2
-rem-if2 c = width-cases (λ w. 0 < w) (omega arith) (omega arith) (omega arith) _ (sym (c .before .width-allowed .ensures) ∙ c .if1 .taken)
+rem-if2 c =
+    let width-allowed = c .before .width-allowed in
+    width-cases (λ w. 0 < w) (omega arith) (omega arith) (omega arith) _ (sym (width-allowed .ensures) ∙ c .if1 .taken)
 
 returns : tie.Need-returns
-returns c = access-uneven _ _ _ (sym (c .before .before .width-allowed .ensures) ∙ c .before .if1 .taken) (c .if2 .taken)
+returns c =
+    let width-allowed = c .before .before .width-allowed in
+    let if1 = c .before .if1 in
+    access-uneven _ _ _ (sym (width-allowed .ensures) ∙ if1 .taken) (c .if2 .taken)
 
 returns-2 : tie.Need-returns-2
-returns-2 c = access-out _ _ _ (sym (c .before .before .before .width-allowed .ensures) ∙ c .before .before .if1 .taken) (c .before .if2 .left) (omega arith)
+returns-2 c =
+    let width-allowed = c .before .before .before .width-allowed in
+    let if1 = c .before .before .if1 in
+    let if2 = c .before .if2 in
+    access-out _ _ _ (sym (width-allowed .ensures) ∙ if1 .taken) (if2 .left) (omega arith)
 
 returns-3 : tie.Need-returns-3
-returns-3 c = access-out _ _ _ (sym (c .before .before .before .before .width-allowed .ensures) ∙ c .before .before .before .if1 .taken) (c .before .before .if2 .left) (omega arith)
+returns-3 c =
+    let width-allowed = c .before .before .before .before .width-allowed in
+    let if1 = c .before .before .before .if1 in
+    let if2 = c .before .before .if2 in
+    access-out _ _ _ (sym (width-allowed .ensures) ∙ if1 .taken) (if2 .left) (omega arith)
 
 returns-4 : tie.Need-returns-4
-returns-4 c = access-in _ _ _ (sym (c .before .before .before .before .width-allowed .ensures) ∙ c .before .before .before .if1 .taken) (c .before .before .if2 .left) (omega arith)
+returns-4 c =
+    let width-allowed = c .before .before .before .before .width-allowed in
+    let if1 = c .before .before .before .if1 in
+    let if2 = c .before .before .if2 in
+    access-in _ _ _ (sym (width-allowed .ensures) ∙ if1 .taken) (if2 .left) (omega arith)
 
 returns-5 : tie.Need-returns-5
 unfolding checkedAccess guarded
-returns-5 c = rw (sym (c .before .width-allowed .ensures) ∙ c .if1 .left)
+returns-5 c =
+    let width-allowed = c .before .width-allowed in
+    rw (sym (width-allowed .ensures) ∙ c .if1 .left)
 
 pub check-access-spec : {M : Type 1} → statement M
 check-access-spec =

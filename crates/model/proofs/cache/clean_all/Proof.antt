@@ -42,11 +42,15 @@ loop-less c = search needs
 
 loop-again : tie.Need-loop-again Inv-loop μ-loop
 loop-again c =
-    (omega arith, c .before .before .loop .inv .1 ∙ steps-next _ _ _ _ (c .before .loop-test .taken))
+    let loop = c .before .before .loop in
+    let loop-test = c .before .loop-test in
+    (omega arith, loop .inv .1 ∙ steps-next _ _ _ _ (loop-test .taken))
 
 returns : tie.Need-returns Inv-loop μ-loop
 returns c =
-    sym (steps-end _ _ _ _ (c .loop-test .left)) ∙ (sym (c .before .loop .inv .1) ∙ flushed-tags (c .before .before .args .count) (c .before .before .args .tags))
+    let args = c .before .before .args in
+    let loop = c .before .loop in
+    sym (steps-end _ _ _ _ (c .loop-test .left)) ∙ (sym (loop .inv .1) ∙ flushed-tags (args .count) (args .tags))
 
 pub clean-all-spec : {M : Type 1} → statement M
 clean-all-spec =

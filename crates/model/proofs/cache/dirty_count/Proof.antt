@@ -41,8 +41,9 @@ loop-less c = search needs
 
 loop-again : tie.Need-loop-again Inv-loop μ-loop
 loop-again c =
-    let tags = c .before .before .before .before .args .t1 in
+    let args = c .before .before .before .before .args in
     let l = c .before .before .before .loop in
+    let tags = args .t1 in
     let h : l .k < length tags = omega arith in (
       omega arith,
       omega arith,
@@ -51,8 +52,10 @@ loop-again c =
 
 returns : tie.Need-returns Inv-loop μ-loop
 returns c =
-    let h : length (c .before .before .args .t1) ≤ c .before .loop .k = omega arith in
-    omega (arith, c .before .loop .inv .2, count-end (λ t. t .dirty) (c .before .before .args .t1) (c .before .loop .k) h)
+    let args = c .before .before .args in
+    let loop = c .before .loop in
+    let h : length (args .t1) ≤ loop .k = omega arith in
+    omega (arith, loop .inv .2, count-end (λ t. t .dirty) (args .t1) (loop .k) h)
 
 pub dirty-count-spec : {M : Type 1} → statement M
 dirty-count-spec =

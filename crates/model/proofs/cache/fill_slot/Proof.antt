@@ -45,7 +45,8 @@ loop-again : tie.Need-loop-again Inv-loop μ-loop
 loop-again c =
     let a = c .before .before .before .args in
     let l = c .before .before .loop in
-    let t = c .before .loop-test .taken in (
+    let loop-test = c .before .loop-test in
+    let t = loop-test .taken in (
       omega arith,
       simp length-set (l .inv .1),
       l .inv .2 ∙ (steps-on _ (16 * a .v) (l .i) 16 _ t ∙ rw (fill-at (a .v) (l .i) (a .src .now) _ t)),

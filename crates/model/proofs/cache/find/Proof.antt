@@ -38,7 +38,10 @@ holds-line-requires c κs = search needs
 
 returns : tie.Need-returns Inv-loop μ-loop
 returns c =
-    sym (c .before .before .before .before .loop .inv .2 ∙ first-hit _ _ _ (c .before .before .before .loop-test .taken) (sym (c .before .holds-line .ensures) ∙ c .if1 .taken))
+    let loop = c .before .before .before .before .loop in
+    let loop-test = c .before .before .before .loop-test in
+    let holds-line = c .before .holds-line in
+    sym (loop .inv .2 ∙ first-hit _ _ _ (loop-test .taken) (sym (holds-line .ensures) ∙ c .if1 .taken))
 
 add-k : tie.Need-add-k Inv-loop μ-loop
 add-k c = search needs
@@ -48,11 +51,15 @@ loop-less c = search needs
 
 loop-again : tie.Need-loop-again Inv-loop μ-loop
 loop-again c =
-    (omega arith, omega arith, c .before .before .before .before .loop .inv .2 ∙ first-miss _ _ _ (c .before .before .before .loop-test .taken) (sym (c .before .holds-line .ensures) ∙ c .if1 .left))
+    let loop = c .before .before .before .before .loop in
+    let loop-test = c .before .before .before .loop-test in
+    let holds-line = c .before .holds-line in
+    (omega arith, omega arith, loop .inv .2 ∙ first-miss _ _ _ (loop-test .taken) (sym (holds-line .ensures) ∙ c .if1 .left))
 
 returns-2 : tie.Need-returns-2 Inv-loop μ-loop
 returns-2 c =
-    sym (c .before .loop .inv .2 ∙ first-end _ _ _ (c .loop-test .left))
+    let loop = c .before .loop in
+    sym (loop .inv .2 ∙ first-end _ _ _ (c .loop-test .left))
 
 pub find-spec : {M : Type 1} → statement M
 find-spec =

@@ -41,15 +41,20 @@ loop-less c = search needs
 
 loop-again : tie.Need-loop-again Inv-loop μ-loop
 loop-again c =
-    (omega arith, omega arith, c .before .before .before .loop .inv .2 ∙ first-miss _ _ _ (c .before .before .loop-test .taken) (ap not (c .if1 .taken)))
+    let loop = c .before .before .before .loop in
+    let loop-test = c .before .before .loop-test in
+    (omega arith, omega arith, loop .inv .2 ∙ first-miss _ _ _ (loop-test .taken) (ap not (c .if1 .taken)))
 
 returns : tie.Need-returns Inv-loop μ-loop
 returns c =
-    sym (c .before .before .before .loop .inv .2 ∙ first-hit _ _ _ (c .before .before .loop-test .taken) (ap not (c .if1 .left)))
+    let loop = c .before .before .before .loop in
+    let loop-test = c .before .before .loop-test in
+    sym (loop .inv .2 ∙ first-hit _ _ _ (loop-test .taken) (ap not (c .if1 .left)))
 
 returns-2 : tie.Need-returns-2 Inv-loop μ-loop
 returns-2 c =
-    sym (c .before .loop .inv .2 ∙ first-end _ _ _ (c .loop-test .left))
+    let loop = c .before .loop in
+    sym (loop .inv .2 ∙ first-end _ _ _ (c .loop-test .left))
 
 pub first-invalid-spec : {M : Type 1} → statement M
 first-invalid-spec =

@@ -10,7 +10,8 @@ cast-result c = search needs
 returns : tie.Need-returns
 unfolding holdsLine
 returns c =
-    rw (c .before .if1 .taken)
+    let if1 = c .before .if1 in
+    rw (if1 .taken)
 
 returns-2 : tie.Need-returns-2
 unfolding holdsLine

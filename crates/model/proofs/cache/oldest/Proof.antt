@@ -48,7 +48,8 @@ loop-less c = search needs
 loop-again : tie.Need-loop-again Inv-loop μ-loop
 loop-again c =
     let l = c .before .before .before .before .before .before .loop in
-    let t = c .before .before .before .before .before .loop-test .taken in
+    let loop-test = c .before .before .before .before .before .loop-test in
+    let t = loop-test .taken in
     ⊎-elim
     (λ w. (omega arith, omega arith, omega (arith, w .1), omega (arith, w .1), l .inv .4 ∙ greatest-more _ _ _ _ t (w .0 .taken) ∙ simp (w .1)))
     (λ w. (omega arith, omega arith, omega (arith, w .1), omega (arith, w .1), l .inv .4 ∙ greatest-less _ _ _ _ t (w .0 .left) ∙ simp (w .1)))
@@ -56,7 +57,8 @@ loop-again c =
 
 returns : tie.Need-returns Inv-loop μ-loop
 returns c =
-    sym (c .before .loop .inv .4 ∙ greatest-end _ _ _ _ (c .loop-test .left))
+    let loop = c .before .loop in
+    sym (loop .inv .4 ∙ greatest-end _ _ _ _ (c .loop-test .left))
 
 pub oldest-spec : {M : Type 1} → statement M
 oldest-spec =

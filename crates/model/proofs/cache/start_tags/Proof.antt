@@ -41,7 +41,9 @@ rem-t11 c = search needs
 
 cast-t15 : tie.Need-cast-t15 Inv-loop μ-loop
 cast-t15 c =
-    omega (arith, mod-lt (c .before .before .loop .k) (c .before .before .before .pre .1))
+    let pre = c .before .before .before .pre in
+    let loop = c .before .before .loop in
+    omega (arith, mod-lt (loop .k) (pre .1))
 
 mul-out : tie.Need-mul-out Inv-loop μ-loop
 mul-out c = search needs
@@ -59,12 +61,15 @@ loop-again : tie.Need-loop-again Inv-loop μ-loop
 loop-again c =
     let a = c .before .before .before .args in
     let l = c .before .before .loop in
-    let t = c .before .loop-test .taken in
+    let loop-test = c .before .loop-test in
+    let t = loop-test .taken in
     (omega arith, l .inv .1 ∙ (steps-next _ _ _ _ t ∙ rw (start-at (a .sets) (a .ways) (l .k) _ t)))
 
 returns : tie.Need-returns Inv-loop μ-loop
 returns c =
-    sym (steps-end _ _ _ _ (c .loop-test .left)) ∙ (sym (c .before .loop .inv .1) ∙ start-each (c .before .before .args .sets) (c .before .before .args .ways))
+    let args = c .before .before .args in
+    let loop = c .before .loop in
+    sym (steps-end _ _ _ _ (c .loop-test .left)) ∙ (sym (loop .inv .1) ∙ start-each (args .sets) (args .ways))
 
 pub start-tags-spec : {M : Type 1} → statement M
 start-tags-spec =

@@ -20,18 +20,24 @@ add-if1 c = search needs
 
 use-slot-requires : tie.Need-use-slot-requires
 use-slot-requires c κs =
-    let p = c .before .before .first-slot in
     let a = c .before .before .before .args in
+    let p = c .before .before .first-slot in
+    let find = c .before .find in
     let low = first-low (λ k. holdsLine (a .line) (tagAt (a .tags) k)) (a .ways) (p .result) in
-    (omega (arith, p .ensures .1, p .ensures .2), omega (arith, c .before .find .ensures, low), c .if1 .taken)
+    (omega (arith, p .ensures .1, p .ensures .2), omega (arith, find .ensures, low), c .if1 .taken)
 
 returns : tie.Need-returns
 returns c =
-    c .use-slot .ensures ∙ use-hit _ _ _ _ _ _ (c .before .before .before .first-slot .ensures .0) (c .before .before .find .ensures) (c .before .if1 .taken)
+    let first-slot = c .before .before .before .first-slot in
+    let find = c .before .before .find in
+    let if1 = c .before .if1 in
+    c .use-slot .ensures ∙ use-hit _ _ _ _ _ _ (first-slot .ensures .0) (find .ensures) (if1 .taken)
 
 returns-2 : tie.Need-returns-2
 returns-2 c =
-    use-miss _ _ _ _ _ _ (c .before .before .first-slot .ensures .0) (c .before .find .ensures) (c .if1 .left)
+    let first-slot = c .before .before .first-slot in
+    let find = c .before .find in
+    use-miss _ _ _ _ _ _ (first-slot .ensures .0) (find .ensures) (c .if1 .left)
 
 pub use-line-spec : {M : Type 1} → statement M
 use-line-spec =

@@ -29,8 +29,9 @@ add-end c = search needs
 
 loop-holds : tie.Need-loop-holds Inv-loop μ-loop
 loop-holds c =
-    let f = c .before .args .first in
-    let w = c .before .args .ways in
+    let args = c .before .args in
+    let f = args .first in
+    let w = args .ways in
     let e : f + w - f ≡ w = omega arith in
     (omega arith, omega arith, rw e)
 
@@ -57,11 +58,15 @@ loop-less c = search needs
 
 loop-again : tie.Need-loop-again Inv-loop μ-loop
 loop-again c =
-    (omega arith, omega arith, c .before .before .before .loop .inv .2 ∙ steps-next _ _ _ _ (c .before .before .loop-test .taken) ∙ rw (c .aged .ensures))
+    let loop = c .before .before .before .loop in
+    let loop-test = c .before .before .loop-test in
+    (omega arith, omega arith, loop .inv .2 ∙ steps-next _ _ _ _ (loop-test .taken) ∙ rw (c .aged .ensures))
 
 returns : tie.Need-returns Inv-loop μ-loop
 returns c =
-    sym (steps-end _ _ _ _ (c .loop-test .left)) ∙ (sym (c .before .loop .inv .2) ∙ use-each _ _ _ _ _ (c .before .before .before .pre .1) (c .before .before .before .pre .2))
+    let pre = c .before .before .before .pre in
+    let loop = c .before .loop in
+    sym (steps-end _ _ _ _ (c .loop-test .left)) ∙ (sym (loop .inv .2) ∙ use-each _ _ _ _ _ (pre .1) (pre .2))
 
 pub use-slot-spec : {M : Type 1} → statement M
 use-slot-spec =

@@ -12,14 +12,18 @@ add-if1 c = search needs
 
 returns : tie.Need-returns
 returns c =
-    victim-invalid _ _ _ _ (c .before .first-invalid .ensures) (c .if1 .taken)
+    let first-invalid = c .before .first-invalid in
+    victim-invalid _ _ _ _ (first-invalid .ensures) (c .if1 .taken)
 
 oldest-requires : tie.Need-oldest-requires
 oldest-requires c κs = search needs
 
 returns-2 : tie.Need-returns-2
 returns-2 c =
-    victim-oldest _ _ _ _ (c .before .before .first-invalid .ensures) _ (c .oldest .ensures) (c .before .before .before .pre .0) (c .before .if1 .left)
+    let pre = c .before .before .before .pre in
+    let first-invalid = c .before .before .first-invalid in
+    let if1 = c .before .if1 in
+    victim-oldest _ _ _ _ (first-invalid .ensures) _ (c .oldest .ensures) (pre .0) (if1 .left)
 
 pub victim-spec : {M : Type 1} → statement M
 victim-spec = tie.close (tie.spec first-invalid-requires add-if1 returns oldest-requires returns-2)

@@ -34,8 +34,11 @@ same-length c = search needs
 
 returns : tie.Need-returns
 returns c =
-    let e : 16 * c .before .before .before .before .before .before .before .before .before .args .v + 16 - 16 * c .before .before .before .before .before .before .before .before .before .args .v ≡ 16 = omega arith in
-    rw e at (c .before .before .fill-slot .ensures) ∙ fill-saves _ _ _ _ (c .before .before .before .before .before .before .if1 .taken)
+    let args = c .before .before .before .before .before .before .before .before .before .args in
+    let if1 = c .before .before .before .before .before .before .if1 in
+    let fill-slot = c .before .before .fill-slot in
+    let e : 16 * args .v + 16 - 16 * args .v ≡ 16 = omega arith in
+    rw e at (fill-slot .ensures) ∙ fill-saves _ _ _ _ (if1 .taken)
 
 returns-2 : tie.Need-returns-2
 returns-2 c =

@@ -20,7 +20,8 @@ abbrev μ-loop : tie.MeasureT-loop
 
 loop-holds : tie.Need-loop-holds Inv-loop μ-loop
 loop-holds c =
-    let e : c .before .before .args .count - 0 ≡ c .before .before .args .count = omega arith in
+    let args = c .before .before .args in
+    let e : args .count - 0 ≡ args .count = omega arith in
     (omega arith, refl, rw e)
 
 mul-t : tie.Need-mul-t Inv-loop μ-loop
@@ -31,9 +32,11 @@ array-copy-out-t c = search needs
 
 write-back-requires : tie.Need-write-back-requires Inv-loop μ-loop
 write-back-requires c κs =
+    let pre = c .before .before .before .before .before .before .pre in
     let l = c .before .before .before .loop in
-    let inside = c .before .before .before .before .before .before .pre .2 in
-    (omega arith, λ d. omega (arith, inside (l .k) (c .before .before .loop-test .taken) d, l .inv .1))
+    let loop-test = c .before .before .loop-test in
+    let inside = pre .2 in
+    (omega arith, λ d. omega (arith, inside (l .k) (loop-test .taken) d, l .inv .1))
 
 add-k : tie.Need-add-k Inv-loop μ-loop
 add-k c = search needs
@@ -45,11 +48,13 @@ loop-again : tie.Need-loop-again Inv-loop μ-loop
 loop-again c =
     let a = c .before .before .before .before .before .before .before .before .before .args in
     let l = c .before .before .before .before .before .before .loop in
-    let e = c .before .before .write-back .ensures in
+    let loop-test = c .before .before .before .before .before .loop-test in
+    let write-back = c .before .before .write-back in
+    let e = write-back .ensures in
     let rest = stepsFrom (writtenBack (a .t1) (a .cache .now)) (l .k + 1) (a .count - (l .k + 1)) in (
       omega arith,
       ap length e ∙ (each-length _ 0 _ ∙ l .inv .1),
-      l .inv .2 ∙ (steps-next _ _ _ _ (c .before .before .before .before .before .loop-test .taken) ∙ ap rest (sym e)),
+      l .inv .2 ∙ (steps-next _ _ _ _ (loop-test .taken) ∙ ap rest (sym e)),
     )
 
 same-length : tie.Need-same-length Inv-loop μ-loop
@@ -58,8 +63,9 @@ same-length c = search needs
 returns : tie.Need-returns Inv-loop μ-loop
 returns c =
     let a = c .before .before .before .before .args in
+    let loop = c .before .loop in
     sym (steps-end _ _ _ _ (c .loop-test .left))
-    ∙ (sym (c .before .loop .inv .2) ∙ flushed-memory (a .count) (a .t1) (a .cache .now) (a .memory .now))
+    ∙ (sym (loop .inv .2) ∙ flushed-memory (a .count) (a .t1) (a .cache .now) (a .memory .now))
 
 pub write-back-all-spec : {M : Type 1} → statement M
 write-back-all-spec =

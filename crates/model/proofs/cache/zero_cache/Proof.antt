@@ -30,14 +30,16 @@ loop-less c = search needs
 
 loop-again : tie.Need-loop-again Inv-loop μ-loop
 loop-again c =
-    (omega arith, simp length-set (c .before .loop .inv .1), filled-more 0 (c .before .loop .cache) _ (c .loop-test .taken) (c .before .loop .inv .2))
+    let loop = c .before .loop in
+    (omega arith, simp length-set (loop .inv .1), filled-more 0 (loop .cache) _ (c .loop-test .taken) (loop .inv .2))
 
 same-length : tie.Need-same-length Inv-loop μ-loop
 same-length c = search needs
 
 returns : tie.Need-returns Inv-loop μ-loop
 returns c =
-    filled-all 0 _ _ (c .before .loop .inv .1) (λ k h. c .before .loop .inv .2 k (omega arith))
+    let loop = c .before .loop in
+    filled-all 0 _ _ (loop .inv .1) (λ k h. loop .inv .2 k (omega arith))
 
 pub zero-cache-spec : {M : Type 1} → statement M
 zero-cache-spec =

@@ -1,4 +1,0 @@
-pub mod Mapped
-pub mod Standing
-pub mod Parts
-pub mod Outcomes

@@ -1,4 +1,0 @@
-pub mod Images
-pub mod Replies
-pub mod Steps
-pub mod Claims

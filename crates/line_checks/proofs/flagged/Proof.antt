@@ -1,0 +1,33 @@
+-- `flagged` meets its contract.
+use mathlib.Core.Path.{_≡_, refl, sym, _∙_}
+use mathlib.Core.Bool.{Bool, true, false, _||_}
+use Rattle.line_checks.proofs.flagged.Statement.{statement}
+use Rattle.line_checks.proofs.flagged.Tie as tie
+
+or-true : (a : Bool) → (a || true) ≡ true
+or-true true = refl
+or-true false = refl
+
+or-false : (a : Bool) → (a || false) ≡ a
+or-false true = refl
+or-false false = refl
+
+returns : tie.Need-returns
+returns c =
+    let args = c .before .args in
+    rw (c .if1 .taken) (sym (or-true (args .already)))
+
+returns-2 : tie.Need-returns-2
+returns-2 c =
+    let args = c .before .before .args in
+    let if1 = c .before .if1 in
+    rw (if1 .left, c .if2 .taken) (sym (or-true (args .already)))
+
+returns-3 : tie.Need-returns-3
+returns-3 c =
+    let args = c .before .before .args in
+    let if1 = c .before .if1 in
+    rw (if1 .left, c .if2 .left) (sym (or-false (args .already)))
+
+pub flagged-spec : {M : Type 1} → statement M
+flagged-spec = tie.close (tie.spec returns returns-2 returns-3)

@@ -1,0 +1,34 @@
+-- `invalid_good` meets its contract.
+use borrow.Author.Tests.{eq-eqb, ne-eqb}
+use borrow.Author.Needs.{needs}
+use Rattle.line_checks.specs.SlotTests.{invalidGood}
+use Rattle.line_checks.proofs.invalid_good.Statement.{statement}
+use Rattle.line_checks.proofs.invalid_good.Tie as tie
+
+returns : tie.Need-returns
+unfolding invalidGood
+returns c =
+    rw (c .if1 .taken)
+
+returns-2 : tie.Need-returns-2
+unfolding invalidGood
+returns-2 c =
+    let if1 = c .before .before .if1 in
+    rw (if1 .left, ne-eqb _ _ (c .if2 .taken))
+
+mul-zero-bytes : tie.Need-mul-zero-bytes
+mul-zero-bytes c = search needs
+
+zero-bytes-requires : tie.Need-zero-bytes-requires
+zero-bytes-requires c κs = search needs
+
+returns-3 : tie.Need-returns-3
+unfolding invalidGood
+returns-3 c =
+    let if1 = c .before .before .before .if1 in
+    let if2 = c .before .if2 in
+    rw (if1 .left, eq-eqb _ _ (if2 .left)) (c .zero-bytes .ensures)
+
+pub invalid-good-spec : {M : Type 1} → statement M
+invalid-good-spec =
+    tie.close (tie.spec returns returns-2 mul-zero-bytes zero-bytes-requires returns-3)

@@ -1,0 +1,53 @@
+// Abort.
+ghost use mathlib.Core.Path.{_≡_};
+ghost use mathlib.Core.List.{List};
+ghost use Prim.Native.Nat.{ℕ, _*_, _<_, _≤_};
+ghost use Rattle.lists.specs.Padded.{filter};
+ghost use Rattle.rules.specs.Calls.{answeredBy, useEach, commitRule, abortRule};
+ghost use Rattle.rules.specs.Calls as rules;
+ghost use Rattle.rules.specs.Runs.{outcome};
+ghost use Rattle.model.specs.Tables.{tabled};
+ghost use Rattle.model.specs.State.{queuesOf, hierarchyOf, outcomeOf, Shaped};
+use crate::Answer;
+use crate::State;
+use crate::Step;
+use crate::cache;
+use rules::LoadEntry;
+use rules::Tag;
+
+impl State {
+    // "removes every store and load numbered n or more and sets last to n − 1"
+    fn abort_accepted(mut self, n: u32) -> Step
+        requires { ⌜ 0 < n ⌝ }
+        ensures { λ r. ⌜ ((c m : List ℕ) → outcomeOf r c m ≡ abortRule n (queuesOf self) (hierarchyOf self c m)) ⌝ }
+    {
+        let loads = self.loads;
+        let stores = self.stores;
+        let held = store_queue::squash_stores(stores, n);
+        let listed = load_queue::squash_loads(loads, n);
+        let last = n - 1;
+        self.last = last;
+        self.stores = held;
+        self.loads = listed;
+        Step {
+            answer: Answer::Kept(last),
+            next: self,
+        }
+    }
+
+    pub fn abort(self, cache: &[u8], memory: &[u8], n: u32) -> Step
+        ensures { λ r. ⌜ outcomeOf r (now (cache .entry)) (now (memory .entry)) ≡ outcome (rules.abort n) (queuesOf self) (hierarchyOf self (now (cache .entry)) (now (memory .entry))) ⌝ }
+    {
+        let k = self.state_refusal(cache, memory);
+        if k != 0 {
+            return self.refused(k);
+        }
+        if n <= self.committed {
+            return self.refused(16);
+        }
+        if self.last < n - 1 {
+            return self.refused(16);
+        }
+        self.abort_accepted(n)
+    }
+}

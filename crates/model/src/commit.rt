@@ -1,0 +1,76 @@
+// Commit.
+ghost use mathlib.Core.Path.{_≡_};
+ghost use mathlib.Core.List.{List};
+ghost use Prim.Native.Nat.{ℕ, _*_, _<_, _≤_};
+ghost use Rattle.lists.specs.Padded.{filter};
+ghost use Rattle.rules.specs.Calls.{answeredBy, useEach, commitRule, abortRule};
+ghost use Rattle.rules.specs.Calls as rules;
+ghost use Rattle.rules.specs.Runs.{outcome};
+ghost use Rattle.model.specs.Tables.{tabled};
+ghost use Rattle.model.specs.State.{queuesOf, hierarchyOf, outcomeOf, Shaped};
+use crate::Answer;
+use crate::State;
+use crate::Step;
+use crate::cache;
+use rules::LoadEntry;
+use rules::Tag;
+
+// The lines of the answered loads numbered k or less are used, in number order.
+fn use_all_answered(
+    tags: [Tag; 256],
+    sets: u32,
+    ways: u32,
+    loads: [LoadEntry; 8],
+    k: u32,
+) -> [Tag; 256]
+    requires { ⌜ (0 < sets) × (sets ≤ 64) × (ways ≤ 4) ⌝ }
+    ensures { λ r. ⌜ r ≡ useEach (filter (answeredBy k) loads) (tabled sets ways tags) .tags ⌝ }
+{
+    let mut out = tags;
+    let mut j: usize = 0;
+    while j < 8 {
+        let l = loads[j];
+        j += 1;
+        if load_queue::is_answered_by(l, k) {
+            let used = cache::use_line(out, sets, ways, l.address / 16);
+            out = used;
+        }
+    }
+    out
+}
+
+impl State {
+    // "Commit k sets h to k. Answered loads numbered k or less leave the list in number order, each using its line if the line is present."
+    fn commit_accepted(mut self, k: u32) -> Step
+        requires { ⌜ Shaped self (self .sets * self .ways * 16) ⌝ }
+        ensures { λ r. ⌜ ((c m : List ℕ) → outcomeOf r c m ≡ commitRule k (queuesOf self) (hierarchyOf self c m)) ⌝ }
+    {
+        let loads = self.loads;
+        let tags = self.tags;
+        let used = use_all_answered(tags, self.sets, self.ways, loads, k);
+        let rest = load_queue::remove_answered(loads, k);
+        self.committed = k;
+        self.loads = rest;
+        self.tags = used;
+        Step {
+            answer: Answer::Committed(k),
+            next: self,
+        }
+    }
+
+    pub fn commit(self, cache: &[u8], memory: &[u8], k: u32) -> Step
+        ensures { λ r. ⌜ outcomeOf r (now (cache .entry)) (now (memory .entry)) ≡ outcome (rules.commit k) (queuesOf self) (hierarchyOf self (now (cache .entry)) (now (memory .entry))) ⌝ }
+    {
+        let n = self.state_refusal(cache, memory);
+        if n != 0 {
+            return self.refused(n);
+        }
+        if k < self.committed {
+            return self.refused(15);
+        }
+        if self.last < k {
+            return self.refused(15);
+        }
+        self.commit_accepted(k)
+    }
+}

@@ -1,0 +1,49 @@
+// Flush.
+ghost use mathlib.Core.Path.{_≡_};
+ghost use mathlib.Core.Bool.{true};
+ghost use Prim.Native.Nat.{_+_, _*_, _<_, _≤_};
+ghost use Rattle.rules.specs.Calls.{replyRule, flushRule};
+ghost use Rattle.rules.specs.Calls as rules;
+ghost use Rattle.rules.specs.WellFormed.{wellFormed};
+ghost use Rattle.rules.specs.Runs.{outcome};
+ghost use Rattle.model.specs.Tables.{installedIn};
+ghost use Rattle.model.specs.State.{queuesOf, hierarchyOf, outcomeOf};
+use crate::Answer;
+use crate::State;
+use crate::Step;
+use crate::cache;
+use rules::Request;
+use rules::Tag;
+
+impl State {
+    // "Flush writes every dirty line to memory, marks it clean and answers the number of lines written. Ages stay."
+    fn flush_accepted(mut self, cache: &[u8], memory: &mut [u8]) -> Step
+        requires { ⌜ wellFormed (queuesOf self) (hierarchyOf self (now cache) (now memory)) ≡ true ⌝ }
+        ensures { λ r. ⌜ outcomeOf r (now (cache .entry)) (now (memory .exit)) ≡ flushRule (queuesOf self) (hierarchyOf self (now (cache .entry)) (now (memory .entry))) ⌝ }
+    {
+        let tags = self.tags;
+        let count = (self.sets * self.ways) as usize;
+        let written = cache::dirty_count(tags);
+        cache::write_back_all(tags, count, cache, memory);
+        let clean = cache::clean_all(tags, count);
+        self.tags = clean;
+        Step {
+            answer: Answer::Flushed(written),
+            next: self,
+        }
+    }
+
+    pub fn flush(self, cache: &[u8], memory: &mut [u8]) -> Step
+        ensures { λ r. ⌜ outcomeOf r (now (cache .entry)) (now (memory .exit)) ≡ outcome rules.flush (queuesOf self) (hierarchyOf self (now (cache .entry)) (now (memory .entry))) ⌝ }
+    {
+        let k = self.state_refusal(cache, memory);
+        if k != 0 {
+            return self.refused(k);
+        }
+        let stores = self.stores;
+        if store_queue::has_committed_store(stores, self.committed) {
+            return self.refused(18);
+        }
+        self.flush_accepted(cache, memory)
+    }
+}

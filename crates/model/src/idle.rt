@@ -1,0 +1,201 @@
+// The idle call.
+ghost use mathlib.Core.Path.{_≡_};
+ghost use mathlib.Core.Bool.{true};
+ghost use mathlib.Core.List.{List, []};
+ghost use Prim.Native.Nat.{ℕ, _+_, _*_, _<_};
+ghost use lib.ListN.{length, set};
+ghost use Rattle.lists.specs.Padded.{first};
+ghost use Rattle.rules.specs.Shape.{noLoad, lineOf, tagAt, withDirty};
+ghost use Rattle.rules.specs.Lines.{present, writeStore};
+ghost use Rattle.line_checks.specs.Refusal.{hierarchy};
+ghost use Rattle.rules.specs.Calls.{wantsLine, oldestStore, storeReady, drainOldest, requestLine};
+ghost use Rattle.rules.specs.Calls as rules;
+ghost use Rattle.rules.specs.Runs.{outcome};
+ghost use Rattle.model.specs.Tables.{tabled, Writable};
+ghost use Rattle.model.specs.State.{queuesOf, hierarchyOf, outcomeOf, Shaped, Fine, idleRequest};
+use crate::Answer;
+use crate::State;
+use crate::Step;
+use crate::cache;
+use rules::LoadEntry;
+use rules::Request;
+use rules::StoreEntry;
+use rules::Tag;
+
+// Slot v is marked dirty.
+fn marked_dirty(tags: [Tag; 256], v: usize) -> [Tag; 256]
+    requires { ⌜ v < 256 ⌝ }
+    ensures { λ r. ⌜ r ≡ set tags v (withDirty true (tagAt tags v)) ⌝ }
+{
+    let mut out = tags;
+    let t = out[v];
+    out[v] = Tag {
+        valid: t.valid,
+        dirty: true,
+        line: t.line,
+        age: t.age,
+    };
+    out
+}
+
+// "write it, mark the line dirty, use the line": of a store whose line is present.
+fn write_store(
+    tags: [Tag; 256],
+    sets: u32,
+    ways: u32,
+    s: StoreEntry,
+    cache: &mut [u8],
+) -> [Tag; 256]
+    requires { ⌜ Writable sets ways tags s (length (now cache)) ⌝ }
+    ensures { λ r. ⌜ hierarchy sets ways 0 r (now (cache .exit)) [] ≡ writeStore s (hierarchy sets ways 0 tags (now (cache .entry)) []) ⌝ }
+{
+    let n = ways as usize;
+    let line = s.address / 16;
+    let first = cache::first_slot(sets, ways, line);
+    let slot = cache::find(tags, first, n, line);
+    let at = 16 * slot + (s.address % 16) as usize;
+    cache::put_store(cache, at, s.width, s.value);
+    let dirty = marked_dirty(tags, slot);
+    let used = cache::use_slot(dirty, first, n, slot);
+    used
+}
+
+impl State {
+    // (a) ".. remove the store": s is the oldest store, and its line is present.
+    fn drain_oldest(mut self, cache: &mut [u8], s: StoreEntry) -> Step
+        requires { ⌜ Shaped self (length (now cache)) × Fine (s .address) (s .width) × (s ≡ oldestStore (queuesOf self)) × (present (tabled (self .sets) (self .ways) (self .tags)) (lineOf (s .address)) ≡ true) ⌝ }
+        ensures { λ r. ⌜ ((m : List ℕ) → outcomeOf r (now (cache .exit)) m ≡ drainOldest (queuesOf self) (hierarchyOf self (now (cache .entry)) m)) ⌝ }
+    {
+        let tags = self.tags;
+        let stores = self.stores;
+        let used = write_store(tags, self.sets, self.ways, s, cache);
+        let rest = store_queue::pop_store(stores);
+        self.stores = rest;
+        self.tags = used;
+        Step {
+            answer: Answer::Drained(s.number),
+            next: self,
+        }
+    }
+
+    // The line of the address is requested.
+    fn request_line(self, address: u32) -> Step
+        ensures { λ r. ⌜ ((c m : List ℕ) → outcomeOf r c m ≡ requestLine address (queuesOf self) (hierarchyOf self c m)) ⌝ }
+    {
+        let line = address / 16;
+        let stores = self.stores;
+        let loads = self.loads;
+        let tags = self.tags;
+        Step {
+            answer: Answer::Requested(line * 16),
+            next: State {
+                sets: self.sets,
+                ways: self.ways,
+                size: self.size,
+                last: self.last,
+                committed: self.committed,
+                request: Request::Line(line),
+                stores,
+                loads,
+                tags,
+            },
+        }
+    }
+
+    // A committed waiting load whose line is absent.
+    fn wants_line(self, l: LoadEntry) -> bool
+        requires { ⌜ Shaped self (self .sets * self .ways * 16) ⌝ }
+        ensures { λ r. ⌜ r ≡ wantsLine (tabled (self .sets) (self .ways) (self .tags)) (self .committed) l ⌝ }
+    {
+        if l.number == 0 {
+            return false;
+        }
+        if self.committed < l.number {
+            return false;
+        }
+        if l.waiting {
+            if self.is_present(l.address / 16) {
+                return false;
+            }
+            return true;
+        }
+        false
+    }
+
+    // The lowest such load, or a free place.
+    fn lowest_wanting(self) -> LoadEntry
+        requires { ⌜ Shaped self (self .sets * self .ways * 16) ⌝ }
+        ensures { λ r. ⌜ r ≡ first (wantsLine (tabled (self .sets) (self .ways) (self .tags)) (self .committed)) noLoad (self .loads) ⌝ }
+    {
+        let loads = self.loads;
+        let mut j: usize = 0;
+        while j < 8 {
+            let l = loads[j];
+            if self.wants_line(l) {
+                return l;
+            }
+            j += 1;
+        }
+        LoadEntry {
+            number: 0,
+            address: 0,
+            width: 0,
+            waiting: false,
+        }
+    }
+
+    // (b), (c) and (d): what follows where nothing drains. The oldest store is ready, its line is here, as told.
+    fn idle_request(self, ready: bool, here: bool, s: StoreEntry) -> Step
+        requires { ⌜ Shaped self (self .sets * self .ways * 16) × (ready ≡ storeReady (queuesOf self)) × (s ≡ oldestStore (queuesOf self)) × (here ≡ present (tabled (self .sets) (self .ways) (self .tags)) (lineOf (s .address))) ⌝ }
+        ensures { λ r. ⌜ ((c m : List ℕ) → outcomeOf r c m ≡ idleRequest (queuesOf self) (hierarchyOf self c m)) ⌝ }
+    {
+        let request = self.request;
+        match request {
+            Request::Line(_) => Step {
+                answer: Answer::Idled,
+                next: self,
+            },
+            Request::Free => {
+                let l = self.lowest_wanting();
+                if l.number != 0 {
+                    return self.request_line(l.address);
+                }
+                if ready {
+                    if here {
+                        return Step {
+                            answer: Answer::Idled,
+                            next: self,
+                        };
+                    }
+                    return self.request_line(s.address);
+                }
+                Step {
+                    answer: Answer::Idled,
+                    next: self,
+                }
+            }
+        }
+    }
+
+    // "Idle does the first that applies."
+    pub fn idle(self, cache: &mut [u8], memory: &mut [u8]) -> Step
+        ensures { λ r. ⌜ outcomeOf r (now (cache .exit)) (now (memory .exit)) ≡ outcome rules.idle (queuesOf self) (hierarchyOf self (now (cache .entry)) (now (memory .entry))) ⌝ }
+    {
+        let k = self.state_refusal(cache, memory);
+        if k != 0 {
+            return self.refused(k);
+        }
+        let stores = self.stores;
+        let loads = self.loads;
+        let s = stores[0];
+        let ready = queue_checks::store_ready(stores, loads, self.committed);
+        let here = self.is_present(s.address / 16);
+        if ready {
+            if here {
+                return self.drain_oldest(cache, s);
+            }
+            return self.idle_request(ready, here, s);
+        }
+        self.idle_request(ready, here, s)
+    }
+}

@@ -1,0 +1,66 @@
+// Load.
+ghost use mathlib.Core.Path.{_≡_};
+ghost use mathlib.Core.List.{List};
+ghost use Prim.Native.Nat.{ℕ, _*_, _<_};
+ghost use lib.ListN.{length};
+ghost use Rattle.lists.specs.Padded.{first};
+ghost use Rattle.rules.specs.Shape.{topNumber, noLoad};
+ghost use Rattle.rules.specs.Calls.{loadRule, waitingAt, answerLoad, retryRule};
+ghost use Rattle.rules.specs.Calls as rules;
+ghost use Rattle.rules.specs.Runs.{outcome};
+ghost use Rattle.model.specs.State.{queuesOf, hierarchyOf, outcomeOf, Shaped, Fine};
+use crate::Answer;
+use crate::State;
+use crate::Step;
+use crate::access;
+use crate::access::Access;
+use crate::access::Checked;
+use crate::cache;
+use crate::read;
+use crate::read::Read;
+use rules::LoadEntry;
+
+impl State {
+    // "Load takes last + 1 and joins the loads."
+    fn load_accepted(mut self, cache: &[u8], a: Access) -> Step
+        requires { ⌜ Shaped self (length (now cache)) × Fine (a .address) (a .width) × (self .last < topNumber) ⌝ }
+        ensures { λ r. ⌜ ((m : List ℕ) → outcomeOf r (now (cache .entry)) m ≡ loadRule (a .address) (a .width) (queuesOf self) (hierarchyOf self (now (cache .entry)) m)) ⌝ }
+    {
+        let i = self.last + 1;
+        let r = self.read(cache, i, a.address, a.width);
+        let answer = read::answer_to(i, r);
+        let loads = self.loads;
+        let entry = LoadEntry {
+            number: i,
+            address: a.address,
+            width: a.width,
+            waiting: read::is_lacking(r),
+        };
+        let listed = load_queue::place_load(loads, entry);
+        self.last = i;
+        self.loads = listed;
+        Step { answer, next: self }
+    }
+
+    pub fn load(self, cache: &[u8], memory: &[u8], address: u32, width: u32) -> Step
+        ensures { λ r. ⌜ outcomeOf r (now (cache .entry)) (now (memory .entry)) ≡ outcome (rules.load address width) (queuesOf self) (hierarchyOf self (now (cache .entry)) (now (memory .entry))) ⌝ }
+    {
+        let k = self.state_refusal(cache, memory);
+        if k != 0 {
+            return self.refused(k);
+        }
+        let checked = access::check_access(address, width, self.size);
+        let Checked::Passed(a) = checked else {
+            return self.refused(access::failure(checked));
+        };
+        if self.last == 4294967295 {
+            return self.refused(13);
+        }
+        let loads = self.loads;
+        if load_queue::has_free_load(loads) {
+            self.load_accepted(cache, a)
+        } else {
+            self.refused(12)
+        }
+    }
+}

@@ -1,0 +1,80 @@
+// Inquiry.
+ghost use mathlib.Core.Path.{_≡_};
+ghost use mathlib.Core.List.{List};
+ghost use Prim.Native.Nat.{ℕ, _*_, _<_};
+ghost use lib.ListN.{length};
+ghost use Rattle.lists.specs.Padded.{first};
+ghost use Rattle.rules.specs.Shape.{topNumber, noLoad};
+ghost use Rattle.rules.specs.Calls.{loadRule, waitingAt, answerLoad, retryRule};
+ghost use Rattle.rules.specs.Calls as rules;
+ghost use Rattle.rules.specs.Runs.{outcome};
+ghost use Rattle.model.specs.State.{queuesOf, hierarchyOf, outcomeOf, Shaped, Fine};
+use crate::Answer;
+use crate::State;
+use crate::Step;
+use crate::access;
+use crate::access::Access;
+use crate::access::Checked;
+use crate::cache;
+use crate::read;
+use crate::read::Read;
+use rules::LoadEntry;
+
+impl State {
+    // "Once answered, a committed load leaves the list and uses its line if present; an uncommitted one is marked answered."
+    fn answer_load(mut self, i: u32, v: u32, l: LoadEntry) -> Step
+        requires { ⌜ Shaped self (self .sets * self .ways * 16) ⌝ }
+        ensures { λ r. ⌜ ((c m : List ℕ) → outcomeOf r c m ≡ answerLoad i v l (queuesOf self) (hierarchyOf self c m)) ⌝ }
+    {
+        let loads = self.loads;
+        let tags = self.tags;
+        if i <= self.committed {
+            let rest = load_queue::remove_waiting(loads, i);
+            let used = cache::use_line(tags, self.sets, self.ways, l.address / 16);
+            self.loads = rest;
+            self.tags = used;
+            return Step {
+                answer: Answer::Value(i, v),
+                next: self,
+            };
+        }
+        let marked = load_queue::answer_waiting(loads, i);
+        self.loads = marked;
+        Step {
+            answer: Answer::Value(i, v),
+            next: self,
+        }
+    }
+
+    // "tries a waiting load again by the same rule"
+    fn retry_accepted(self, cache: &[u8], i: u32, l: LoadEntry) -> Step
+        requires { ⌜ Shaped self (length (now cache)) × Fine (l .address) (l .width) × (l ≡ first (waitingAt i) noLoad (self .loads)) ⌝ }
+        ensures { λ r. ⌜ ((m : List ℕ) → outcomeOf r (now (cache .entry)) m ≡ retryRule i (queuesOf self) (hierarchyOf self (now (cache .entry)) m)) ⌝ }
+    {
+        let r = self.read(cache, i, l.address, l.width);
+        match r {
+            Read::Lacking => Step {
+                answer: Answer::Waits(i),
+                next: self,
+            },
+            Read::Whole(v) => self.answer_load(i, v, l),
+        }
+    }
+
+    // Inquiry about number i.
+    pub fn retry(self, cache: &[u8], memory: &[u8], i: u32) -> Step
+        ensures { λ r. ⌜ outcomeOf r (now (cache .entry)) (now (memory .entry)) ≡ outcome (rules.retry i) (queuesOf self) (hierarchyOf self (now (cache .entry)) (now (memory .entry))) ⌝ }
+    {
+        let k = self.state_refusal(cache, memory);
+        if k != 0 {
+            return self.refused(k);
+        }
+        let loads = self.loads;
+        if load_queue::has_waiting(loads, i) {
+            let l = load_queue::waiting_load(loads, i);
+            self.retry_accepted(cache, i, l)
+        } else {
+            self.refused(14)
+        }
+    }
+}

@@ -1,0 +1,4 @@
+pub mod Mapped
+pub mod Standing
+pub mod ShownPart
+pub mod Outcomes

@@ -1,0 +1,72 @@
+-- `images::open_tags` meets its contract. The loop: the first i entries are made.
+use Prim.Native.Nat.{_-_, _≤_}
+use mathlib.Core.Path.{_≡_, refl}
+use native.Mathlib.Omega.{arith}
+use lib.ListN.{length}
+use borrow.Author.Needs.{needs}
+use Rattle.nicoisetarn.specs.Images.{openedTag}
+use Rattle.rules.specs.Shape.{noTag}
+use Rattle.nicoisetarn.proofs.Standing.{noTagImage, rest-opened}
+use Rattle.nicoisetarn.proofs.Mapped.{made, made-step, made-most}
+use Rattle.nicoisetarn.proofs.images.open_tags.Statement.{statement}
+use Rattle.nicoisetarn.proofs.images.open_tags.Tie as tie
+
+abbrev Inv-loop : tie.InvT-loop
+Inv-loop n tags out₀ i₀ out i = (i ≤ n) × (out ≡ made openedTag noTag i (256 - i) tags)
+
+abbrev μ-loop : tie.MeasureT-loop
+μ-loop n tags out₀ i₀ out i = n - i
+
+loop-holds : tie.Need-loop-holds Inv-loop μ-loop
+loop-holds c = (search needs, refl)
+
+mul-t : tie.Need-mul-t Inv-loop μ-loop
+mul-t c = search needs
+
+array-copy-out-t : tie.Need-array-copy-out-t Inv-loop μ-loop
+array-copy-out-t c = search needs
+
+open-tag-requires : tie.Need-open-tag-requires Inv-loop μ-loop
+open-tag-requires c κs = search needs
+
+mul-out : tie.Need-mul-out Inv-loop μ-loop
+mul-out c = search needs
+
+array-set-from-out : tie.Need-array-set-from-out Inv-loop μ-loop
+array-set-from-out c = search needs
+
+add-i : tie.Need-add-i Inv-loop μ-loop
+add-i c = search needs
+
+loop-less : tie.Need-loop-less Inv-loop μ-loop
+loop-less c = search needs
+
+loop-again : tie.Need-loop-again Inv-loop μ-loop
+loop-again c =
+    let long : length (c .before .before .before .before .args .t1) ≡ 256 = search needs in (
+      search needs,
+      made-step openedTag noTag noTagImage (c .before .before .before .loop .i) 256 (c .before .before .before .before .args .t1) (c .before .before .before .loop .out) (c .open-tag .result) long (omega (arith, c .before .before .before .before .pre .0)) (c .before .before .before .loop .inv .1) (c .open-tag .ensures),
+    )
+
+returns : tie.Need-returns Inv-loop μ-loop
+returns c =
+    let long : length (c .before .before .args .t1) ≡ 256 = search needs in
+    let e : c .before .loop .i ≡ c .before .before .args .n = omega arith in
+    made-most openedTag noTag (c .before .before .args .n) 256 (c .before .before .args .t1) (c .before .loop .out) long (rest-opened (c .before .before .args .n) (c .before .before .args .t1) long (c .before .before .pre)) (rw e at (c .before .loop .inv .1))
+
+pub open-tags-spec : {M : Type 1} → statement M
+open-tags-spec =
+    tie.close
+    (tie.spec
+    Inv-loop
+    μ-loop
+    loop-holds
+    mul-t
+    array-copy-out-t
+    open-tag-requires
+    mul-out
+    array-set-from-out
+    add-i
+    loop-less
+    loop-again
+    returns)

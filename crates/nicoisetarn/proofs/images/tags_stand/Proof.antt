@@ -1,0 +1,68 @@
+-- `images::tags_stand` meets its contract. The test of the entries that are left is the whole test.
+use Prim.Native.Nat.{_-_, _≤_}
+use mathlib.Core.Path.{_≡_, refl, sym, _∙_}
+use native.Mathlib.Omega.{arith}
+use lib.ListN.{length, drop}
+use borrow.Author.Needs.{needs}
+use Rattle.lists.specs.Padded.{every}
+use Rattle.lists.proofs.Loops.{every-hit, every-miss}
+use Rattle.nicoisetarn.specs.Images.{tagStands}
+use Rattle.nicoisetarn.proofs.Standing.{noTagImage, rest-stands}
+use Rattle.nicoisetarn.proofs.images.tags_stand.Statement.{statement}
+use Rattle.nicoisetarn.proofs.images.tags_stand.Tie as tie
+
+abbrev Inv-loop : tie.InvT-loop
+Inv-loop n tags i₀ i = (i ≤ n) × (every tagStands tags ≡ every tagStands (drop i tags))
+
+abbrev μ-loop : tie.MeasureT-loop
+μ-loop n tags i₀ i = n - i
+
+loop-holds : tie.Need-loop-holds Inv-loop μ-loop
+loop-holds c = (search needs, refl)
+
+mul-t : tie.Need-mul-t Inv-loop μ-loop
+mul-t c = search needs
+
+array-copy-out-t : tie.Need-array-copy-out-t Inv-loop μ-loop
+array-copy-out-t c = search needs
+
+tag-stands-requires : tie.Need-tag-stands-requires Inv-loop μ-loop
+tag-stands-requires c κs = search needs
+
+add-i : tie.Need-add-i Inv-loop μ-loop
+add-i c = search needs
+
+loop-less : tie.Need-loop-less Inv-loop μ-loop
+loop-less c = search needs
+
+loop-again : tie.Need-loop-again Inv-loop μ-loop
+loop-again c =
+    let long : length (c .before .before .before .before .before .args .t1) ≡ 256 = search needs in
+    (search needs, c .before .before .before .before .loop .inv .1 ∙ every-hit tagStands noTagImage (c .before .before .before .before .before .args .t1) (c .before .before .before .before .loop .i) (omega (arith, c .before .before .before .before .before .pre .0)) (sym (c .before .tag-stands .ensures) ∙ c .if1 .taken))
+
+returns : tie.Need-returns Inv-loop μ-loop
+returns c =
+    let long : length (c .before .before .before .before .before .args .t1) ≡ 256 = search needs in
+    sym (c .before .before .before .before .loop .inv .1 ∙ every-miss tagStands noTagImage (c .before .before .before .before .before .args .t1) (c .before .before .before .before .loop .i) (omega (arith, c .before .before .before .before .before .pre .0)) (sym (c .before .tag-stands .ensures) ∙ c .if1 .left))
+
+returns-2 : tie.Need-returns-2 Inv-loop μ-loop
+returns-2 c =
+    let long : length (c .before .before .args .t1) ≡ 256 = search needs in
+    let e : c .before .loop .i ≡ c .before .before .args .n = omega arith in
+    sym ((rw e at (c .before .loop .inv .1)) ∙ rest-stands (c .before .before .args .n) (c .before .before .args .t1) long (c .before .before .pre))
+
+pub tags-stand-spec : {M : Type 1} → statement M
+tags-stand-spec =
+    tie.close
+    (tie.spec
+    Inv-loop
+    μ-loop
+    loop-holds
+    mul-t
+    array-copy-out-t
+    tag-stands-requires
+    add-i
+    loop-less
+    loop-again
+    returns
+    returns-2)

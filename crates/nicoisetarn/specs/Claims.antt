@@ -1,0 +1,25 @@
+-- What is claimed of images, each closed.
+use Prim.Native.Nat.{ℕ}
+use mathlib.Core.Path.{_≡_}
+use mathlib.Core.Bool.{true}
+use mathlib.Core.List.{List}
+use Rattle.model.specs.declared.State.{State}
+use Rattle.nicoisetarn.specs.declared.Image.{Image}
+use Rattle.nicoisetarn.specs.Images.{openedOf, imagedOf, standsFor}
+use Rattle.nicoisetarn.specs.Steps.{Left, started, stepped}
+
+pub record ImagesStandForStates : Type 0 where
+  -- a state comes back from its image
+  pub opened : (s : State) → openedOf (imagedOf s) ≡ s
+  -- which stands for a state
+  pub stand : (s : State) → standsFor (imagedOf s) ≡ true
+  -- an image that stands for a state comes back from it
+  pub imaged : (i : Image) → standsFor i ≡ true → imagedOf (openedOf i) ≡ i
+
+-- refused, with the image, the cache and the memory as they were
+abbrev pub Keeps : Left → Image → List ℕ → List ℕ → Type 0
+Keeps l i cache memory = l .reply .kind ≡ 0 → (l .image ≡ i) × (l .cache ≡ cache) × (l .memory ≡ memory)
+
+pub record RefusedImagesKept : Type 0 where
+  pub by-start : (sets ways : ℕ) (i : Image) (cache memory : List ℕ) → Keeps (started sets ways i cache memory) i cache memory
+  pub by-call : (call x y z : ℕ) (i : Image) (cache memory : List ℕ) → Keeps (stepped call x y z i cache memory) i cache memory

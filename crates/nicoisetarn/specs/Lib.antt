@@ -1,0 +1,4 @@
+pub mod Images
+pub mod Answers
+pub mod Steps
+pub mod Claims

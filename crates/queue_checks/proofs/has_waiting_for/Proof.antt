@@ -1,0 +1,80 @@
+-- `queue_checks::has_waiting_for` meets its contract. The loop: the whole queue has one where the rest has.
+use Prim.Native.Nat.{_-_, _≤_}
+use mathlib.Core.Path.{_≡_, refl, sym, _∙_}
+use native.Mathlib.Omega.{arith}
+use lib.ListN.{length, drop}
+use borrow.Author.Needs.{needs}
+use Rattle.lists.specs.Padded.{any}
+use Rattle.lists.proofs.Loops.{any-hit, any-miss, any-end}
+use Rattle.rules.specs.Shape.{noLoad}
+use Rattle.rules.specs.WellFormed.{waitsFor}
+use Rattle.queue_checks.proofs.has_waiting_for.Statement.{statement}
+use Rattle.queue_checks.proofs.has_waiting_for.Tie as tie
+
+abbrev Inv-loop : tie.InvT-loop
+Inv-loop h line loads i₀ i = (i ≤ 8) × (any (waitsFor h line) loads ≡ any (waitsFor h line) (drop i loads))
+
+abbrev μ-loop : tie.MeasureT-loop
+μ-loop h line loads i₀ i = 8 - i
+
+loop-holds : tie.Need-loop-holds Inv-loop μ-loop
+loop-holds c = (search needs, refl)
+
+mul-l : tie.Need-mul-l Inv-loop μ-loop
+mul-l c = search needs
+
+array-copy-out-l : tie.Need-array-copy-out-l Inv-loop μ-loop
+array-copy-out-l c = search needs
+
+is-waiting-for-requires : tie.Need-is-waiting-for-requires Inv-loop μ-loop
+is-waiting-for-requires c κs = search needs
+
+returns : tie.Need-returns Inv-loop μ-loop
+returns c =
+    let args = c .before .before .before .before .before .args in
+    let loop = c .before .before .before .before .loop in
+    let h : length (args .t1) ≡ 8 = search needs in
+    sym
+    (loop .inv .1
+    ∙ any-hit _ noLoad (args .t1) (loop .i) (omega arith)
+    (sym (c .before .is-waiting-for .ensures) ∙ c .if1 .taken))
+
+add-i : tie.Need-add-i Inv-loop μ-loop
+add-i c = search needs
+
+loop-less : tie.Need-loop-less Inv-loop μ-loop
+loop-less c = search needs
+
+loop-again : tie.Need-loop-again Inv-loop μ-loop
+loop-again c =
+    let args = c .before .before .before .before .before .args in
+    let loop = c .before .before .before .before .loop in
+    let h : length (args .t1) ≡ 8 = search needs in (
+      search needs,
+      loop .inv .1
+          ∙ any-miss _ noLoad (args .t1) (loop .i) (omega arith)
+          (sym (c .before .is-waiting-for .ensures) ∙ c .if1 .left),
+    )
+
+returns-2 : tie.Need-returns-2 Inv-loop μ-loop
+returns-2 c =
+    let args = c .before .before .args in
+    let loop = c .before .loop in
+    let h : length (args .t1) ≡ 8 = search needs in
+    sym (loop .inv .1 ∙ any-end _ noLoad (args .t1) (loop .i) (omega arith))
+
+pub has-waiting-for-spec : {M : Type 1} → statement M
+has-waiting-for-spec =
+    tie.close
+    (tie.spec
+    Inv-loop
+    μ-loop
+    loop-holds
+    mul-l
+    array-copy-out-l
+    is-waiting-for-requires
+    returns
+    add-i
+    loop-less
+    loop-again
+    returns-2)

@@ -1,0 +1,75 @@
+-- `queue_checks::request_wanted` meets its contract. By the register and the tests.
+use mathlib.Core.Path.{sym, _∙_}
+use borrow.Author.Needs.{needs}
+use Rattle.rules.specs.WellFormed.{requestWanted}
+use Rattle.rules.specs.Shape.{lineOf}
+use Rattle.queue_checks.proofs.request_wanted.Statement.{statement}
+use Rattle.queue_checks.proofs.request_wanted.Tie as tie
+
+enum-told : tie.Need-enum-told
+enum-told c = search needs
+
+enum-known-request : tie.Need-enum-known-request
+enum-known-request c = search needs
+
+has-waiting-for-requires : tie.Need-has-waiting-for-requires
+has-waiting-for-requires c κs = search needs
+
+returns : tie.Need-returns
+unfolding requestWanted
+returns c =
+    let request = c .before .before .before .request in
+    let has-waiting-for = c .before .has-waiting-for in
+    rw (request .given .1, sym (has-waiting-for .ensures) ∙ c .if1 .taken)
+
+store-ready-requires : tie.Need-store-ready-requires
+store-ready-requires c κs = search needs
+
+array-copy-out-s : tie.Need-array-copy-out-s
+array-copy-out-s c = search needs
+
+returns-2 : tie.Need-returns-2
+unfolding requestWanted lineOf
+returns-2 c =
+    let request = c .before .before .before .before .before .before .before .request in
+    let has-waiting-for = c .before .before .before .before .before .has-waiting-for in
+    let if1 = c .before .before .before .before .if1 in
+    let store-ready = c .before .before .before .store-ready in
+    let if2 = c .before .before .if2 in
+    rw (
+      request .given .1,
+      sym (has-waiting-for .ensures)
+          ∙ if1 .left,
+      sym (store-ready .ensures) ∙ if2 .taken,
+    )
+
+returns-3 : tie.Need-returns-3
+unfolding requestWanted
+returns-3 c = rw (c .enum-told .given .1)
+
+returns-4 : tie.Need-returns-4
+unfolding requestWanted
+returns-4 c =
+    let request = c .before .before .before .before .before .request in
+    let has-waiting-for = c .before .before .before .has-waiting-for in
+    let if1 = c .before .before .if1 in
+    let store-ready = c .before .store-ready in
+    rw (
+      request .given .1,
+      sym (has-waiting-for .ensures) ∙ if1 .left,
+      sym (store-ready .ensures) ∙ c .if2 .left,
+    )
+
+pub request-wanted-spec : {M : Type 1} → statement M
+request-wanted-spec =
+    tie.close
+    (tie.spec
+    enum-told
+    enum-known-request
+    has-waiting-for-requires
+    returns
+    store-ready-requires
+    array-copy-out-s
+    returns-2
+    returns-3
+    returns-4)

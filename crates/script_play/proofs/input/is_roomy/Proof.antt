@@ -1,0 +1,16 @@
+-- `is_roomy` meets its contract.
+use Rattle.lists.proofs.Loops.{tests}
+use Rattle.script_play.proofs.input.is_roomy.Statement.{statement}
+use Rattle.script_play.proofs.input.is_roomy.Tie as tie
+
+returns : tie.Need-returns
+returns c = search tests
+
+returns-2 : tie.Need-returns-2
+returns-2 c = search tests
+
+returns-3 : tie.Need-returns-3
+returns-3 c = search tests
+
+pub is-roomy-spec : {M : Type 1} → statement M
+is-roomy-spec = tie.close (tie.spec returns returns-2 returns-3)

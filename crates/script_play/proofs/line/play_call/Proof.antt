@@ -1,0 +1,73 @@
+-- `play_call` meets its contract.
+use lib.Seq.{length-take-le}
+use mathlib.Core.Path.{sym, _∙_}
+use native.Mathlib.Omega.{arith}
+use Rattle.script_play.proofs.LinePlays.{called}
+use borrow.Author.Needs.{needs}
+use Rattle.script_play.proofs.line.play_call.Statement.{statement}
+use Rattle.script_play.proofs.line.play_call.Tie as tie
+
+cache-used-requires : tie.Need-cache-used-requires
+cache-used-requires c κs = search needs
+
+memory-used-requires : tie.Need-memory-used-requires
+memory-used-requires c κs = search needs
+
+slice-relend-prefix-step : tie.Need-slice-relend-prefix-step
+slice-relend-prefix-step c = search needs
+
+slice-aggregate-step : tie.Need-slice-aggregate-step
+slice-aggregate-step c =
+    let args = c .before .before .before .before .before .before .args in
+    let cache-used = c .before .before .cache-used in
+    sym (length-take-le (cache-used .result) (args .cache .now) (omega arith))
+
+slice-relend-prefix-step-2 : tie.Need-slice-relend-prefix-step-2
+slice-relend-prefix-step-2 c = search needs
+
+slice-aggregate-step-2 : tie.Need-slice-aggregate-step-2
+slice-aggregate-step-2 c =
+    let args = c .before .before .before .before .before .before .before .args in
+    let memory-used = c .before .before .memory-used in
+    sym (length-take-le (memory-used .result) (args .memory .now) (omega arith))
+
+step-requires : tie.Need-step-requires
+step-requires c κs = search needs
+
+write-answer-requires : tie.Need-write-answer-requires
+write-answer-requires c κs = search needs
+
+same-length : tie.Need-same-length
+same-length c = search needs
+
+same-length-2 : tie.Need-same-length-2
+same-length-2 c = search needs
+
+same-length-3 : tie.Need-same-length-3
+same-length-3 c = search needs
+
+returns : tie.Need-returns
+returns c =
+    let args = c .before .before .before .before .before .before .before .before .before .before .before .before .before .before .before .before .before .args in
+    let cache-used = c .before .before .before .before .before .before .before .before .before .before .before .before .before .cache-used in
+    let memory-used = c .before .before .before .before .before .before .before .before .before .before .before .before .memory-used in
+    let step = c .before .before .before .before .before .before .before .before .before .step in
+    let write-answer = c .before .before .write-answer in
+    called (args .state) (args .call) (args .cache .now) (args .memory .now) (args .out .now) (args .at) (cache-used .result) (memory-used .result) (step .result) _ _ _ _ (cache-used .ensures .0) (memory-used .ensures .0) (step .ensures) (step .kept .1 .1 .0 ∙ length-take-le (cache-used .result) (args .cache .now) (omega arith)) (step .kept .1 .1 .1 .0 ∙ length-take-le (memory-used .result) (args .memory .now) (omega arith)) (omega arith) (omega arith) (omega arith) (write-answer .ensures)
+
+pub play-call-spec : {M : Type 1} → statement M
+play-call-spec =
+    tie.close
+    (tie.spec
+    cache-used-requires
+    memory-used-requires
+    slice-relend-prefix-step
+    slice-aggregate-step
+    slice-relend-prefix-step-2
+    slice-aggregate-step-2
+    step-requires
+    write-answer-requires
+    same-length
+    same-length-2
+    same-length-3
+    returns)

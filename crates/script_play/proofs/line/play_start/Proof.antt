@@ -1,0 +1,127 @@
+-- `play_start` meets its contract.
+use Rattle.model.specs.Starts.{startAnswerOf}
+use lib.Seq.{length-take-le}
+use mathlib.Core.Path.{sym, ap, _∙_}
+use native.Mathlib.Omega.{arith}
+use Rattle.script_play.proofs.LinePlays.{begins, not-started}
+use borrow.Author.Needs.{needs}
+use Rattle.script_play.proofs.line.play_start.Statement.{statement}
+use Rattle.script_play.proofs.line.play_start.Tie as tie
+
+cache-used-requires : tie.Need-cache-used-requires
+cache-used-requires c κs = search needs
+
+memory-used-requires : tie.Need-memory-used-requires
+memory-used-requires c κs = search needs
+
+slice-relend-prefix-start : tie.Need-slice-relend-prefix-start
+slice-relend-prefix-start c = search needs
+
+slice-aggregate-start : tie.Need-slice-aggregate-start
+slice-aggregate-start c =
+    let args = c .before .before .before .before .before .before .args in
+    let cache-used = c .before .before .cache-used in
+    sym (length-take-le (cache-used .result) (args .cache .now) (omega arith))
+
+slice-reshare-prefix-start : tie.Need-slice-reshare-prefix-start
+slice-reshare-prefix-start c = search needs
+
+slice-aggregate-start-2 : tie.Need-slice-aggregate-start-2
+slice-aggregate-start-2 c =
+    let args = c .before .before .before .before .before .before .before .args in
+    let memory-used = c .before .before .memory-used in
+    sym (length-take-le (memory-used .result) (args .memory .now) (omega arith))
+
+start-requires : tie.Need-start-requires
+start-requires c κs = search needs
+
+enum-told : tie.Need-enum-told
+enum-told c = search needs
+
+slice-relend-prefix-zero-bytes : tie.Need-slice-relend-prefix-zero-bytes
+slice-relend-prefix-zero-bytes c = search needs
+
+slice-aggregate-zero-bytes : tie.Need-slice-aggregate-zero-bytes
+slice-aggregate-zero-bytes c =
+    let args = c .before .before .before .before .before .before .before .before .before .before .before .before .before .before .args in
+    let memory-used = c .before .before .before .before .before .before .before .before .before .memory-used in
+    sym (length-take-le (memory-used .result) (args .memory .now) (omega arith))
+
+zero-bytes-requires : tie.Need-zero-bytes-requires
+zero-bytes-requires c κs = search needs
+
+write-ready-requires : tie.Need-write-ready-requires
+write-ready-requires c κs = search needs
+
+enum-known-answer : tie.Need-enum-known-answer
+enum-known-answer c = search needs
+
+play-refused-requires : tie.Need-play-refused-requires
+play-refused-requires c κs = search needs
+
+same-length : tie.Need-same-length
+same-length c = search needs
+
+same-length-2 : tie.Need-same-length-2
+same-length-2 c = search needs
+
+same-length-3 : tie.Need-same-length-3
+same-length-3 c = search needs
+
+returns : tie.Need-returns
+returns c =
+    let args = c .before .before .before .before .before .before .before .before .before .before .before .before .before .before .before .before .before .before .before .before .before .args in
+    let cache-used = c .before .before .before .before .before .before .before .before .before .before .before .before .before .before .before .before .before .cache-used in
+    let memory-used = c .before .before .before .before .before .before .before .before .before .before .before .before .before .before .before .before .memory-used in
+    let start = c .before .before .before .before .before .before .before .before .before .before .before .before .before .start in
+    let enum-told = c .before .before .before .before .before .before .before .before .enum-told in
+    let zero-bytes = c .before .before .before .before .before .before .zero-bytes in
+    let write-ready = c .before .before .write-ready in
+    begins (args .figures .sets) (args .figures .ways) (args .size) (args .cache .now) (args .memory .now) (cache-used .result) (memory-used .result) (cache-used .ensures .0) (memory-used .ensures .0) (omega arith) (omega arith) (start .result .state) _ _ (sym (ap startAnswerOf (enum-told .given .1)) ∙ start .ensures .0) (start .ensures .1) (start .kept .1 .0 ∙ length-take-le (cache-used .result) (args .cache .now) (omega arith)) (zero-bytes .ensures) _ _ _ _ _ (omega arith) (write-ready .ensures)
+
+same-length-4 : tie.Need-same-length-4
+same-length-4 c = search needs
+
+same-length-5 : tie.Need-same-length-5
+same-length-5 c = search needs
+
+same-length-6 : tie.Need-same-length-6
+same-length-6 c = search needs
+
+returns-2 : tie.Need-returns-2
+returns-2 c =
+    let args = c .before .before .before .before .before .before .before .before .before .before .before .before .before .before .before .before .before .before .args in
+    let pre = c .before .before .before .before .before .before .before .before .before .before .before .before .before .before .before .before .before .before .pre in
+    let cache-used = c .before .before .before .before .before .before .before .before .before .before .before .before .before .before .cache-used in
+    let memory-used = c .before .before .before .before .before .before .before .before .before .before .before .before .before .memory-used in
+    let start = c .before .before .before .before .before .before .before .before .before .before .start in
+    let answer = c .before .before .before .before .before .answer in
+    let play-refused = c .before .before .play-refused in
+    not-started (args .figures .sets) (args .figures .ways) (args .size) (args .cache .now) (args .memory .now) (cache-used .result) (memory-used .result) (cache-used .ensures .0) (memory-used .ensures .0) (omega (arith, cache-used .ensures .1, pre .0)) (omega (arith, memory-used .ensures .1, pre .1)) _ (start .result .state) _ (sym (ap startAnswerOf (answer .given .1)) ∙ start .ensures .0) (start .ensures .1) _ _ _ _ _ (play-refused .result) (pre .0) (pre .1) (play-refused .ensures .0) (play-refused .ensures .1)
+
+pub play-start-spec : {M : Type 1} → statement M
+play-start-spec =
+    tie.close
+    (tie.spec
+    cache-used-requires
+    memory-used-requires
+    slice-relend-prefix-start
+    slice-aggregate-start
+    slice-reshare-prefix-start
+    slice-aggregate-start-2
+    start-requires
+    enum-told
+    slice-relend-prefix-zero-bytes
+    slice-aggregate-zero-bytes
+    zero-bytes-requires
+    write-ready-requires
+    enum-known-answer
+    play-refused-requires
+    same-length
+    same-length-2
+    same-length-3
+    returns
+    same-length-4
+    same-length-5
+    same-length-6
+    returns-2)

@@ -1,0 +1,260 @@
+// A part of the input played, line by line.
+ghost use mathlib.Core.Path.{_≡_};
+ghost use mathlib.Core.Bool.{cond, _&&_};
+ghost use mathlib.Core.List.{List, [], _++_};
+ghost use lib.Dec.{ltb, leb};
+ghost use Prim.Native.Nat.{ℕ, _+_, _-_, _*_, _/_, _≤_, _<_};
+ghost use lib.ListN.{length, take, drop};
+ghost use Rattle.lists.specs.Padded.{position};
+ghost use Rattle.script.specs.Play.{newPlayer, atEnd};
+ghost use Rattle.script_text.specs.Written.{Wrote, inRoom};
+ghost use Rattle.script_play.specs.Player.{isFeed, heldBytes, playerOf, lentOf, playable, Plays, Steps};
+use crate::Played;
+use crate::Player;
+use crate::line;
+use model::Answer;
+use model::State;
+use rules::LoadEntry;
+use rules::Request;
+use rules::StoreEntry;
+use rules::Tag;
+use script_text::reader;
+use script_text::writer;
+
+// Where the line that goes on at a place ends: at its LF, else with the input.
+fn line_end(input: &[u8], from: usize) -> usize
+    ensures { λ r. ⌜ r ≡ from + position isFeed (drop from (now (input .entry))) ⌝ }
+{
+    let mut i = from;
+    while i < input.len() {
+        if input[i] == 10 {
+            return i;
+        }
+        i += 1;
+    }
+    i
+}
+
+// What is held of a line.
+pub struct Held {
+    line: [u8; 65],
+    length: usize,
+}
+
+// How many of n bytes a line has room for that holds so many.
+fn room_for(held: usize, n: usize) -> usize
+    requires { ⌜ held ≤ 65 ⌝ }
+    ensures { λ r. ⌜ r ≡ cond (ltb (65 - held) n) (65 - held) n ⌝ }
+{
+    if 65 - held < n {
+        return 65 - held;
+    }
+    n
+}
+
+// Holds the bytes of the input from one place to another behind those of the line, as far as there is room.
+fn hold(line: [u8; 65], held: usize, input: &[u8], from: usize, end: usize) -> Held
+    requires { ⌜ (held ≤ 65) × (from ≤ end) × (end ≤ length (now input)) ⌝ }
+    ensures { λ r. ⌜ (take (r .length) (r .line) ≡ take heldBytes (take held line ++ take (end - from) (drop from (now (input .entry))))) × (r .length ≤ 65) ⌝ }
+{
+    let n = room_for(held, end - from);
+    let mut bytes = line;
+    let mut i: usize = 0;
+    while i < n {
+        bytes[held + i] = input[from + i];
+        i += 1;
+    }
+    Held {
+        line: bytes,
+        length: held + n,
+    }
+}
+
+// The player after a line or a piece of one, the place in the input behind it, and where the output ends.
+pub struct Moved {
+    player: Player,
+    next: usize,
+    at: usize,
+}
+
+// Plays the line that goes on at a place, if it ends in the input, and holds it else.
+fn play_line(
+    player: Player,
+    input: &[u8],
+    from: usize,
+    cache: &mut [u8],
+    memory: &mut [u8],
+    out: &mut [u8],
+    at: usize,
+) -> Moved
+    requires { ⌜ (player .length ≤ 65) × (from < length (now input)) × (4096 ≤ length (now cache)) × (65536 ≤ length (now memory)) × (at + 32 ≤ length (now out)) ⌝ }
+    ensures { λ r. ⌜ Steps from (now (input .entry)) at r × Plays (take (r .next - from) (drop from (now (input .entry)))) (playerOf player (now (cache .entry)) (now (memory .entry))) (lentOf (now (cache .entry)) (now (memory .entry))) (now (out .entry)) at (playerOf (r .player) (now (cache .exit)) (now (memory .exit))) (lentOf (now (cache .exit)) (now (memory .exit))) (now (out .exit)) (r .at) ⌝ }
+{
+    let end = line_end(input, from);
+    let line = player.line;
+    let held = hold(line, player.length, input, from, end);
+    let bytes = held.line;
+    let n = held.length;
+    let started = player.started;
+    let state = player.state;
+    if end == input.len() {
+        return Moved {
+            player: Player {
+                started,
+                state,
+                length: n,
+                line: bytes,
+            },
+            next: end,
+            at,
+        };
+    }
+    let command = reader::command(&bytes[..n]);
+    let t = line::play_command(started, state, command, cache, memory, out, at);
+    let after = t.state;
+    Moved {
+        player: Player {
+            started: t.started,
+            state: after,
+            length: 0,
+            line: bytes,
+        },
+        next: end + 1,
+        at: t.at,
+    }
+}
+
+// Plays an input line by line.
+fn play_lines(
+    player: Player,
+    input: &[u8],
+    cache: &mut [u8],
+    memory: &mut [u8],
+    out: &mut [u8],
+) -> Played
+    requires { ⌜ (player .length ≤ 65) × (4096 ≤ length (now cache)) × (65536 ≤ length (now memory)) × (32 * length (now input) ≤ length (now out)) ⌝ }
+    ensures { λ r. ⌜ (r .read ≡ length (now (input .entry))) × Plays (now (input .entry)) (playerOf player (now (cache .entry)) (now (memory .entry))) (lentOf (now (cache .entry)) (now (memory .entry))) (now (out .entry)) 0 (playerOf (r .player) (now (cache .exit)) (now (memory .exit))) (lentOf (now (cache .exit)) (now (memory .exit))) (now (out .exit)) (r .written) ⌝ }
+{
+    let mut p = player;
+    let mut i: usize = 0;
+    let mut at: usize = 0;
+    while i < input.len() {
+        let m = play_line(p, input, i, cache, memory, out, at);
+        let next = m.player;
+        p = next;
+        i = m.next;
+        at = m.at;
+    }
+    Played {
+        player: p,
+        read: i,
+        written: at,
+    }
+}
+
+// Whether the buffers are long enough.
+fn is_roomy(input: usize, cache: usize, memory: usize, out: usize) -> bool
+    ensures { λ r. ⌜ r ≡ (leb 4096 cache && (leb 65536 memory && leb input (out / 32))) ⌝ }
+{
+    if cache < 4096 {
+        return false;
+    }
+    if memory < 65536 {
+        return false;
+    }
+    input <= out / 32
+}
+
+// A state that no run has: the player's before the first start.
+fn no_state() -> State {
+    let store = StoreEntry {
+        number: 0,
+        address: 0,
+        width: 0,
+        value: 0,
+    };
+    let load = LoadEntry {
+        number: 0,
+        address: 0,
+        width: 0,
+        waiting: false,
+    };
+    let tag = Tag {
+        valid: false,
+        dirty: false,
+        line: 0,
+        age: 0,
+    };
+    State {
+        sets: 0,
+        ways: 0,
+        size: 0,
+        last: 0,
+        committed: 0,
+        request: Request::Free,
+        stores: [store; 16],
+        loads: [load; 8],
+        tags: [tag; 256],
+    }
+}
+
+impl Player {
+    // A player before its first byte.
+    pub fn new() -> Player
+        ensures { λ r. ⌜ ((cache memory : List ℕ) → playerOf r cache memory ≡ newPlayer) ⌝ }
+    {
+        let state = no_state();
+        let length: usize = 0;
+        Player {
+            started: false,
+            state,
+            length,
+            line: [0; 65],
+        }
+    }
+
+    // The same player, whose length is that of the bytes that it holds.
+    fn bounded(self) -> Player
+        ensures { λ r. ⌜ (r .length ≤ 65) × ((cache memory : List ℕ) → playerOf r cache memory ≡ playerOf self cache memory) ⌝ }
+    {
+        let state = self.state;
+        let line = self.line;
+        if 65 < self.length {
+            return Player {
+                started: self.started,
+                state,
+                length: 65,
+                line,
+            };
+        }
+        self
+    }
+
+    // Plays a part of the input, wherever it is cut, and writes what its lines print to the front of out. The run's cache and memory
+    // stand at the front of the lent ones. Nothing is played where the cache is shorter than 4,096 bytes, the memory shorter than
+    // 65,536, or out shorter than 32 bytes for each byte of input.
+    pub fn play(self, input: &[u8], cache: &mut [u8], memory: &mut [u8], out: &mut [u8]) -> Played
+        ensures { λ r. ⌜ (r .read ≡ length (playable (now (input .entry)) (lentOf (now (cache .entry)) (now (memory .entry))) (now (out .entry)))) × Plays (playable (now (input .entry)) (lentOf (now (cache .entry)) (now (memory .entry))) (now (out .entry))) (playerOf self (now (cache .entry)) (now (memory .entry))) (lentOf (now (cache .entry)) (now (memory .entry))) (now (out .entry)) 0 (playerOf (r .player) (now (cache .exit)) (now (memory .exit))) (lentOf (now (cache .exit)) (now (memory .exit))) (now (out .exit)) (r .written) ⌝ }
+    {
+        if is_roomy(input.len(), cache.len(), memory.len(), out.len()) {
+            let p = self.bounded();
+            return play_lines(p, input, cache, memory, out);
+        }
+        Played {
+            player: self,
+            read: 0,
+            written: 0,
+        }
+    }
+
+    // At the end of the input: a last line without LF is refused. Nothing is written where there is less room than 32 bytes from
+    // place at on.
+    pub fn end(self, out: &mut [u8], at: usize) -> usize
+        ensures { λ r. ⌜ Wrote at (inRoom at (now (out .entry)) (atEnd (playerOf self [] []))) (now (out .entry)) (now (out .exit)) r ⌝ }
+    {
+        if self.length == 0 {
+            return at;
+        }
+        writer::write_answer(out, at, Answer::Refused(6))
+    }
+}

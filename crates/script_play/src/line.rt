@@ -1,0 +1,169 @@
+// A line played: a start or a call on the run, and the line that answers.
+ghost use mathlib.Core.Path.{_≡_};
+ghost use mathlib.Core.Option.{some};
+ghost use mathlib.Core.Bool.{true};
+ghost use mathlib.Core.List.{_++_};
+ghost use Prim.Native.Nat.{_+_, _≤_};
+ghost use lib.ListN.{length, replicate};
+ghost use Rattle.script_text.specs.Reader.{askedOf};
+ghost use Rattle.model.specs.State.{callOf};
+ghost use Rattle.script.specs.Commands.{start, make};
+ghost use Rattle.script.specs.Words.{refusedLine};
+ghost use Rattle.script_text.specs.Written.{Wrote};
+ghost use Rattle.script_play.specs.Player.{cacheUsed, memoryUsed, runOf, lentOf, PlaysCommand};
+use model::Answer;
+use model::Call;
+use model::Figures;
+use model::StartAnswer;
+use model::State;
+use script_text::Command;
+use script_text::writer;
+
+// The run after a line, and where the output ends.
+pub struct AfterLine {
+    pub started: bool,
+    pub state: State,
+    pub at: usize,
+}
+
+// How much of the lent cache a run uses.
+fn cache_used(sets: u32, ways: u32) -> usize
+    ensures { λ r. ⌜ (r ≡ cacheUsed sets ways) × (r ≤ 4096) ⌝ }
+{
+    if 64 < sets {
+        return 0;
+    }
+    if 4 < ways {
+        return 0;
+    }
+    ((sets * ways) as usize) * 16
+}
+
+// How much of the lent memory a run uses.
+fn memory_used(size: u32) -> usize
+    ensures { λ r. ⌜ (r ≡ memoryUsed size) × (r ≤ 65536) ⌝ }
+{
+    if 65536 < size {
+        return 0;
+    }
+    size as usize
+}
+
+// A call on the run.
+fn play_call(
+    state: State,
+    call: Call,
+    cache: &mut [u8],
+    memory: &mut [u8],
+    out: &mut [u8],
+    at: usize,
+) -> AfterLine
+    requires { ⌜ (4096 ≤ length (now cache)) × (65536 ≤ length (now memory)) × (at + 32 ≤ length (now out)) ⌝ }
+    ensures { λ r. ⌜ PlaysCommand (some (make (callOf call))) (runOf true state (now (cache .entry)) (now (memory .entry))) (lentOf (now (cache .entry)) (now (memory .entry))) (now (out .entry)) at r (lentOf (now (cache .exit)) (now (memory .exit))) (now (out .exit)) ⌝ }
+{
+    let c = cache_used(state.sets, state.ways);
+    let m = memory_used(state.size);
+    let r = state.step(call, &mut cache[..c], &mut memory[..m]);
+    let answer = r.answer;
+    let next = r.next;
+    let to = writer::write_answer(out, at, answer);
+    AfterLine {
+        started: true,
+        state: next,
+        at: to,
+    }
+}
+
+// A line that is refused, and leaves the run as it was.
+fn play_refused(started: bool, state: State, k: u32, out: &mut [u8], at: usize) -> AfterLine
+    requires { ⌜ at + 32 ≤ length (now out) ⌝ }
+    ensures { λ r. ⌜ (r ≡ record { started = started; state = state; at = r .at }) × Wrote at (refusedLine k) (now (out .entry)) (now (out .exit)) (r .at) ⌝ }
+{
+    let to = writer::write_answer(out, at, Answer::Refused(k));
+    AfterLine {
+        started,
+        state,
+        at: to,
+    }
+}
+
+// Makes every byte zero.
+fn zero_bytes(bytes: &mut [u8])
+    ensures { λ _. ⌜ now (bytes .exit) ≡ replicate (length (now (bytes .entry))) 0 ⌝ }
+{
+    let mut i: usize = 0;
+    while i < bytes.len() {
+        bytes[i] = 0;
+        i += 1;
+    }
+}
+
+// A start, with memory zeroed where it is accepted.
+fn play_start(
+    started: bool,
+    state: State,
+    figures: Figures,
+    size: u32,
+    cache: &mut [u8],
+    memory: &mut [u8],
+    out: &mut [u8],
+    at: usize,
+) -> AfterLine
+    requires { ⌜ (4096 ≤ length (now cache)) × (65536 ≤ length (now memory)) × (at + 32 ≤ length (now out)) ⌝ }
+    ensures { λ r. ⌜ PlaysCommand (some (start (figures .sets) (figures .ways) size)) (runOf started state (now (cache .entry)) (now (memory .entry))) (lentOf (now (cache .entry)) (now (memory .entry))) (now (out .entry)) at r (lentOf (now (cache .exit)) (now (memory .exit))) (now (out .exit)) ⌝ }
+{
+    let c = cache_used(figures.sets, figures.ways);
+    let m = memory_used(size);
+    let s = State::start(figures, &mut cache[..c], &memory[..m]);
+    let answer = s.answer;
+    let begun = s.state;
+    match answer {
+        StartAnswer::Ready => {
+            zero_bytes(&mut memory[..m]);
+            let to = writer::write_ready(out, at);
+            AfterLine {
+                started: true,
+                state: begun,
+                at: to,
+            }
+        }
+        StartAnswer::NotAllowed(k) => play_refused(started, state, k, out, at),
+    }
+}
+
+// A line, taken apart, is played.
+pub(crate) fn play_command(
+    started: bool,
+    state: State,
+    command: Command,
+    cache: &mut [u8],
+    memory: &mut [u8],
+    out: &mut [u8],
+    at: usize,
+) -> AfterLine
+    requires { ⌜ (4096 ≤ length (now cache)) × (65536 ≤ length (now memory)) × (at + 32 ≤ length (now out)) ⌝ }
+    ensures { λ r. ⌜ PlaysCommand (askedOf command) (runOf started state (now (cache .entry)) (now (memory .entry))) (lentOf (now (cache .entry)) (now (memory .entry))) (now (out .entry)) at r (lentOf (now (cache .exit)) (now (memory .exit))) (now (out .exit)) ⌝ }
+{
+    match command {
+        Command::Malformed => play_refused(started, state, 6, out, at),
+        Command::Start(sets, ways, size) => {
+            play_start(
+                started,
+                state,
+                Figures { sets, ways },
+                size,
+                cache,
+                memory,
+                out,
+                at,
+            )
+        }
+        Command::Make(call) => {
+            if started {
+                play_call(state, call, cache, memory, out, at)
+            } else {
+                play_refused(started, state, 6, out, at)
+            }
+        }
+    }
+}
