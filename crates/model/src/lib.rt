@@ -19,7 +19,7 @@ mod reply;
 mod retry;
 mod show_line;
 mod start;
-mod step;
+mod steps;
 mod store;
 
 // The state. A free place of a queue and an unused record are all zero.

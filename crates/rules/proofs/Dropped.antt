@@ -11,6 +11,7 @@ use borrow.Author.Tests.{ltb-false, leb-false, lt-leb, not-true}
 use Rattle.lists.specs.Padded.{every}
 use Rattle.lists.proofs.Cond.{cases, and-left, or-left, or-right, truth}
 use Rattle.lists.proofs.Sweep.{sweep-none}
+use Rattle.rules.specs.declared.Figures.{Figures}
 use Rattle.rules.specs.Shape.{Queues, Hierarchy, World, world, noStore, noLoad, fits}
 use Rattle.rules.specs.Calls.{Call, Outcome, abort, isAccepted, nextNumber, youngStore, youngLoad, squash, abortRule}
 use Rattle.rules.specs.WellFormed.{wellFormed}
@@ -198,5 +199,5 @@ pub dropped-stretch : (w : World) → DroppedStretch w
 dropped-stretch w n pre stretch post d = within (struck n) pre stretch post w (stretch-alone n stretch (after pre w) d)
 
 -- Demand 3, after an accepted start, whatever memory and cache bytes it found
-pub dropped-after-start : (sets ways : ℕ) (cache memory : List ℕ) → DroppedAfterStart sets ways cache memory
-dropped-after-start sets ways cache memory e = dropped-stretch (startWorld sets ways cache memory)
+pub dropped-after-start : (f : Figures) (cache memory : List ℕ) → DroppedAfterStart f cache memory
+dropped-after-start f cache memory e = dropped-stretch (startWorld f cache memory)

@@ -3,7 +3,7 @@ use mathlib.Core.Path.{_≡_, refl}
 use mathlib.Core.Bool.{true, false}
 use mathlib.Core.List.{[], _∷_, _++_, map}
 use lib.ListN.{replicate}
-use Rattle.rules.specs.Shape.{fits}
+use Rattle.rules.specs.Shape.{geometry, fits}
 use Rattle.rules.specs.Calls.{abort, refused, stored, value, waits, committed, kept, drained, requested, filled, flushed, idled, shown}
 use Rattle.rules.specs.WellFormed.{wellFormed}
 use Rattle.rules.specs.Runs.{answers, after, startAnswer, startWorld, ready}
@@ -21,12 +21,12 @@ unfolding computed table
 table-holds = refl
 
 -- 01's worked script: ready, and the ten answers after it
-pub script-starts : startAnswer 1 1 (replicate 16 0) (replicate 32 0) ≡ ready
+pub script-starts : startAnswer (geometry 1 1) (replicate 16 0) (replicate 32 0) ≡ ready
 unfolding computed
 script-starts = refl
 
 pub script-answers :
-    answers script (startWorld 1 1 (replicate 16 0) (replicate 32 0))
+    answers script (startWorld (geometry 1 1) (replicate 16 0) (replicate 32 0))
     ≡ stored 1
     ∷ value 2 7
     ∷ waits 3
@@ -152,7 +152,7 @@ draining-struck-ends = refl
 -- ---- runs beside flat memory
 
 -- the start of each is accepted
-pub two-lines-start : startAnswer 1 1 otherCache twoLines ≡ ready
+pub two-lines-start : startAnswer (geometry 1 1) otherCache twoLines ≡ ready
 unfolding computed
 two-lines-start = refl
 

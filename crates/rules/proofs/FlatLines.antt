@@ -14,6 +14,7 @@ use Rattle.lists.specs.Counted.{stepsFrom}
 use Rattle.lists.specs.Bytes.{among, overlaid}
 use Rattle.lists.proofs.Cond.{either, cases, wrong}
 use Rattle.lists.proofs.Counting.{steps-keep, each-length, each-at, each-same}
+use Rattle.rules.specs.declared.Figures.{Figures}
 use Rattle.rules.specs.declared.Tag.{Tag}
 use Rattle.rules.specs.declared.StoreEntry.{StoreEntry}
 use Rattle.rules.specs.Shape.{Hierarchy, holding, noTag, tagAt, withDirty, slots, firstSlot, lineOf, fits}
@@ -281,7 +282,7 @@ back-length b =
 -- ---- fill
 
 module _ (c : Hierarchy) (fit : Fits c) (g : Good c) (v l : ℕ) (v-in : v < slots c) (low : firstSlot c l ≤ v)
-    (high : v < firstSlot c l + c .ways) (inside : 16 * l < c .size) (absent : present c l ≡ false)
+    (high : v < firstSlot c l + c .figures .ways) (inside : 16 * l < c .size) (absent : present c l ≡ false)
     (washed : tagAt (c .tags) v .dirty ≡ false) (a : ℕ) where
   abbrev new : Hierarchy
   new = install v l c
@@ -365,6 +366,6 @@ fill-size l b = refl
 -- ---- start
 
 -- a start has no valid line
-pub start-flat : (sets ways : ℕ) (found : List ℕ) (a : ℕ) → flatByte (started sets ways found .hierarchy) a ≡ getD found a 0
+pub start-flat : (f : Figures) (found : List ℕ) (a : ℕ) → flatByte (started f found .hierarchy) a ≡ getD found a 0
 unfolding started
-start-flat sets ways found a = flat-none (started sets ways found .hierarchy) a (λ k v e. wrong v (start-invalid sets ways k))
+start-flat f found a = flat-none (started f found .hierarchy) a (λ k v e. wrong v (start-invalid (f .sets) (f .ways) k))

@@ -11,6 +11,7 @@ use lib.Seq.{getD-drop}
 use Rattle.lists.specs.Padded.{any, filter}
 use Rattle.lists.proofs.Some.{none-at}
 use Rattle.lists.proofs.Selected.{filter-append, filter-all, filter-none, filter-filter}
+use Rattle.rules.specs.declared.Figures.{Figures}
 use Rattle.rules.specs.declared.Tag.{Tag}
 use Rattle.rules.specs.declared.StoreEntry.{StoreEntry}
 use Rattle.rules.specs.Shape.{Queues, Hierarchy, World, noTag, slots, tagAt, fits}
@@ -118,7 +119,7 @@ flushes-run : (found : List ℕ) (h : History) (w : World) → TracedAt found h 
 flushes-run found h w k run before c later s is-flush =
     rw is-flush (flush-right found (historyOf h before w) (after before w) (run-traced found before h w k))
 
-pub flushes-after-start : (sets ways : ℕ) (cache memory : List ℕ) → AfterStart FlushesRight sets ways cache memory
+pub flushes-after-start : (f : Figures) (cache memory : List ℕ) → AfterStart FlushesRight f cache memory
 flushes-after-start = after-start FlushesRight flushes-run
 
 pub flushes-from-state : (w : World) → FromState FlushesRight w

@@ -13,6 +13,7 @@ use Rattle.lists.proofs.Cond.{either, or-two, or-then, or-by}
 use Rattle.lists.proofs.Every.{every-all, every-imp, every-imp₂, every-append, every-snoc, every-filter, every-chosen, every-placed, every-without, every-changed}
 use Rattle.lists.proofs.Rising.{increase-snoc, increase-filter, rising-increases, rising-found}
 use Rattle.lists.proofs.Selected.{filter-append, filter-all}
+use Rattle.rules.specs.declared.Figures.{Figures}
 use Rattle.rules.specs.declared.StoreEntry.{StoreEntry}
 use Rattle.rules.specs.declared.LoadEntry.{LoadEntry}
 use Rattle.rules.specs.Shape.{Queues, Hierarchy, World, noLoad, isFreeLoad}
@@ -329,11 +330,11 @@ history-snoc (d ∷ run) c h w = history-snoc run c (noted d (answer d w) h) (ne
 -- ---- where it begins
 
 -- a start
-pub start-traced : (sets ways : ℕ) (memory : List ℕ) → TracedAt memory noHistory (started sets ways memory)
-start-traced sets ways memory = unfold started filter every increasing appliedAll in (record {
+pub start-traced : (f : Figures) (memory : List ℕ) → TracedAt memory noHistory (started f memory)
+start-traced f memory = unfold started filter every increasing appliedAll in (record {
   gone = [];
   parted = refl;
-  flat = flat-start sets ways memory;
+  flat = flat-start f memory;
   settled = refl;
   ahead = refl;
   marked = refl;

@@ -12,6 +12,7 @@ use Rattle.lists.specs.Padded.{any, every, rising, filter}
 use Rattle.lists.proofs.Cond.{either, cases, and-left, and-right, and-both, or-one, or-two, or-by, wrong}
 use Rattle.lists.proofs.Every.{every-first}
 use Rattle.lists.proofs.Some.{any-first, first-any}
+use Rattle.rules.specs.declared.Figures.{Figures}
 use Rattle.rules.specs.declared.LoadEntry.{LoadEntry}
 use Rattle.rules.specs.declared.Request.{Request}
 use Rattle.rules.specs.declared.Request.the-variants.{Free, Line}
@@ -197,22 +198,22 @@ run-kept (c ∷ cs) w f = run-kept cs (next c w) (next-kept c w f)
 -- ---- a start
 
 -- an accepted start
-pub start-allowed : (sets ways : ℕ) (cache memory : List ℕ) → startAnswer sets ways cache memory ≡ ready → startAllowed sets ways cache memory ≡ true
+pub start-allowed : (f : Figures) (cache memory : List ℕ) → startAnswer f cache memory ≡ ready → startAllowed f cache memory ≡ true
 unfolding startAnswer
-start-allowed sets ways cache memory e =
-    cases (startAllowed sets ways cache memory) (λ t. t)
+start-allowed f cache memory e =
+    cases (startAllowed f cache memory) (λ t. t)
     (λ t. let r : startRefused 1 ≡ ready = rw t at e in let z : _≡_ {A = ℕ} 0 1 = cc in let no : ⊥ = omega arith in absurd no)
 
-pub start-leaves : (sets ways : ℕ) (cache memory : List ℕ) → startAnswer sets ways cache memory ≡ ready → startWorld sets ways cache memory ≡ started sets ways memory
+pub start-leaves : (f : Figures) (cache memory : List ℕ) → startAnswer f cache memory ≡ ready → startWorld f cache memory ≡ started f memory
 unfolding startWorld
-start-leaves sets ways cache memory e = rw (start-allowed sets ways cache memory e)
+start-leaves f cache memory e = rw (start-allowed f cache memory e)
 
-pub start-formed : (sets ways : ℕ) (cache memory : List ℕ) → StartFormed sets ways cache memory
-start-formed sets ways cache memory e =
-    rw (start-leaves sets ways cache memory e)
+pub start-formed : (f : Figures) (cache memory : List ℕ) → StartFormed f cache memory
+start-formed f cache memory e =
+    rw (start-leaves f cache memory e)
     (whole _ _ (unfold started rising every goodStore goodLoad freeStoreZero freeLoadZero storePasses loadPasses committedWaitAt waitingUncoveredAt alone goodRequest requestAbsent requestInside requestWanted in (record {
-      fit = start-fits sets ways cache memory (start-allowed sets ways cache memory e);
-      lines = good-is _ (start-good sets ways cache memory (start-allowed sets ways cache memory e));
+      fit = start-fits f cache memory (start-allowed f cache memory e);
+      lines = good-is _ (start-good f cache memory (start-allowed f cache memory e));
       store-places = refl;
       load-places = refl;
       last-fits = omega arith;
@@ -262,7 +263,7 @@ admitted c w f = record {
         (λ k t e. subst (λ (i : ℕ). ownNumber i ≡ true) (refusal-number c k j e) t)
         (λ e. wrong (rule-accepts (w .queues) (w .hierarchy) c) (ap isAccepted e)))
 
-pub admitted-after-start : (sets ways : ℕ) (cache memory : List ℕ) → AdmittedAfterStart sets ways cache memory
-admitted-after-start sets ways cache memory e run before c later s =
-    admitted c (after before (startWorld sets ways cache memory))
-    (run-kept before (startWorld sets ways cache memory) (start-formed sets ways cache memory e))
+pub admitted-after-start : (f : Figures) (cache memory : List ℕ) → AdmittedAfterStart f cache memory
+admitted-after-start f cache memory e run before c later s =
+    admitted c (after before (startWorld f cache memory))
+    (run-kept before (startWorld f cache memory) (start-formed f cache memory e))

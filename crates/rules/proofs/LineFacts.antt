@@ -21,8 +21,8 @@ use Rattle.rules.specs.WellFormed.{zeroTag, ageGood, setAged, linesInsid
 -- ---- the facts
 
 pub record Fits (b : Hierarchy) : Type 0 where
-  pub some-set : 0 < b .sets
-  pub some-way : 0 < b .ways
+  pub some-set : 0 < b .figures .sets
+  pub some-way : 0 < b .figures .ways
   pub room : slots b ≤ 256
   pub by-lines : b .size % 16 ≡ 0
   pub memory-long : length (b .memory) ≡ b .size
@@ -38,7 +38,7 @@ pub record Lines (b : Hierarchy) : Type 0 where
   pub inside : (k : ℕ) → tagAt (b .tags) k .valid ≡ true → 16 * tagAt (b .tags) k .line < b .size
   pub own :
       (k : ℕ) → tagAt (b .tags) k .valid ≡ true
-      → (firstSlot b (tagAt (b .tags) k .line) ≤ k) × (k < firstSlot b (tagAt (b .tags) k .line) + b .ways)
+      → (firstSlot b (tagAt (b .tags) k .line) ≤ k) × (k < firstSlot b (tagAt (b .tags) k .line) + b .figures .ways)
   pub once :
       (j k : ℕ) → tagAt (b .tags) j .valid ≡ true → tagAt (b .tags) k .valid ≡ true
       → tagAt (b .tags) j .line ≡ tagAt (b .tags) k .line → j ≡ k
@@ -46,7 +46,7 @@ pub record Lines (b : Hierarchy) : Type 0 where
 pub record Good (b : Hierarchy) : Type 0 where
   pub table : length (b .tags) ≡ 256
   pub unused : (k : ℕ) → slots b ≤ k → tagAt (b .tags) k ≡ noTag
-  pub ages : (s : ℕ) → s < b .sets → Ages (b .tags) (b .ways) (s * b .ways)
+  pub ages : (s : ℕ) → s < b .figures .sets → Ages (b .tags) (b .figures .ways) (s * b .figures .ways)
   pub lines : Lines b
   pub clean :
       (k i : ℕ) → tagAt (b .tags) k .valid ≡ true → tagAt (b .tags) k .dirty ≡ false → i < 16
@@ -59,7 +59,7 @@ pub record Good (b : Hierarchy) : Type 0 where
 -- where a present line stands
 pub record At (b : Hierarchy) (l : ℕ) : Type 0 where
   pub low : firstSlot b l ≤ slotOf b l
-  pub high : slotOf b l < firstSlot b l + b .ways
+  pub high : slotOf b l < firstSlot b l + b .figures .ways
   pub valid : tagAt (b .tags) (slotOf b l) .valid ≡ true
   pub line : tagAt (b .tags) (slotOf b l) .line ≡ l
 
@@ -83,16 +83,16 @@ sets-bound n e =
 pub fits-tells : (b : Hierarchy) → fits b ≡ true → Fits b
 unfolding fits figuresAllowed
 fits-tells b e =
-    let figures = and-left (figuresAllowed (b .sets) (b .ways) (b .size)) _ e in
-    let lengths = and-right (figuresAllowed (b .sets) (b .ways) (b .size)) _ e in
-    let sets = sets-bound (b .sets) (and-left (setsAllowed (b .sets)) _ figures) in
-    let rest = and-right (setsAllowed (b .sets)) _ figures in
-    let ways = and-left (waysAllowed (b .ways)) _ rest in
-    let size = and-right (waysAllowed (b .ways)) (memoryAllowed (b .size)) rest in
+    let figures = and-left (figuresAllowed (b .figures) (b .size)) _ e in
+    let lengths = and-right (figuresAllowed (b .figures) (b .size)) _ e in
+    let sets = sets-bound (b .figures .sets) (and-left (setsAllowed (b .figures .sets)) _ figures) in
+    let rest = and-right (setsAllowed (b .figures .sets)) _ figures in
+    let ways = and-left (waysAllowed (b .figures .ways)) _ rest in
+    let size = and-right (waysAllowed (b .figures .ways)) (memoryAllowed (b .size)) rest in
     record {
       some-set = sets .0;
-      some-way = leb-true 1 (b .ways) (and-left _ _ ways);
-      room = mul-le-mul (sets .1) (leb-true (b .ways) 4 (and-right (leb 1 (b .ways)) _ ways));
+      some-way = leb-true 1 (b .figures .ways) (and-left _ _ ways);
+      room = mul-le-mul (sets .1) (leb-true (b .figures .ways) 4 (and-right (leb 1 (b .figures .ways)) _ ways));
       by-lines = eqb-true (b .size % 16) 0 (and-left _ _ size);
       memory-long = eqb-true (length (b .memory)) (b .size) (and-left _ _ lengths);
       cache-long =
@@ -113,9 +113,9 @@ pub present-tells : (b : Hierarchy) (l : ℕ) → present b l ≡ true → At b 
 unfolding present slotOf
 present-tells b l e =
     let p : ℕ → Bool = λ k. holdsLine l (tagAt (b .tags) k) in
-    let h = ltb-true (firstFrom p (firstSlot b l) (b .ways)) (firstSlot b l + b .ways) e in
-    let n = names-tells l _ (first-hits p (b .ways) (firstSlot b l) h) in
-    record { low = first-low p (b .ways) (firstSlot b l); high = h; valid = n .0; line = n .1 }
+    let h = ltb-true (firstFrom p (firstSlot b l) (b .figures .ways)) (firstSlot b l + b .figures .ways) e in
+    let n = names-tells l _ (first-hits p (b .figures .ways) (firstSlot b l) h) in
+    record { low = first-low p (b .figures .ways) (firstSlot b l); high = h; valid = n .0; line = n .1 }
 
 -- a valid line is found in its slot
 pub look :
@@ -125,11 +125,11 @@ unfolding present slotOf
 look b g k l v e =
     let o = g .own k v in
     let lo : firstSlot b l ≤ k = subst (λ (l : ℕ). firstSlot b l ≤ k) e (o .0) in
-    let hi : k < firstSlot b l + b .ways = subst (λ (l : ℕ). k < firstSlot b l + b .ways) e (o .1) in
+    let hi : k < firstSlot b l + b .figures .ways = subst (λ (l : ℕ). k < firstSlot b l + b .figures .ways) e (o .1) in
     let p : ℕ → Bool = λ k. holdsLine l (tagAt (b .tags) k) in
-    let least = first-least p (b .ways) (firstSlot b l) k lo hi (names-is l (tagAt (b .tags) k) v e) in
-    let h : firstFrom p (firstSlot b l) (b .ways) < firstSlot b l + b .ways = omega arith in
-    let n = names-tells l _ (first-hits p (b .ways) (firstSlot b l) h) in
+    let least = first-least p (b .figures .ways) (firstSlot b l) k lo hi (names-is l (tagAt (b .tags) k) v e) in
+    let h : firstFrom p (firstSlot b l) (b .figures .ways) < firstSlot b l + b .figures .ways = omega arith in
+    let n = names-tells l _ (first-hits p (b .figures .ways) (firstSlot b l) h) in
     (lt-ltb _ _ h, g .once _ k (n .0) v (n .1 ∙ sym e))
 
 pub absent-tells :
@@ -260,7 +260,7 @@ module _ (b : Hierarchy) where
     inside-tells e v = ltb-true _ (b .size) (if-valid e v)
 
     own-tells :
-        linesInSetAt b k ≡ true → tag .valid ≡ true → (firstSlot b (tag .line) ≤ k) × (k < firstSlot b (tag .line) + b .ways)
+        linesInSetAt b k ≡ true → tag .valid ≡ true → (firstSlot b (tag .line) ≤ k) × (k < firstSlot b (tag .line) + b .figures .ways)
     unfolding linesInSetAt
     own-tells e v =
         let h = if-valid e v in
@@ -295,7 +295,7 @@ good-tells b e =
     record {
       table = long;
       unused = past;
-      ages = λ s h. ages-tell (b .tags) (b .ways) (s * b .ways) (all-at _ (b .sets) 0 (c .ages) s (omega arith) (omega arith));
+      ages = λ s h. ages-tell (b .tags) (b .figures .ways) (s * b .figures .ways) (all-at _ (b .figures .sets) 0 (c .ages) s (omega arith) (omega arith));
       lines = record {
         inside = λ k v. inside-tells b k (at-slot b (linesInsideAt b) (c .inside) k (here k v)) v;
         own = own;
@@ -328,7 +328,7 @@ good-tells b e =
 
     own :
         (k : ℕ) → tagAt (b .tags) k .valid ≡ true
-        → (firstSlot b (tagAt (b .tags) k .line) ≤ k) × (k < firstSlot b (tagAt (b .tags) k .line) + b .ways)
+        → (firstSlot b (tagAt (b .tags) k .line) ≤ k) × (k < firstSlot b (tagAt (b .tags) k .line) + b .figures .ways)
     own k v = own-tells b k (at-slot b (linesInSetAt b) (c .own) k (here k v)) v
 
     twice :
@@ -385,7 +385,7 @@ good-is b g =
       unused =
           every-drop zeroTag noTag (slots b) (b .tags)
           ∙ all-by _ (length (b .tags) - slots b) (slots b) (λ k a h. zero-is _ (g .unused k a));
-      ages = all-by _ (b .sets) 0 (λ s a h. ages-are (b .tags) (b .ways) (s * b .ways) (g .ages s (omega arith)));
+      ages = all-by _ (b .figures .sets) 0 (λ s a h. ages-are (b .tags) (b .figures .ways) (s * b .figures .ways) (g .ages s (omega arith)));
       inside = all-by (linesInsideAt b) (slots b) 0 (λ k a h. inside-is b g k);
       own = all-by (linesInSetAt b) (slots b) 0 (λ k a h. own-is b g k);
       once = all-by (linesOnceAt b) (slots b) 0 (λ k a h. once-is b g k);

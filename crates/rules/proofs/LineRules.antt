@@ -22,8 +22,7 @@ use Rattle.rules.proofs.LineSteps.{present-same, use-lines, use-good, p
 
 -- the same figures and the same lengths
 pub record Shaped (old new : Hierarchy) : Type 0 where
-  pub sets : new .sets ≡ old .sets
-  pub ways : new .ways ≡ old .ways
+  pub figures : new .figures ≡ old .figures
   pub size : new .size ≡ old .size
   pub memory : length (new .memory) ≡ length (old .memory)
   pub cache : length (new .cache) ≡ length (old .cache)
@@ -31,8 +30,7 @@ pub record Shaped (old new : Hierarchy) : Type 0 where
 pub shaped-then : (a b c : Hierarchy) → Shaped a b → Shaped b c → Shaped a c
 shaped-then a b c p q =
     record {
-      sets = q .sets ∙ p .sets;
-      ways = q .ways ∙ p .ways;
+      figures = q .figures ∙ p .figures;
       size = q .size ∙ p .size;
       memory = q .memory ∙ p .memory;
       cache = q .cache ∙ p .cache;
@@ -40,10 +38,10 @@ shaped-then a b c p q =
 
 pub shaped-fits : (old new : Hierarchy) → Shaped old new → fits new ≡ fits old
 unfolding fits
-shaped-fits old new h = rw (h .sets, h .ways, h .size, h .memory, h .cache)
+shaped-fits old new h = rw (h .figures, h .size, h .memory, h .cache)
 
 pub shaped-slots : (old new : Hierarchy) → Shaped old new → slots new ≡ slots old
-shaped-slots old new h = rw (h .sets, h .ways)
+shaped-slots old new h = rw (h .figures)
 
 -- the lines are still well formed, and the same lines are present
 pub record LinesKept (old new : Hierarchy) : Type 0 where
@@ -54,7 +52,7 @@ pub record LinesKept (old new : Hierarchy) : Type 0 where
 pub kept-refl : (b : Hierarchy) → Good b → LinesKept b b
 kept-refl b g =
     record {
-      shaped = record { sets = refl; ways = refl; size = refl; memory = refl; cache = refl };
+      shaped = record { figures = refl; size = refl; memory = refl; cache = refl };
       good = g;
       lines = λ l. refl;
     }
@@ -72,16 +70,16 @@ kept-fits a b e k = shaped-fits a b (k .shaped) ∙ e
 
 -- ---- use
 
-set-in : (b : Hierarchy) → Fits b → (l : ℕ) → setOf b l < b .sets
+set-in : (b : Hierarchy) → Fits b → (l : ℕ) → setOf b l < b .figures .sets
 set-in b fit l = mod-lt l (fit .some-set)
 
 use-kept :
-    (b : Hierarchy) → Fits b → Good b → (l v : ℕ) → firstSlot b l ≤ v → v < firstSlot b l + b .ways
+    (b : Hierarchy) → Fits b → Good b → (l v : ℕ) → firstSlot b l ≤ v → v < firstSlot b l + b .figures .ways
     → LinesKept b (useSlot (firstSlot b l) v b)
 unfolding useSlot
 use-kept b fit g l v p q =
     record {
-      shaped = record { sets = refl; ways = refl; size = refl; memory = refl; cache = refl };
+      shaped = record { figures = refl; size = refl; memory = refl; cache = refl };
       good = use-good b fit g (setOf b l) v (set-in b fit l) p q;
       lines = present-same b _ (b .cache) (b .memory) (use-lines (firstSlot b l) v b);
     }
@@ -101,7 +99,7 @@ put-kept :
 unfolding putStore
 put-kept b fit g v s h w =
     record {
-      shaped = record { sets = refl; ways = refl; size = refl; memory = refl; cache = each-length _ 0 (b .cache) };
+      shaped = record { figures = refl; size = refl; memory = refl; cache = each-length _ 0 (b .cache) };
       good = put-good b fit g v s h w;
       lines = present-same b _ _ (b .memory) (put-lines b fit g v s h);
     }
@@ -122,7 +120,7 @@ pub save-kept : (b : Hierarchy) → Fits b → Good b → (v : ℕ) → v < slot
 unfolding writeBackSlot
 save-kept b fit g v h =
     record {
-      shaped = record { sets = refl; ways = refl; size = refl; memory = each-length _ 0 (b .memory); cache = refl };
+      shaped = record { figures = refl; size = refl; memory = each-length _ 0 (b .memory); cache = refl };
       good = save-good b fit g v h;
       lines = present-same b _ (b .cache) _ (save-lines b fit g v h);
     }
@@ -139,17 +137,17 @@ save-all b e g =
 -- the victim is a slot of the line's set
 pub record VictimIn (b : Hierarchy) (l : ℕ) : Type 0 where
   pub low : firstSlot b l ≤ victim b l
-  pub high : victim b l < firstSlot b l + b .ways
+  pub high : victim b l < firstSlot b l + b .figures .ways
   pub used : victim b l < slots b
 
-victim-range : (b : Hierarchy) (l : ℕ) → 0 < b .ways → (firstSlot b l ≤ victim b l) × (victim b l < firstSlot b l + b .ways)
+victim-range : (b : Hierarchy) (l : ℕ) → 0 < b .figures .ways → (firstSlot b l ≤ victim b l) × (victim b l < firstSlot b l + b .figures .ways)
 unfolding victim
 victim-range b l h =
     let f = firstSlot b l in
     let p : ℕ → Bool = λ k. not (tagAt (b .tags) k .valid) in
-    either (λ k. (f ≤ k) × (k < f + b .ways)) (ltb (firstFrom p f (b .ways)) (f + b .ways))
-    (λ e. (first-low p (b .ways) f, ltb-true _ _ e))
-    (λ e. greatest-in (λ k. tagAt (b .tags) k .age) f (f + b .ways) (b .ways) f f (omega arith, omega arith) (omega arith) (omega arith))
+    either (λ k. (f ≤ k) × (k < f + b .figures .ways)) (ltb (firstFrom p f (b .figures .ways)) (f + b .figures .ways))
+    (λ e. (first-low p (b .figures .ways) f, ltb-true _ _ e))
+    (λ e. greatest-in (λ k. tagAt (b .tags) k .age) f (f + b .figures .ways) (b .figures .ways) f f (omega arith, omega arith) (omega arith) (omega arith))
 
 pub victim-in : (b : Hierarchy) (l : ℕ) → Fits b → VictimIn b l
 victim-in b l fit =
@@ -157,7 +155,7 @@ victim-in b l fit =
     record {
       low = h .0;
       high = h .1;
-      used = omega (arith, h .1, set-room (setOf b l) (b .sets) (b .ways) (set-in b fit l));
+      used = omega (arith, h .1, set-room (setOf b l) (b .figures .sets) (b .figures .ways) (set-in b fit l));
     }
 
 -- after the fill: the line is present, no other line came, and at most one is lost
@@ -170,7 +168,7 @@ pub record Filled (l : ℕ) (old new : Hierarchy) : Type 0 where
       (m n : ℕ) → present old m ≡ true → present new m ≡ false → present old n ≡ true → present new n ≡ false → m ≡ n
 
 module _ (b : Hierarchy) (fit : Fits b) (g : Good b) (v l : ℕ) (v-in : v < slots b) (low : firstSlot b l ≤ v)
-    (high : v < firstSlot b l + b .ways) (inside : 16 * l < b .size)
+    (high : v < firstSlot b l + b .figures .ways) (inside : 16 * l < b .size)
     (absent : (k : ℕ) → tagAt (b .tags) k .valid ≡ true → tagAt (b .tags) k .line ≡ l → ⊥) where
   new-good : Good (install v l b)
   new-good = install-good b fit g v l v-in low high inside absent
@@ -204,7 +202,7 @@ module _ (b : Hierarchy) (fit : Fits b) (g : Good b) (v l : ℕ) (v-in : v < slo
   unfolding install
   installed =
       record {
-        shaped = record { sets = refl; ways = refl; size = refl; memory = refl; cache = each-length _ 0 (b .cache) };
+        shaped = record { figures = refl; size = refl; memory = refl; cache = each-length _ 0 (b .cache) };
         good = new-good;
         here = look (install v l b) (new-good .lines) v l (here-tag .0) (here-tag .1) .0;
         no-other = no-other;

@@ -11,6 +11,7 @@ use lib.ListN.{length, replicate, length-replicate, getD-replicate}
 use borrow.Author.Tests.{lt-ltb, le-ltb, eq-eqb}
 use Rattle.lists.proofs.Cond.{either, and-left, and-both, wrong}
 use Rattle.lists.proofs.Counting.{each-length, each-at, each-past}
+use Rattle.rules.specs.declared.Figures.{Figures}
 use Rattle.rules.specs.declared.Tag.{Tag}
 use Rattle.rules.specs.Shape.{noTag, tagAt, withAge, figuresAllowed, fits}
 use Rattle.rules.specs.Runs.{startTags, started, startAllowed}
@@ -65,33 +66,33 @@ start-table sets ways = each-length _ 0 (replicate 256 noTag) ∙ length-replica
 
 -- ---- the lines
 
-module _ (sets ways : ℕ) (cache memory : List ℕ) (allowed : startAllowed sets ways cache memory ≡ true) where
-  pub start-fits : fits (started sets ways memory .hierarchy) ≡ true
+module _ (f : Figures) (cache memory : List ℕ) (allowed : startAllowed f cache memory ≡ true) where
+  pub start-fits : fits (started f memory .hierarchy) ≡ true
   unfolding startAllowed started fits
   start-fits =
-      and-both _ _ (and-left (figuresAllowed sets ways (length memory)) _ allowed)
-      (and-both _ _ (eq-eqb (length memory) _ refl) (eq-eqb _ _ (length-replicate {A = ℕ} (sets * ways * 16) 0)))
+      and-both _ _ (and-left (figuresAllowed f (length memory)) _ allowed)
+      (and-both _ _ (eq-eqb (length memory) _ refl) (eq-eqb _ _ (length-replicate {A = ℕ} (f .sets * f .ways * 16) 0)))
 
-  start-room : sets * ways ≤ 256
+  start-room : f .sets * f .ways ≤ 256
   unfolding started
-  start-room = fits-tells (started sets ways memory .hierarchy) start-fits .room
+  start-room = fits-tells (started f memory .hierarchy) start-fits .room
 
-  pub start-good : Good (started sets ways memory .hierarchy)
+  pub start-good : Good (started f memory .hierarchy)
   unfolding started
   start-good =
       record {
-        table = start-table sets ways;
-        unused = start-unused sets ways;
+        table = start-table (f .sets) (f .ways);
+        unused = start-unused (f .sets) (f .ways);
         ages = λ s h. record {
-          small = λ k p q. omega (arith, start-age sets ways start-room s k h p q);
-          same = λ j k p q m n e. omega (arith, start-age sets ways start-room s j h p q, start-age sets ways start-room s k h m n);
+          small = λ k p q. omega (arith, start-age (f .sets) (f .ways) start-room s k h p q);
+          same = λ j k p q m n e. omega (arith, start-age (f .sets) (f .ways) start-room s j h p q, start-age (f .sets) (f .ways) start-room s k h m n);
         };
         lines = record {
-          inside = λ k v. wrong v (start-invalid sets ways k);
-          own = λ k v. wrong v (start-invalid sets ways k);
-          once = λ j k u v e. wrong v (start-invalid sets ways k);
+          inside = λ k v. wrong v (start-invalid (f .sets) (f .ways) k);
+          own = λ k v. wrong v (start-invalid (f .sets) (f .ways) k);
+          once = λ j k u v e. wrong v (start-invalid (f .sets) (f .ways) k);
         };
-        clean = λ k i v d h. wrong v (start-invalid sets ways k);
-        empty = λ k v. (start-zero sets ways k (λ t. t .dirty) (λ x. refl), start-zero sets ways k (λ t. t .line) (λ x. refl));
-        zeroed = λ k i h v l. getD-replicate (sets * ways * 16) (16 * k + i) 0 0 (omega arith);
+        clean = λ k i v d h. wrong v (start-invalid (f .sets) (f .ways) k);
+        empty = λ k v. (start-zero (f .sets) (f .ways) k (λ t. t .dirty) (λ x. refl), start-zero (f .sets) (f .ways) k (λ t. t .line) (λ x. refl));
+        zeroed = λ k i h v l. getD-replicate (f .sets * f .ways * 16) (16 * k + i) 0 0 (omega arith);
       }

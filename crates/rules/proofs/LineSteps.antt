@@ -44,12 +44,12 @@ module _ (b : Hierarchy) (tags : List Tag) (c m : List ℕ) (h : SameLines (b .t
   pub slot-same : (l : ℕ) → slotOf (holding b tags c m) l ≡ slotOf b l
   unfolding slotOf
   slot-same l =
-      ap (λ (p : ℕ → Bool). firstFrom p (firstSlot b l) (b .ways))
+      ap (λ (p : ℕ → Bool). firstFrom p (firstSlot b l) (b .figures .ways))
       (fun-ext (λ k. names-by l (tagAt tags k) (tagAt (b .tags) k) (h .valid k) (h .line k)))
 
   pub present-same : (l : ℕ) → present (holding b tags c m) l ≡ present b l
   unfolding present
-  present-same l = ap (λ (k : ℕ). ltb k (firstSlot b l + b .ways)) (slot-same l)
+  present-same l = ap (λ (k : ℕ). ltb k (firstSlot b l + b .figures .ways)) (slot-same l)
 
   lines-same : Lines b → Lines (holding b tags c m)
   lines-same g =
@@ -138,46 +138,46 @@ module _ (f v : ℕ) (b : Hierarchy) where
   use-dirty : (k : ℕ) → tagAt (useSlot f v b .tags) k .dirty ≡ tagAt (b .tags) k .dirty
   use-dirty = used-keeps (λ t. t .dirty) (λ x t. refl)
 
-module _ (b : Hierarchy) (fit : Fits b) (g : Good b) (s v : ℕ) (s-in : s < b .sets) (low : s * b .ways ≤ v)
-    (high : v < s * b .ways + b .ways) where
+module _ (b : Hierarchy) (fit : Fits b) (g : Good b) (s v : ℕ) (s-in : s < b .figures .sets) (low : s * b .figures .ways ≤ v)
+    (high : v < s * b .figures .ways + b .figures .ways) where
   abbrev new : Hierarchy
-  new = useSlot (s * b .ways) v b
+  new = useSlot (s * b .figures .ways) v b
 
-  use-out : (k : ℕ) → (s * b .ways ≤ k → k < s * b .ways + b .ways → ⊥) → tagAt (new .tags) k ≡ tagAt (b .tags) k
+  use-out : (k : ℕ) → (s * b .figures .ways ≤ k → k < s * b .figures .ways + b .figures .ways → ⊥) → tagAt (new .tags) k ≡ tagAt (b .tags) k
   unfolding useSlot
   use-out k o = each-same _ (b .tags) noTag k (λ t. aged-out _ _ v _ k t o low high)
 
   use-in :
-      (k : ℕ) → s * b .ways ≤ k → k < s * b .ways + b .ways
+      (k : ℕ) → s * b .figures .ways ≤ k → k < s * b .figures .ways + b .figures .ways
       → Aged v (tagAt (b .tags) v .age) k (tagAt (b .tags) k .age) (tagAt (new .tags) k .age)
   unfolding useSlot
   use-in k p q =
-      let in-table : k < length (b .tags) = omega (arith, set-room s (b .sets) (b .ways) s-in, fit .room, g .table) in
-      rw (each-at (agedAt (s * b .ways) (b .ways) v (tagAt (b .tags) v .age)) (b .tags) noTag k in-table)
+      let in-table : k < length (b .tags) = omega (arith, set-room s (b .figures .sets) (b .figures .ways) s-in, fit .room, g .table) in
+      rw (each-at (agedAt (s * b .figures .ways) (b .figures .ways) v (tagAt (b .tags) v .age)) (b .tags) noTag k in-table)
       (aged-in _ _ v _ k (tagAt (b .tags) k) p q (g .ages s s-in .same k v p q low high))
 
-  use-ages : (r : ℕ) → r < b .sets → Ages (new .tags) (b .ways) (r * b .ways)
+  use-ages : (r : ℕ) → r < b .figures .sets → Ages (new .tags) (b .figures .ways) (r * b .figures .ways)
   use-ages r h =
       elim (ℕ-discrete r s) [
-        | yes e ↦ subst (λ (j : ℕ). Ages (new .tags) (b .ways) (j * b .ways)) (sym e) (record {
+        | yes e ↦ subst (λ (j : ℕ). Ages (new .tags) (b .figures .ways) (j * b .figures .ways)) (sym e) (record {
           small = λ k p q. aged-small (g .ages s s-in .small v low high) (g .ages s s-in .small k p q) (use-in k p q);
           same = λ j k p q m n e. aged-same (g .ages s s-in .same j k p q m n) (use-in j p q) (use-in k m n) e;
         })
-        | no d ↦ ages-same (b .tags) _ (b .ways) (r * b .ways) (λ k p q. ap (λ (t : Tag). t .age) (use-out k (λ m n.
+        | no d ↦ ages-same (b .tags) _ (b .figures .ways) (r * b .figures .ways) (λ k p q. ap (λ (t : Tag). t .age) (use-out k (λ m n.
             elim (decLt r s) [
-              | yes l ↦ omega (arith, set-room r s (b .ways) l)
-              | no l ↦ let l′ : s < r = omega arith in omega (arith, set-room s r (b .ways) l′)
+              | yes l ↦ omega (arith, set-room r s (b .figures .ways) l)
+              | no l ↦ let l′ : s < r = omega arith in omega (arith, set-room s r (b .figures .ways) l′)
             ]))) (g .ages r h)
       ]
 
   pub use-good : Good new
   unfolding useSlot
   use-good =
-      let same = use-lines (s * b .ways) v b in
-      let dirty = use-dirty (s * b .ways) v b in
+      let same = use-lines (s * b .figures .ways) v b in
+      let dirty = use-dirty (s * b .figures .ways) v b in
       record {
         table = each-length _ 0 (b .tags) ∙ g .table;
-        unused = λ k h. use-out k (λ p q. omega (arith, set-room s (b .sets) (b .ways) s-in)) ∙ g .unused k h;
+        unused = λ k h. use-out k (λ p q. omega (arith, set-room s (b .figures .sets) (b .figures .ways) s-in)) ∙ g .unused k h;
         ages = use-ages;
         lines = lines-same b _ (b .cache) (b .memory) same (g .lines);
         clean = λ k i v d h. rw (same .line k) (g .clean k i (sym (same .valid k) ∙ v) (sym (dirty k) ∙ d) h);
@@ -196,9 +196,9 @@ module _ (b : Hierarchy) (fit : Fits b) (g : Good b) (v : ℕ) (v-in : v < slots
   set-unused =
       at-set (b .tags) v t in-table (λ k u. slots b ≤ k → u ≡ noTag) (λ h. let no : ⊥ = omega arith in absurd no) (λ k d. g .unused k)
 
-  set-ages : (s : ℕ) → s < b .sets → Ages (set (b .tags) v t) (b .ways) (s * b .ways)
+  set-ages : (s : ℕ) → s < b .figures .sets → Ages (set (b .tags) v t) (b .figures .ways) (s * b .figures .ways)
   set-ages s h =
-      ages-same (b .tags) _ (b .ways) _
+      ages-same (b .tags) _ (b .figures .ways) _
       (λ k p q. at-set (b .tags) v t in-table (λ k u. u .age ≡ tagAt (b .tags) k .age) aged (λ k d. refl) k)
       (g .ages s h)
 
@@ -350,7 +350,7 @@ module _ (b : Hierarchy) (v l k : ℕ) (d : k ≡ v → ⊥) where
       each-same _ (b .cache) 0 (16 * k + i) (λ x. copied-else _ v l (16 * k + i) x (λ q. d (omega arith)))
 
 module _ (b : Hierarchy) (fit : Fits b) (g : Good b) (v l : ℕ) (v-in : v < slots b) (low : firstSlot b l ≤ v)
-    (high : v < firstSlot b l + b .ways) (inside : 16 * l < b .size)
+    (high : v < firstSlot b l + b .figures .ways) (inside : 16 * l < b .size)
     (absent : (k : ℕ) → tagAt (b .tags) k .valid ≡ true → tagAt (b .tags) k .line ≡ l → ⊥) where
   pub install-good : Good (install v l b)
   unfolding install
@@ -363,7 +363,7 @@ module _ (b : Hierarchy) (fit : Fits b) (g : Good b) (v l : ℕ) (v-in : v < slo
         ages = set-ages b fit g v v-in t refl;
         lines = record {
           inside = at (λ k u. u .valid ≡ true → 16 * u .line < b .size) (λ e. inside) (λ k d. g .lines .inside k);
-          own = at (λ k u. u .valid ≡ true → (firstSlot b (u .line) ≤ k) × (k < firstSlot b (u .line) + b .ways)) (λ e. (low, high)) (λ k d. g .lines .own k);
+          own = at (λ k u. u .valid ≡ true → (firstSlot b (u .line) ≤ k) × (k < firstSlot b (u .line) + b .figures .ways)) (λ e. (low, high)) (λ k d. g .lines .own k);
           once = λ j k.
               at (λ j u. u .valid ≡ true → tagAt (set (b .tags) v t) k .valid ≡ true → u .line ≡ tagAt (set (b .tags) v t) k .line → j ≡ k)
               (λ e. at (λ k w. w .valid ≡ true → l ≡ w .line → v ≡ k) (λ f q. refl) (λ k d f q. absurd (absent k f (sym q))) k)

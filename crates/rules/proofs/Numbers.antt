@@ -9,6 +9,7 @@ use lib.Dec.{ltb, leb}
 use borrow.Author.Tests.{leb-false, not-true}
 use Rattle.lists.specs.Padded.{every, first}
 use Rattle.lists.proofs.Cond.{either, and-left, or-left}
+use Rattle.rules.specs.declared.Figures.{Figures}
 use Rattle.rules.specs.declared.LoadEntry.{LoadEntry}
 use Rattle.rules.specs.Shape.{Queues, Hierarchy, World, noLoad}
 use Rattle.rules.specs.Forward.{loadValue}
@@ -17,10 +18,10 @@ use Rattle.rules.specs.Runs.{started, unstarted, startAllowed, startWorl
 use Rattle.rules.specs.Numbers.{numberAfter, FirstNumber, NextNumber}
 use Rattle.rules.proofs.Checks.{outcome-by}
 
-pub first-number : (sets ways : ℕ) (cache memory : List ℕ) → FirstNumber sets ways cache memory
+pub first-number : (f : Figures) (cache memory : List ℕ) → FirstNumber f cache memory
 unfolding startWorld started unstarted
-first-number sets ways cache memory =
-    either (λ (w : World). nextNumber (w .queues) ≡ 1) (startAllowed sets ways cache memory) (λ e. refl) (λ e. refl)
+first-number f cache memory =
+    either (λ (w : World). nextNumber (w .queues) ≡ 1) (startAllowed f cache memory) (λ e. refl) (λ e. refl)
 
 module _ (q : Queues) (b : Hierarchy) where
   abbrev Same : Outcome → Type 0

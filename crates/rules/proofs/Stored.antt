@@ -15,6 +15,7 @@ use Rattle.lists.proofs.Cond.{either, cases}
 use Rattle.lists.proofs.Counting.{each-length, each-at}
 use Rattle.lists.proofs.Selected.{any-filter, final-filter, final-none, final-some}
 use Rattle.lists.proofs.Bytes.{put-length, put-byte, gather-known, some-lacking}
+use Rattle.rules.specs.declared.Figures.{Figures}
 use Rattle.rules.specs.declared.StoreEntry.{StoreEntry}
 use Rattle.rules.specs.declared.LoadEntry.{LoadEntry}
 use Rattle.rules.specs.Shape.{Hierarchy, noStore, lineOf, fits}
@@ -123,9 +124,9 @@ module _ (b : Hierarchy) (f : fits b ≡ true) (g : linesFormed b ≡ true) wher
   pub memory-back : writeBackAll b .memory ≡ flatOf b
   memory-back = sym (flat-is b (writeBackAll b .memory) (back-length b) (λ a l. sym (back-memory b f g a)))
 
-pub flat-start : (sets ways : ℕ) (memory : List ℕ) → flatOf (started sets ways memory .hierarchy) ≡ memory
-flat-start sets ways memory =
-    flat-is (started sets ways memory .hierarchy) memory (unfold started in refl) (λ a l. start-flat sets ways memory a)
+pub flat-start : (f : Figures) (memory : List ℕ) → flatOf (started f memory .hierarchy) ≡ memory
+flat-start f memory =
+    flat-is (started f memory .hierarchy) memory (unfold started in refl) (λ a l. start-flat f memory a)
 
 -- ---- the value of a load
 

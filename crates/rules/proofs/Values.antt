@@ -12,6 +12,7 @@ use Rattle.lists.specs.Bytes.{valueAt}
 use Rattle.lists.proofs.Cond.{either, and-left, and-right, or-then}
 use Rattle.lists.proofs.Every.{every-first}
 use Rattle.lists.proofs.Selected.{filter-append, filter-all, filter-filter}
+use Rattle.rules.specs.declared.Figures.{Figures}
 use Rattle.rules.specs.declared.StoreEntry.{StoreEntry}
 use Rattle.rules.specs.declared.LoadEntry.{LoadEntry}
 use Rattle.rules.specs.Shape.{Queues, Hierarchy, World, world, noLoad, isFreeLoad, lineOf}
@@ -201,28 +202,28 @@ module _ (found : List ℕ) (h : History) (w : World) (k : TracedAt found h w) w
 -- a claim of every run from where the invariant holds
 pub after-start :
     (claim : Claim) → ((found : List ℕ) (h : History) (w : World) → TracedAt found h w → (run : List Call) → claim found h w run)
-    → (sets ways : ℕ) (cache memory : List ℕ) → AfterStart claim sets ways cache memory
-after-start claim holds sets ways cache memory e run =
-    holds memory noHistory (startWorld sets ways cache memory) (rw (start-leaves sets ways cache memory e) (start-traced sets ways memory)) run
+    → (f : Figures) (cache memory : List ℕ) → AfterStart claim f cache memory
+after-start claim holds f cache memory e run =
+    holds memory noHistory (startWorld f cache memory) (rw (start-leaves f cache memory e) (start-traced f memory)) run
 
 pub from-state :
     (claim : Claim) → ((found : List ℕ) (h : History) (w : World) → TracedAt found h w → (run : List Call) → claim found h w run)
     → (w : World) → FromState claim w
 from-state claim holds w f run = holds (flatOf (w .hierarchy)) (historyAt w) w (state-traced w f) run
 
-pub values-after-start : (sets ways : ℕ) (cache memory : List ℕ) → AfterStart ValuesRight sets ways cache memory
+pub values-after-start : (f : Figures) (cache memory : List ℕ) → AfterStart ValuesRight f cache memory
 values-after-start = after-start ValuesRight values-run
 
 pub values-from-state : (w : World) → FromState ValuesRight w
 values-from-state = from-state ValuesRight values-run
 
-pub inquiries-after-start : (sets ways : ℕ) (cache memory : List ℕ) → AfterStart InquiriesRight sets ways cache memory
+pub inquiries-after-start : (f : Figures) (cache memory : List ℕ) → AfterStart InquiriesRight f cache memory
 inquiries-after-start = after-start InquiriesRight inquiries-run
 
 pub inquiries-from-state : (w : World) → FromState InquiriesRight w
 inquiries-from-state = from-state InquiriesRight inquiries-run
 
-pub flat-after-start : (sets ways : ℕ) (cache memory : List ℕ) → AfterStart FlatAfter sets ways cache memory
+pub flat-after-start : (f : Figures) (cache memory : List ℕ) → AfterStart FlatAfter f cache memory
 flat-after-start = after-start FlatAfter flat-run
 
 pub flat-from-state : (w : World) → FromState FlatAfter w

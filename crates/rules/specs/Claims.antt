@@ -1,6 +1,7 @@
 -- The claims about the rules, each closed: what the functions of the crate promise.
 use Prim.Native.Nat.{ℕ}
 use mathlib.Core.List.{List}
+use Rattle.rules.specs.declared.Figures.{Figures}
 use Rattle.rules.specs.Shape.{World}
 use Rattle.rules.specs.Calls.{Call}
 use Rattle.rules.specs.Refusals.{RefusedKeeps, RefusedExactly}
@@ -20,40 +21,40 @@ RefusalsExact = (c : Call) (w : World) → RefusedExactly c w
 -- the next operation number
 abbrev pub NumbersGiven : Type 0
 NumbersGiven =
-    ((sets ways : ℕ) (cache memory : List ℕ) → FirstNumber sets ways cache memory) × ((c : Call) (w : World) → NextNumber c w)
+    ((f : Figures) (cache memory : List ℕ) → FirstNumber f cache memory) × ((c : Call) (w : World) → NextNumber c w)
 
 -- demand 3, for every run from any world on, and for every run after a start
 abbrev pub DroppedStretches : Type 0
 DroppedStretches =
-    ((w : World) → DroppedStretch w) × ((sets ways : ℕ) (cache memory : List ℕ) → DroppedAfterStart sets ways cache memory)
+    ((w : World) → DroppedStretch w) × ((f : Figures) (cache memory : List ℕ) → DroppedAfterStart f cache memory)
 
 -- kept well formed, by a start, a call and a run; and no call of a run after a start is refused with 1 or 10
 pub record KeptWellFormed : Type 0 where
-  pub by-start : (sets ways : ℕ) (cache memory : List ℕ) → StartFormed sets ways cache memory
+  pub by-start : (f : Figures) (cache memory : List ℕ) → StartFormed f cache memory
   pub by-call : (c : Call) (w : World) → NextKept c w
   pub by-run : (run : List Call) (w : World) → RunKept run w
-  pub admitted : (sets ways : ℕ) (cache memory : List ℕ) → AdmittedAfterStart sets ways cache memory
+  pub admitted : (f : Figures) (cache memory : List ℕ) → AdmittedAfterStart f cache memory
 
 -- demand 2: every value that a call answers, in every run after a start, and in every run from a well-formed state on
 pub record ValuesAreRight : Type 0 where
-  pub after-start : (sets ways : ℕ) (cache memory : List ℕ) → AfterStart ValuesRight sets ways cache memory
+  pub after-start : (f : Figures) (cache memory : List ℕ) → AfterStart ValuesRight f cache memory
   pub from-state : (w : World) → FromState ValuesRight w
 
 -- demand 2: an accepted load or inquiry waits exactly if a byte of it is lacking; in a run, the load of that number is the run's own
 pub record WaitsAreExact : Type 0 where
   pub by-load : (a n : ℕ) (w : World) → LoadWaits a n w
   pub by-inquiry : (i : ℕ) (w : World) → RetryWaits i w
-  pub after-start : (sets ways : ℕ) (cache memory : List ℕ) → AfterStart InquiriesRight sets ways cache memory
+  pub after-start : (f : Figures) (cache memory : List ℕ) → AfterStart InquiriesRight f cache memory
   pub from-state : (w : World) → FromState InquiriesRight w
 
 -- demand 2: what an accepted flush counts, cleans and leaves in memory
 pub record FlushesAreExact : Type 0 where
   pub by-flush : (w : World) → FlushCounts w
-  pub after-start : (sets ways : ℕ) (cache memory : List ℕ) → AfterStart FlushesRight sets ways cache memory
+  pub after-start : (f : Figures) (cache memory : List ℕ) → AfterStart FlushesRight f cache memory
   pub from-state : (w : World) → FromState FlushesRight w
 
 -- demand 2: flat memory of a state with its held stores on top, after each accepted call, and after a run
 pub record FlatMemoryIsKept : Type 0 where
   pub by-call : (c : Call) (w : World) → FlatCall c w
-  pub after-start : (sets ways : ℕ) (cache memory : List ℕ) → AfterStart FlatAfter sets ways cache memory
+  pub after-start : (f : Figures) (cache memory : List ℕ) → AfterStart FlatAfter f cache memory
   pub from-state : (w : World) → FromState FlatAfter w

@@ -6,6 +6,7 @@ use mathlib.Core.List.{List, [], _∷_, _++_, map}
 use lib.Dec.{T, leb, ltb}
 use lib.ListN.{length, replicate}
 use Rattle.lists.specs.Padded.{select}
+use Rattle.rules.specs.declared.Figures.{Figures}
 use Rattle.rules.specs.Shape.{World}
 use Rattle.rules.specs.Calls.{Call, load, store, retry, commit, abort, idle, reply, flush, show, isAccepted, nextNumber}
 use Rattle.rules.specs.Runs.{answer, next, answers, after, startWorld, startAnswer, ready}
@@ -80,6 +81,6 @@ DroppedStretch w =
     (n : ℕ) (pre stretch post : List Call) → Dropped n stretch (after pre w) → NoTrace (struck n) pre stretch post w
 
 -- "for every run after a start and every dropped stretch in it": whatever memory and cache bytes the start found
-abbrev pub DroppedAfterStart : ℕ → ℕ → List ℕ → List ℕ → Type 0
-DroppedAfterStart sets ways cache memory =
-    startAnswer sets ways cache memory ≡ ready → DroppedStretch (startWorld sets ways cache memory)
+abbrev pub DroppedAfterStart : Figures → List ℕ → List ℕ → Type 0
+DroppedAfterStart f cache memory =
+    startAnswer f cache memory ≡ ready → DroppedStretch (startWorld f cache memory)

@@ -10,7 +10,7 @@ use Rattle.lists.specs.Bytes.{valueAt}
 use Rattle.rules.specs.Dropped.{remaining, struck}
 use Rattle.rules.specs.declared.StoreEntry.{StoreEntry}
 use Rattle.rules.specs.declared.Request.the-variants.{Free, Line}
-use Rattle.rules.specs.Shape.{World, Hierarchy, world, noStore, noLoad, tagAt, lineOf, setOf}
+use Rattle.rules.specs.Shape.{World, Hierarchy, world, geometry, noStore, noLoad, tagAt, lineOf, setOf}
 use Rattle.rules.specs.Lines.{slotOf, useLine, writeStore, victim, fillLine}
 use Rattle.rules.specs.Calls.{Call, Answer, load, store, retry, commit, abort, idle, reply, flush, show, refused, stored, value, waits, committed, kept, drained, requested, idled, filled}
 use Rattle.rules.specs.Runs.{emptyQueues, started, startWorld, answer, answers, after}
@@ -27,7 +27,7 @@ pub record Example : Type 0 where
 
 -- a start that found zeros
 abbrev pub fresh : ℕ → ℕ → ℕ → World
-fresh sets ways size = started sets ways (replicate size 0)
+fresh sets ways size = started (geometry sets ways) (replicate size 0)
 
 -- the answers of a run from w on
 abbrev pub runs : World → List Call → Shown
@@ -123,7 +123,7 @@ table =
     -- the next idle drains 2"
     ∷ record {
       seen =
-          runs (started 1 1 (9 ∷ replicate 15 0))
+          runs (started (geometry 1 1) (9 ∷ replicate 15 0))
           (load 0 1 ∷ store 0 1 7 ∷ commit 2 ∷ idle ∷ reply ∷ idle ∷ retry 1 ∷ idle ∷ []);
       expected =
           gives
@@ -252,7 +252,7 @@ abbrev pub otherCache : List ℕ
 otherCache = replicate 16 255
 
 abbrev pub beginning : Run → World
-beginning r = startWorld 1 1 otherCache (r .found)
+beginning r = startWorld (geometry 1 1) otherCache (r .found)
 
 abbrev pub past : Run → History
 past r = historyOf noHistory (r .calls) (beginning r)

@@ -4,6 +4,7 @@ use Prim.Native.Nat.{ℕ}
 use mathlib.Core.Path.{_≡_}
 use mathlib.Core.Bool.{true}
 use mathlib.Core.List.{List, _∷_, _++_}
+use Rattle.rules.specs.declared.Figures.{Figures}
 use Rattle.rules.specs.Shape.{World}
 use Rattle.rules.specs.Calls.{Call, Outcome, refused, unchanged, guarded, callChecks, rule}
 use Rattle.rules.specs.WellFormed.{wellFormed}
@@ -14,9 +15,9 @@ abbrev pub Formed : World → Type 0
 Formed w = wellFormed (w .queues) (w .hierarchy) ≡ true
 
 -- an accepted start leaves a well-formed state
-abbrev pub StartFormed : ℕ → ℕ → List ℕ → List ℕ → Type 0
-StartFormed sets ways cache memory =
-    startAnswer sets ways cache memory ≡ ready → Formed (startWorld sets ways cache memory)
+abbrev pub StartFormed : Figures → List ℕ → List ℕ → Type 0
+StartFormed f cache memory =
+    startAnswer f cache memory ≡ ready → Formed (startWorld f cache memory)
 
 -- a call on a well-formed state leaves a well-formed state
 abbrev pub NextKept : Call → World → Type 0
@@ -43,7 +44,7 @@ abbrev pub EachCall : (List Call → Call → Type 0) → List Call → Type 0
 EachCall P run = (before : List Call) (c : Call) (later : List Call) → run ≡ before ++ c ∷ later → P before c
 
 -- no call of a run after a start is refused with 1 or 10
-abbrev pub AdmittedAfterStart : ℕ → ℕ → List ℕ → List ℕ → Type 0
-AdmittedAfterStart sets ways cache memory =
-    startAnswer sets ways cache memory ≡ ready → (run : List Call)
-    → EachCall (λ before c. Admitted c (after before (startWorld sets ways cache memory))) run
+abbrev pub AdmittedAfterStart : Figures → List ℕ → List ℕ → Type 0
+AdmittedAfterStart f cache memory =
+    startAnswer f cache memory ≡ ready → (run : List Call)
+    → EachCall (λ before c. Admitted c (after before (startWorld f cache memory))) run

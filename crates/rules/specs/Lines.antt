@@ -21,11 +21,11 @@ holdsLine l t = t .valid && eqb (t .line) l
 
 -- the slot of the line's set that has the line; where none has it, the first slot after the set
 unfoldable pub slotOf : Hierarchy → ℕ → ℕ
-slotOf b l = firstFrom (λ k. holdsLine l (tagAt (b .tags) k)) (firstSlot b l) (b .ways)
+slotOf b l = firstFrom (λ k. holdsLine l (tagAt (b .tags) k)) (firstSlot b l) (b .figures .ways)
 
 -- the line is present: some way of its set has it
 unfoldable pub present : Hierarchy → ℕ → Bool
-present b l = ltb (slotOf b l) (firstSlot b l + b .ways)
+present b l = ltb (slotOf b l) (firstSlot b l + b .figures .ways)
 
 -- where in the cache the 16 bytes of a slot begin
 abbrev pub slotPlace : ℕ → ℕ
@@ -51,7 +51,7 @@ agedAt f ways v a k t =
 -- slot v of the set that begins at slot f is used
 unfoldable pub useSlot : ℕ → ℕ → Hierarchy → Hierarchy
 useSlot f v b =
-    holding b (eachFrom (agedAt f (b .ways) v (tagAt (b .tags) v .age)) 0 (b .tags)) (b .cache) (b .memory)
+    holding b (eachFrom (agedAt f (b .figures .ways) v (tagAt (b .tags) v .age)) 0 (b .tags)) (b .cache) (b .memory)
 
 -- the line is used, if it is present
 unfoldable pub useLine : ℕ → Hierarchy → Hierarchy
@@ -98,8 +98,8 @@ dirtyLines b = length (filter (λ t. t .dirty) (b .tags))
 unfoldable pub victim : Hierarchy → ℕ → ℕ
 victim b l =
     let f = firstSlot b l in
-    let k = firstFrom (λ k. not (tagAt (b .tags) k .valid)) f (b .ways) in
-    cond (ltb k (f + b .ways)) k (greatestFrom (λ k. tagAt (b .tags) k .age) f f (b .ways))
+    let k = firstFrom (λ k. not (tagAt (b .tags) k .valid)) f (b .figures .ways) in
+    cond (ltb k (f + b .figures .ways)) k (greatestFrom (λ k. tagAt (b .tags) k .age) f f (b .figures .ways))
 
 -- byte j of the cache, when line l of memory is copied into slot v
 unfoldable pub copiedAt : List ℕ → ℕ → ℕ → ℕ → ℕ → ℕ

@@ -4,6 +4,7 @@ use Prim.Native.Nat.{ℕ, _+_}
 use mathlib.Core.Path.{_≡_}
 use mathlib.Core.Bool.{true}
 use mathlib.Core.List.{List}
+use Rattle.rules.specs.declared.Figures.{Figures}
 use Rattle.rules.specs.Shape.{World}
 use Rattle.rules.specs.Calls.{Call, load, store, retry, commit, abort, idle, reply, flush, show, isAccepted, nextNumber}
 use Rattle.rules.specs.Runs.{answer, next, startWorld}
@@ -20,8 +21,8 @@ numberAfter reply i = i
 numberAfter flush i = i
 numberAfter (show a) i = i
 
-abbrev pub FirstNumber : ℕ → ℕ → List ℕ → List ℕ → Type 0
-FirstNumber sets ways cache memory = nextNumber (startWorld sets ways cache memory .queues) ≡ 1
+abbrev pub FirstNumber : Figures → List ℕ → List ℕ → Type 0
+FirstNumber f cache memory = nextNumber (startWorld f cache memory .queues) ≡ 1
 
 abbrev pub NextNumber : Call → World → Type 0
 NextNumber c w = isAccepted (answer c w) ≡ true → nextNumber (next c w .queues) ≡ numberAfter c (nextNumber (w .queues))

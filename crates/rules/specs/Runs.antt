@@ -5,9 +5,10 @@ use mathlib.Core.List.{List, [], _∷_, _++_}
 use lib.Dec.{ltb, eqb}
 use lib.ListN.{length, replicate}
 use Rattle.lists.specs.Counted.{eachFrom}
+use Rattle.rules.specs.declared.Figures.{Figures}
 use Rattle.rules.specs.declared.Tag.{Tag}
 use Rattle.rules.specs.declared.Request.the-variants.{Free}
-use Rattle.rules.specs.Shape.{Queues, Hierarchy, World, world, lineBytes, tableSize, storePlaces, loadPlaces, noStore, noLoad, noTag, withAge, figuresAllowed, fits}
+use Rattle.rules.specs.Shape.{Queues, Hierarchy, World, world, lineBytes, tableSize, storePlaces, loadPlaces, noStore, noLoad, noTag, withAge, noFigures, figuresAllowed, fits}
 use Rattle.rules.specs.Calls.{Call, Answer, Outcome, Check, load, store, retry, commit, abort, idle, reply, flush, show, refused, check, guarded, callChecks, unchanged, emptyPart, rule}
 use Rattle.rules.specs.WellFormed.{wellFormed}
 
@@ -29,23 +30,22 @@ emptyQueues = record {
 }
 
 -- "Start zeroes the cache bytes, gives way w age w, invalidates every record and leaves memory as found."
-unfoldable pub started : ℕ → ℕ → List ℕ → World
-started sets ways memory = record {
+unfoldable pub started : Figures → List ℕ → World
+started f memory = record {
   queues = emptyQueues;
   hierarchy = record {
-    sets = sets;
-    ways = ways;
+    figures = f;
     size = length memory;
-    tags = startTags sets ways;
-    cache = replicate (sets * ways * lineBytes) 0;
+    tags = startTags (f .sets) (f .ways);
+    cache = replicate (f .sets * f .ways * lineBytes) 0;
     memory = memory;
   };
 }
 
 -- "Start reads no earlier state, so 1 alone can refuse it."
-unfoldable pub startAllowed : ℕ → ℕ → List ℕ → List ℕ → Bool
-startAllowed sets ways cache memory =
-    figuresAllowed sets ways (length memory) && eqb (length cache) (sets * ways * lineBytes)
+unfoldable pub startAllowed : Figures → List ℕ → List ℕ → Bool
+startAllowed f cache memory =
+    figuresAllowed f (length memory) && eqb (length cache) (f .sets * f .ways * lineBytes)
 
 -- what a refused start hands back in place of a state, which 01 leaves free: all zero. It is refused with 1 by every call
 -- (show line: the empty part). A start on a lent state stores nothing when it is refused.
@@ -53,8 +53,7 @@ unfoldable pub unstarted : List ℕ → List ℕ → World
 unstarted cache memory = record {
   queues = emptyQueues;
   hierarchy = record {
-    sets = 0;
-    ways = 0;
+    figures = noFigures;
     size = 0;
     tags = replicate tableSize noTag;
     cache = cache;
@@ -67,12 +66,12 @@ pub data StartAnswer : Type 0 where
   ready : StartAnswer
   startRefused : ℕ → StartAnswer
 
-unfoldable pub startAnswer : ℕ → ℕ → List ℕ → List ℕ → StartAnswer
-startAnswer sets ways cache memory = cond (startAllowed sets ways cache memory) ready (startRefused 1)
+unfoldable pub startAnswer : Figures → List ℕ → List ℕ → StartAnswer
+startAnswer f cache memory = cond (startAllowed f cache memory) ready (startRefused 1)
 
-unfoldable pub startWorld : ℕ → ℕ → List ℕ → List ℕ → World
-startWorld sets ways cache memory =
-    cond (startAllowed sets ways cache memory) (started sets ways memory) (unstarted cache memory)
+unfoldable pub startWorld : Figures → List ℕ → List ℕ → World
+startWorld f cache memory =
+    cond (startAllowed f cache memory) (started f memory) (unstarted cache memory)
 
 -- ---- a call
 

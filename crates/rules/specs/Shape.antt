@@ -7,6 +7,7 @@ use mathlib.Core.Bool.{Bool, true, false, _&&_, _||_}
 use mathlib.Core.List.{List}
 use lib.Dec.{ltb, leb, eqb}
 use lib.ListN.{length, getD}
+use Rattle.rules.specs.declared.Figures.{Figures}
 use Rattle.rules.specs.declared.Tag.{Tag}
 use Rattle.rules.specs.declared.StoreEntry.{StoreEntry}
 use Rattle.rules.specs.declared.LoadEntry.{LoadEntry}
@@ -46,6 +47,14 @@ waysAllowed n = leb 1 n && leb n 4
 abbrev pub memoryAllowed : ℕ → Bool
 memoryAllowed n = eqb (n % lineBytes) 0 && (leb 16 n && leb n 65536)
 
+-- so many sets of so many ways
+abbrev pub geometry : ℕ → ℕ → Figures
+geometry sets ways = record { sets = sets; ways = ways }
+
+-- figures of no store, all zero
+abbrev pub noFigures : Figures
+noFigures = geometry 0 0
+
 -- ---- the two halves of the store
 
 pub record Queues : Type 0 where
@@ -61,8 +70,8 @@ pub record Queues : Type 0 where
   pub loads : List LoadEntry
 
 pub record Hierarchy : Type 0 where
-  pub sets : ℕ
-  pub ways : ℕ
+  -- sets and ways
+  pub figures : Figures
   -- the memory length
   pub size : ℕ
   -- the table of tag records
@@ -81,7 +90,7 @@ world q b = record { queues = q; hierarchy = b }
 -- the same geometry with other records and other bytes
 abbrev pub holding : Hierarchy → List Tag → List ℕ → List ℕ → Hierarchy
 holding b tags cache memory =
-    record { sets = b .sets; ways = b .ways; size = b .size; tags = tags; cache = cache; memory = memory }
+    record { figures = b .figures; size = b .size; tags = tags; cache = cache; memory = memory }
 
 -- ---- free places, unused records
 
@@ -121,15 +130,15 @@ lineOf a = a / lineBytes
 
 -- "Set = line number modulo sets."
 abbrev pub setOf : Hierarchy → ℕ → ℕ
-setOf b l = l % (b .sets)
+setOf b l = l % (b .figures .sets)
 
 -- "The record of set s, way w is number s × ways + w." That number is the record's slot: set s begins at slot s × ways.
 abbrev pub setStart : Hierarchy → ℕ → ℕ
-setStart b s = s * b .ways
+setStart b s = s * b .figures .ways
 
 -- the number of slots in use
 abbrev pub slots : Hierarchy → ℕ
-slots b = b .sets * b .ways
+slots b = b .figures .sets * b .figures .ways
 
 -- the first slot of the line's set
 abbrev pub firstSlot : Hierarchy → ℕ → ℕ
@@ -152,11 +161,11 @@ withDirty d t = record { valid = t .valid; dirty = d; line = t .line; age = t .a
 -- ---- check 1
 
 -- the figures are allowed
-unfoldable pub figuresAllowed : ℕ → ℕ → ℕ → Bool
-figuresAllowed sets ways size = setsAllowed sets && (waysAllowed ways && memoryAllowed size)
+unfoldable pub figuresAllowed : Figures → ℕ → Bool
+figuresAllowed f size = setsAllowed (f .sets) && (waysAllowed (f .ways) && memoryAllowed size)
 
 -- the figures are allowed, and the lent lengths agree with them: "Cache bytes: exactly sets × ways × 16."
 unfoldable pub fits : Hierarchy → Bool
 fits b =
-    figuresAllowed (b .sets) (b .ways) (b .size)
+    figuresAllowed (b .figures) (b .size)
     && (eqb (length (b .memory)) (b .size) && eqb (length (b .cache)) (slots b * lineBytes))

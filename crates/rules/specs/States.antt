@@ -9,7 +9,7 @@ use Rattle.rules.specs.declared.StoreEntry.{StoreEntry}
 use Rattle.rules.specs.declared.LoadEntry.{LoadEntry}
 use Rattle.rules.specs.declared.Request.{Request}
 use Rattle.rules.specs.declared.Request.the-variants.{Line}
-use Rattle.rules.specs.Shape.{Queues, Hierarchy, World, noStore, noLoad, noTag}
+use Rattle.rules.specs.Shape.{Queues, Hierarchy, World, geometry, noStore, noLoad, noTag}
 use Rattle.rules.specs.WellFormed.{lineClauses, queueClauses}
 
 -- ---- building a state
@@ -29,8 +29,7 @@ answeredLoad i a w = record { number = i; address = a; width = w; waiting = fals
 -- two sets of two ways over six lines of memory, in which byte a is a + 1
 abbrev lines : List Tag → List ℕ → Hierarchy
 lines tags cache = record {
-  sets = 2;
-  ways = 2;
+  figures = geometry 2 2;
   size = 96;
   tags = tags;
   cache = cache;
@@ -154,8 +153,7 @@ brokenClauses =
 
 abbrev sized : ℕ → ℕ → ℕ → ℕ → ℕ → Hierarchy
 sized sets ways size cache memory = record {
-  sets = sets;
-  ways = ways;
+  figures = geometry sets ways;
   size = size;
   tags = replicate 256 noTag;
   cache = replicate cache 0;

@@ -8,6 +8,7 @@ use lib.ListN.{length, take}
 use Rattle.lists.specs.Padded.{first, filter, increasing}
 use Rattle.lists.specs.Counted.{someFrom}
 use Rattle.lists.specs.Bytes.{valueAt}
+use Rattle.rules.specs.declared.Figures.{Figures}
 use Rattle.rules.specs.declared.LoadEntry.{LoadEntry}
 use Rattle.rules.specs.Shape.{Hierarchy, World, noLoad, slots}
 use Rattle.rules.specs.Lines.{dirtyLines}
@@ -28,9 +29,9 @@ abbrev pub Claim : Type 1
 Claim = List ℕ → History → World → List Call → Type 0
 
 -- the claim of every run after a start, whatever memory the start found
-abbrev pub AfterStart : Claim → ℕ → ℕ → List ℕ → List ℕ → Type 0
-AfterStart claim sets ways cache memory =
-    startAnswer sets ways cache memory ≡ ready → (run : List Call) → claim memory noHistory (startWorld sets ways cache memory) run
+abbrev pub AfterStart : Claim → Figures → List ℕ → List ℕ → Type 0
+AfterStart claim f cache memory =
+    startAnswer f cache memory ≡ ready → (run : List Call) → claim memory noHistory (startWorld f cache memory) run
 
 -- the claim of every run from a well-formed state on, with its flat memory as what was found and what it holds as the history
 abbrev pub FromState : Claim → World → Type 0

@@ -67,7 +67,7 @@ unfoldable pub setAged : List Tag → ℕ → ℕ → Bool
 setAged tags ways f = allFrom (ageGood tags ways f) f ways
 
 abbrev pub agesOnce : Hierarchy → Bool
-agesOnce b = allFrom (λ s. setAged (b .tags) (b .ways) (setStart b s)) 0 (b .sets)
+agesOnce b = allFrom (λ s. setAged (b .tags) (b .figures .ways) (setStart b s)) 0 (b .figures .sets)
 
 -- ---- "a valid line lies in memory, is in its own set and is there only once"
 
@@ -80,7 +80,7 @@ linesInside b = allFrom (linesInsideAt b) 0 (slots b)
 unfoldable pub linesInSetAt : Hierarchy → ℕ → Bool
 linesInSetAt b k =
     let t = tagAt (b .tags) k in
-    not (t .valid) || (leb (firstSlot b (t .line)) k && ltb k (firstSlot b (t .line) + b .ways))
+    not (t .valid) || (leb (firstSlot b (t .line)) k && ltb k (firstSlot b (t .line) + b .figures .ways))
 
 abbrev pub linesInSet : Hierarchy → Bool
 linesInSet b = allFrom (linesInSetAt b) 0 (slots b)

@@ -1,6 +1,13 @@
-// The declared types of the load/store model: a tag record, an entry of each queue, and the miss register.
-// The rules over them stand in specs/, and what is claimed of the rules is promised here by functions that do nothing.
+// The declared types of the load/store model: figures, a tag record, an entry of each queue, and the miss register; and the numbers
+// that every crate names. The rules over them stand in specs/, and what is claimed of the rules is promised here by functions that do
+// nothing.
 ghost use Rattle.rules.specs.Claims.{RefusedCallsKeep, RefusalsExact, NumbersGiven, DroppedStretches, KeptWellFormed, ValuesAreRight, WaitsAreExact, FlushesAreExact, FlatMemoryIsKept};
+
+// The figures of a store that a start chooses.
+pub struct Figures {
+    pub sets: u32,
+    pub ways: u32,
+}
 
 // A tag record: one way of one set. (Memory has at most 4,096 lines, and an age is at most 3.)
 pub struct Tag {
@@ -31,6 +38,95 @@ pub enum Request {
     Free,
     Line(u32),
 }
+
+// ---- numbers (specs/Shape.antt has the same for the rules)
+
+// "A line is 16 bytes." As a number of 32 bits, and as a length of lent bytes.
+pub const LINE_BYTES: u32 = 16;
+
+pub const LINE_LENGTH: usize = 16;
+
+// "Sets: 1, 2, 4, 8, 16, 32 or 64. Ways: 1 to 4." "Memory: .. 16 to 65,536."
+pub const MAX_SETS: u32 = 64;
+
+pub const MAX_WAYS: u32 = 4;
+
+pub const MIN_MEMORY: usize = 16;
+
+pub const MAX_MEMORY: usize = 65536;
+
+// The most bytes that a cache has: sets × ways × 16.
+pub const MAX_CACHE: usize = 4096;
+
+// "Tag records fill a fixed table of 256"
+pub const TAG_RECORDS: usize = 256;
+
+// "At most 16 held stores and 8 listed loads"
+pub const STORE_PLACES: usize = 16;
+
+pub const LOAD_PLACES: usize = 8;
+
+// The last operation number of 32 bits.
+pub const TOP_NUMBER: u32 = 4294967295;
+
+// ---- refusals, by 01's numbers
+
+// sets, ways, memory or cache length is not allowed, or a lent length disagrees with the state
+pub const BAD_FIGURES: u32 = 1;
+// width is not 1, 2 or 4
+pub const BAD_WIDTH: u32 = 2;
+// address is not a multiple of width
+pub const MISALIGNED: u32 = 3;
+// address + width exceeds memory length
+pub const OUTSIDE_MEMORY: u32 = 4;
+// a stored value is 256 to the power width or more
+pub const VALUE_TOO_LARGE: u32 = 5;
+// script line malformed, or a call before an accepted G
+pub const MALFORMED_LINE: u32 = 6;
+// state not well formed
+pub const NOT_WELL_FORMED: u32 = 10;
+// store: 16 are held
+pub const STORE_QUEUE_FULL: u32 = 11;
+// load: 8 are listed
+pub const LOAD_QUEUE_FULL: u32 = 12;
+// load or store: last is 4294967295
+pub const NUMBERS_USED_UP: u32 = 13;
+// inquiry: no waiting load of that number
+pub const NO_WAITING_LOAD: u32 = 14;
+// commit: k is below h or above last
+pub const BAD_COMMIT: u32 = 15;
+// abort: n is at most h or above last + 1
+pub const BAD_ABORT: u32 = 16;
+// reply: register free
+pub const NOTHING_REQUESTED: u32 = 17;
+// flush: a committed store is held
+pub const COMMITTED_STORE_HELD: u32 = 18;
+
+// ---- free places, unused records: "all zero"
+
+pub const NO_STORE: StoreEntry = StoreEntry {
+    number: 0,
+    address: 0,
+    width: 0,
+    value: 0,
+};
+
+pub const NO_LOAD: LoadEntry = LoadEntry {
+    number: 0,
+    address: 0,
+    width: 0,
+    waiting: false,
+};
+
+pub const NO_TAG: Tag = Tag {
+    valid: false,
+    dirty: false,
+    line: 0,
+    age: 0,
+};
+
+// Figures of no store.
+pub const NO_FIGURES: Figures = Figures { sets: 0, ways: 0 };
 
 // ---- the claims about the rules: functions that do nothing and promise them
 
