@@ -94,9 +94,11 @@ select-map f (false ∷ ks) (x ∷ xs) = select-map f ks xs
 pub dropped-from : (m : Machine) → NoTraceFrom m m
 dropped-from m n pre stretch post rest run d other e =
     record {
-      same-answers = ap (select marks) (gave-are m whole run) ∙ select-map answerAs marks (answersOf whole) ∙ ap (map answerAs) same ∙ sym (gave-are m rest other);
+      same-answers =
+          ap (select marks) (gave-are m whole run) ∙ select-map answerAs marks (answersOf whole)
+          ∙ ap (map answerAs) same ∙ sym (gave-are m rest other);
       same-parts = same;
-      same-end = machine-of (end m whole) (end m rest) (ends m whole run ∙ ap (λ (cs : List rules.Call). after cs w) parted ∙ no-trace .same-end ∙ sym (ends m rest other ∙ ap (λ (cs : List rules.Call). after cs w) chosen));
+      same-end = machine-of (end m whole) (end m rest) (whole-ends ∙ no-trace .same-end ∙ sym rest-ends);
     }
   where
     whole : List Made
@@ -108,23 +110,35 @@ dropped-from m n pre stretch post rest run d other e =
     marks : List Bool
     marks = kept n pre stretch post
 
-    parted : callsOf (pre ++ (stretch ++ post)) ≡ callsOf pre ++ (callsOf stretch ++ callsOf post)
+    calls : List rules.Call
+    calls = callsOf pre ++ (callsOf stretch ++ callsOf post)
+
+    parted : callsOf whole ≡ calls
     parted = calls-append pre (stretch ++ post) ∙ ap (λ (l : List rules.Call). callsOf pre ++ l) (calls-append stretch post)
 
-    chosen : callsOf rest ≡ select marks (callsOf pre ++ (callsOf stretch ++ callsOf post))
+    chosen : callsOf rest ≡ select marks calls
     chosen = e ∙ ap (select marks) parted
-
-    there : Run (end m pre) (stretch ++ post)
-    there = run-rest m pre (stretch ++ post) run
 
     no-trace : NoTrace (struck n) (callsOf pre) (callsOf stretch) (callsOf post) w
     no-trace =
         dropped-stretch w n (callsOf pre) (callsOf stretch) (callsOf post)
         (subst (Dropped n (callsOf stretch)) (ends m pre (run-first m pre (stretch ++ post) run))
-        (dropped-as n (end m pre) stretch (run-first (end m pre) stretch post there) d))
+        (dropped-as n (end m pre) stretch (run-first (end m pre) stretch post (run-rest m pre (stretch ++ post) run)) d))
+
+    whole-ends : worldAt (end m whole) ≡ after calls w
+    whole-ends = ends m whole run ∙ ap (λ (cs : List rules.Call). after cs w) parted
+
+    rest-ends : worldAt (end m rest) ≡ after (select marks calls) w
+    rest-ends = ends m rest other ∙ ap (λ (cs : List rules.Call). after cs w) chosen
+
+    whole-answers : answersOf whole ≡ answers calls w
+    whole-answers = answers-are m whole run ∙ ap (λ (cs : List rules.Call). answers cs w) parted
+
+    rest-answers : answersOf rest ≡ answers (select marks calls) w
+    rest-answers = answers-are m rest other ∙ ap (λ (cs : List rules.Call). answers cs w) chosen
 
     same : select marks (answersOf whole) ≡ answersOf rest
-    same = ap (select marks) (answers-are m whole run ∙ ap (λ (cs : List rules.Call). answers cs w) parted) ∙ no-trace .same-answers ∙ sym (answers-are m rest other ∙ ap (λ (cs : List rules.Call). answers cs w) chosen)
+    same = ap (select marks) whole-answers ∙ no-trace .same-answers ∙ sym rest-answers
 
 -- ---- after a start
 

@@ -5,8 +5,8 @@ use Rattle.rules.specs.Shape.{World}
 use Rattle.rules.specs.Calls.{isAccepted, nextNumber}
 use Rattle.rules.specs.Numbers.{numberAfter}
 use Rattle.rules.proofs.Numbers.{first-number, next-number}
-use Rattle.runs.specs.Machines.{Machine, Made, StartMade, AcceptedStart, worldAt, left, asked, accepted, startLeft}
-use Rattle.runs.specs.Numbers.{numberAt, NumbersOfCode}
+use Rattle.runs.specs.Machines.{Machine, Made, StartMade, AcceptedStart, worldAt, numberAt, left, asked, accepted, startLeft}
+use Rattle.runs.specs.Numbers.{NumbersOfCode}
 use Rattle.runs.proofs.Machines.{Follows, each-call}
 
 start-number : (s : StartMade) → AcceptedStart s → numberAt (startLeft s) ≡ 1

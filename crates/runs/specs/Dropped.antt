@@ -7,8 +7,7 @@ use Rattle.lists.specs.Padded.{select}
 use Rattle.rules.specs.Dropped.{struck, remaining}
 use Rattle.model.specs.declared.Call.the-variants.{Abort}
 use Rattle.model.specs.declared.Answer.{Answer}
-use Rattle.runs.specs.Machines.{Machine, Made, Run, StartMade, AcceptedStart, end, accepted, callsOf, answersOf, startLeft, EachMade}
-use Rattle.runs.specs.Numbers.{numberAt}
+use Rattle.runs.specs.Machines.{Machine, numberAt, Made, Run, StartMade, AcceptedStart, end, accepted, callsOf, answersOf, startLeft, EachMade}
 
 -- the stretch, made from m on, is dropped for n
 pub record DroppedFor (n : ℕ) (m : Machine) (stretch : List Made) : Type 0 where
@@ -47,6 +46,7 @@ NoTraceFrom m d =
     → Run d rest → callsOf rest ≡ select (kept n pre stretch post) (callsOf (pre ++ (stretch ++ post)))
     → SameSeen (kept n pre stretch post) m (pre ++ (stretch ++ post)) d rest
 
+-- demand 3: a dropped stretch leaves no trace
 pub record DroppedOfCode : Type 0 where
   -- from any state, cache and memory on
   pub from-any : (m : Machine) → NoTraceFrom m m

@@ -10,6 +10,7 @@ use Rattle.runs.specs.Machines.{Machine, Made, Run, StartMade, AcceptedS
 abbrev pub FormedAt : Machine → Type 0
 FormedAt m = Formed (worldAt m)
 
+-- a well-formed state is left
 pub record KeptOfCode : Type 0 where
   -- by an accepted start, whatever cache and memory it found,
   pub by-start : (s : StartMade) → AcceptedStart s → FormedAt (startLeft s)
@@ -27,6 +28,7 @@ pub record StateChecksPass (m : Machine) (c : Made) : Type 0 where
 abbrev pub EachStateChecksPass : RunClaim
 EachStateChecksPass found h m run = EachMade run (λ before c. StateChecksPass (end m before) c)
 
+-- no call of a run after an accepted start, or from a well-formed state on, is refused with 1 or 10
 pub record AdmittedOfCode : Type 0 where
   pub after-start : RunsAfterStart EachStateChecksPass
   pub from-state : RunsFromState EachStateChecksPass

@@ -7,12 +7,12 @@ use mathlib.Core.Bool.{Bool}
 use mathlib.Core.List.{List, [], _∷_, _++_, map}
 use Rattle.rules.specs.declared.Figures.{Figures}
 use Rattle.rules.specs.Shape.{World}
-use Rattle.rules.specs.Calls.{isAccepted}
+use Rattle.rules.specs.Calls.{isAccepted, nextNumber}
 use Rattle.rules.specs.Calls as rules
 use Rattle.rules.specs.Flat.{History, noHistory, history, flatOf}
 use Rattle.rules.specs.Kept.{Formed}
 use Rattle.rules.specs.Values.{historyAt}
-use Rattle.model.specs.State.{worldOf, answerOf, callOf, Does}
+use Rattle.model.specs.State.{queuesOf, worldOf, answerOf, callOf, Does}
 use Rattle.model.specs.Starts.{Starts}
 use Rattle.model.specs.declared.State.{State}
 use Rattle.model.specs.declared.Step.{Step}
@@ -31,6 +31,10 @@ pub record Machine : Type 0 where
 -- field by field what the rules call a world
 abbrev pub worldAt : Machine → World
 worldAt m = worldOf (m .state) (m .cache) (m .memory)
+
+-- "The next operation number is last + 1"
+abbrev pub numberAt : Machine → ℕ
+numberAt m = nextNumber (queuesOf (m .state))
 
 -- ---- a call of `State::step`
 

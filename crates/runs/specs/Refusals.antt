@@ -18,6 +18,7 @@ pub record StartRefusesExactly (s : StartMade) : Type 0 where
   pub allowed : startAllowed (s .figures) (s .found) (s .memory) ≡ true → s .gave .answer ≡ Ready
   pub refused : startAllowed (s .figures) (s .found) (s .memory) ≡ false → s .gave .answer ≡ NotAllowed 1
 
+-- the refusals of every call and every start
 pub record RefusalsOfCode : Type 0 where
   pub by-call : EveryCall RefusesExactly
   pub by-start : (s : StartMade) → StartPromised s → StartRefusesExactly s

@@ -4,15 +4,13 @@ use mathlib.Core.Path.{_≡_}
 use mathlib.Core.Bool.{true, false}
 use mathlib.Core.List.{List, [], _∷_, _++_}
 use Rattle.lists.specs.Padded.{filter}
-use Rattle.rules.specs.Calls.{nextNumber}
 use Rattle.rules.specs.Lines.{dirtyLines}
 use Rattle.rules.specs.Flat.{below, flatOf, applied, appliedAll, heldStores, flatWithHeld, flatCommitted}
 use Rattle.rules.specs.Values.{RightValue, lacksByte, waitingLoad, InquiryAbout, dirtyInUse}
-use Rattle.model.specs.State.{queuesOf}
 use Rattle.model.specs.declared.Call.{Call}
 use Rattle.model.specs.declared.Call.the-variants.{Load, Store, Retry, Commit, Abort, Idle, Reply, Flush, Show}
 use Rattle.model.specs.declared.Answer.the-variants.{Value, Waits, Flushed}
-use Rattle.runs.specs.Machines.{Machine, Made, worldAt, left, end, asked, accepted, historyBy, EachMade, EveryCall, RunClaim, RunsAfterStart, RunsFromState}
+use Rattle.runs.specs.Machines.{Machine, Made, worldAt, numberAt, left, end, asked, accepted, historyBy, EachMade, EveryCall, RunClaim, RunsAfterStart, RunsFromState}
 
 -- ---- every value is right, at its time
 
@@ -22,6 +20,7 @@ abbrev pub EachValueRight : RunClaim
 EachValueRight found h m run =
     EachMade run (λ before c. (i v : ℕ) → c .gave .answer ≡ Value i v → RightValue found (historyBy h (before ++ c ∷ [])) (asked c) i v)
 
+-- demand 2: every value that the code answers
 pub record ValuesOfCode : Type 0 where
   pub after-start : RunsAfterStart EachValueRight
   pub from-state : RunsFromState EachValueRight
@@ -39,7 +38,7 @@ pub record GivesWaits (i a n : ℕ) (m : Machine) (c : Made) : Type 0 where
 -- an accepted load, as the next operation number
 abbrev pub LoadGivesWaits : Machine → Made → Type 0
 LoadGivesWaits m c =
-    (a n : ℕ) → c .call ≡ Load a n → accepted c ≡ true → GivesWaits (nextNumber (queuesOf (m .state))) a n m c
+    (a n : ℕ) → c .call ≡ Load a n → accepted c ≡ true → GivesWaits (numberAt m) a n m c
 
 -- an accepted inquiry, for the bytes of the waiting load of that number
 abbrev pub RetryGivesWaits : Machine → Made → Type 0
@@ -52,6 +51,7 @@ abbrev pub EachInquiryRight : RunClaim
 EachInquiryRight found h m run =
     EachMade run (λ before c. (i : ℕ) → c .call ≡ Retry i → accepted c ≡ true → InquiryAbout (historyBy h before) i (worldAt (end m before)))
 
+-- demand 2: an accepted load or inquiry waits exactly if a byte of it is lacking
 pub record WaitsOfCode : Type 0 where
   pub by-load : EveryCall LoadGivesWaits
   pub by-inquiry : EveryCall RetryGivesWaits
@@ -77,6 +77,7 @@ abbrev pub EachFlushRight : RunClaim
 EachFlushRight found h m run =
     EachMade run (λ before c. c .call ≡ Flush → accepted c ≡ true → c .memory ≡ flatCommitted (historyBy h before) found)
 
+-- demand 2: what an accepted flush counts, cleans and leaves in memory
 pub record FlushesOfCode : Type 0 where
   pub by-flush : EveryCall FlushMade
   pub after-start : RunsAfterStart EachFlushRight
@@ -92,7 +93,7 @@ flatAt m = flatWithHeld (worldAt m)
 abbrev pub FlatMoves : Call → Machine → Machine → Type 0
 FlatMoves (Load a n) m d = flatAt d ≡ flatAt m
 FlatMoves (Store a n v) m d =
-    flatAt d ≡ applied (record { number = nextNumber (queuesOf (m .state)); address = a; width = n; value = v }) (flatAt m)
+    flatAt d ≡ applied (record { number = numberAt m; address = a; width = n; value = v }) (flatAt m)
 FlatMoves (Retry i) m d = flatAt d ≡ flatAt m
 FlatMoves (Commit k) m d = flatAt d ≡ flatAt m
 -- an abort drops the held stores numbered n or more,
@@ -111,6 +112,7 @@ FlatMoved m c = accepted c ≡ true → FlatMoves (c .call) m (left c)
 abbrev pub FlatAtEnd : RunClaim
 FlatAtEnd found h m run = flatAt (end m run) ≡ appliedAll (historyBy h run .stores) found
 
+-- demand 2: flat memory, after each accepted call and after a run
 pub record FlatMemoryOfCode : Type 0 where
   pub by-call : EveryCall FlatMoved
   pub after-start : RunsAfterStart FlatAtEnd
