@@ -17,8 +17,8 @@ use Rattle.model.specs.State.{callOf}
 use Rattle.model.specs.declared.Call.{Call}
 use Rattle.model.specs.declared.Call.the-variants.{Load, Store, Retry, Commit, Abort, Idle, Reply, Flush, Show}
 use Rattle.model.specs.declared.Answer.{Answer}
-use Rattle.runs.specs.Machines.{Machine, Made, Run, StartMade, AcceptedStart, worldAt, left, end, asked, accepted, callsOf, answersOf, startLeft, EachMade}
-use Rattle.runs.specs.Dropped.{DroppedFor, kept, gaveAll, NoTraceFrom, DroppedOfCode}
+use Rattle.runs.specs.Machines.{Machine, Made, RunFrom, StartMade, AcceptedStart, worldAt, left, end, callMade, acceptedCall, callsOf, answersOf, startLeft, EachMade}
+use Rattle.runs.specs.Dropped.{DroppedFor, remainingOf, gaveAll, NoTraceFrom, DroppedOfCode}
 use Rattle.runs.proofs.Machines.{machine-of, answerAs, Follows, follows, ends, answers-are, calls-append, run-first, run-rest, Reached, reached, start-ready}
 
 -- ---- a stretch of the code that is dropped is dropped in the rules
@@ -42,9 +42,9 @@ abort-below n (Show a) t = absurd t
 
 -- no accepted abort of the stretch names less than n
 abbrev NoneBelow : ℕ → List Made → Type 0
-NoneBelow n stretch = EachMade stretch (λ before c. (k : ℕ) → c .call ≡ Abort k → accepted c ≡ true → k < n → ⊥)
+NoneBelow n stretch = EachMade stretch (λ before c. (k : ℕ) → c .call ≡ Abort k → acceptedCall c ≡ true → k < n → ⊥)
 
-none-below : (n : ℕ) (m : Machine) (stretch : List Made) → Run m stretch → NoneBelow n stretch → NoAbortBelow n (callsOf stretch) (worldAt m)
+none-below : (n : ℕ) (m : Machine) (stretch : List Made) → RunFrom m stretch → NoneBelow n stretch → NoAbortBelow n (callsOf stretch) (worldAt m)
 none-below n m [] r a = tt
 none-below n m (c ∷ cs) r a = (
   λ b t. here (abort-below n (c .call) b) t,
@@ -52,13 +52,13 @@ none-below n m (c ∷ cs) r a = (
       (none-below n (left c) cs (r .1) (λ before d later e. a (c ∷ before) d later (ap (λ (l : List Made). c ∷ l) e))),
 )
   where
-    f : Follows (asked c) m c
+    f : Follows (callMade c) m c
     f = follows m c (r .0)
 
-    here : AbortBelow n (c .call) → T (isAccepted (answer (asked c) (worldAt m))) → ⊥
+    here : AbortBelow n (c .call) → T (isAccepted (answer (callMade c) (worldAt m))) → ⊥
     here b t = a [] c cs refl (b .names) (b .call-is) (ap isAccepted (f .answers) ∙ truth _ t) (b .less)
 
-dropped-as : (n : ℕ) (m : Machine) (stretch : List Made) → Run m stretch → DroppedFor n m stretch → Dropped n (callsOf stretch) (worldAt m)
+dropped-as : (n : ℕ) (m : Machine) (stretch : List Made) → RunFrom m stretch → DroppedFor n m stretch → Dropped n (callsOf stretch) (worldAt m)
 dropped-as n m stretch r d = record {
   opens = d .opens;
   body = callsOf (d .body);
@@ -71,13 +71,13 @@ dropped-as n m stretch r d = record {
     at : Reached m (d .body) (d .final)
     at = reached m stretch r (d .body) (d .final) [] (d .ends)
 
-    aborts-n : asked (d .final) ≡ rules.abort n
+    aborts-n : callMade (d .final) ≡ rules.abort n
     aborts-n = ap callOf (d .aborts)
 
 -- ---- no trace
 
 -- what a run gave, of its answers
-gave-are : (m : Machine) (run : List Made) → Run m run → gaveAll run ≡ map answerAs (answersOf run)
+gave-are : (m : Machine) (run : List Made) → RunFrom m run → gaveAll run ≡ map answerAs (answersOf run)
 gave-are m [] r = refl
 gave-are m (c ∷ cs) r =
     ap₂ (λ (a : Answer) (l : List Answer). a ∷ l) (follows m c (r .0) .gives ∙ ap answerAs (sym (follows m c (r .0) .answers)))
@@ -108,7 +108,7 @@ dropped-from m n pre stretch post rest run d other e =
     w = worldAt m
 
     marks : List Bool
-    marks = kept n pre stretch post
+    marks = remainingOf n pre stretch post
 
     calls : List rules.Call
     calls = callsOf pre ++ (callsOf stretch ++ callsOf post)

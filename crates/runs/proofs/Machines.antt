@@ -17,7 +17,7 @@ use Rattle.model.specs.Starts.{startAnswerOf}
 use Rattle.model.specs.declared.Call as code
 use Rattle.model.specs.declared.Answer as codes
 use Rattle.model.specs.declared.Answer.the-variants.{Refused, Stored, Value, Waits, Committed, Kept, Drained, Requested, Idled, Filled, Flushed, Shown}
-use Rattle.runs.specs.Machines.{Machine, Made, StartMade, AcceptedStart, worldAt, left, AsPromised, asked, answered, Run, end, callsOf, answersOf, historyBy, EachMade, EveryCall, startLeft, RunClaim, RunsAfterStart, RunsFromState}
+use Rattle.runs.specs.Machines.{Machine, Made, StartMade, AcceptedStart, worldAt, left, AsPromised, callMade, answerGiven, RunFrom, end, callsOf, answersOf, historyBy, EachMade, EveryCall, startLeft, RunClaim, RunsAfterStart, RunsFromState}
 
 -- ---- a machine and its world
 
@@ -82,12 +82,12 @@ answer-back (Shown p n) cache = ap (Shown p) (sym (length-bytes p n cache))
 
 -- the call c on m answers and leaves what the rules' call k does
 pub record Follows (k : Call) (m : Machine) (c : Made) : Type 0 where
-  pub answers : answered c ≡ answer k (worldAt m)
+  pub answers : answerGiven c ≡ answer k (worldAt m)
   pub gives : c .gave .answer ≡ answerAs (answer k (worldAt m))
   pub leaves : worldAt (left c) ≡ next k (worldAt m)
   pub outcome-is : outcomeOf (c .gave) (c .cache) (c .memory) ≡ outcome k (worldAt m .queues) (worldAt m .hierarchy)
 
-pub follows : (m : Machine) (c : Made) → AsPromised m c → Follows (asked c) m c
+pub follows : (m : Machine) (c : Made) → AsPromised m c → Follows (callMade c) m c
 unfolding answer next
 follows m c p = record {
   answers = ap (λ (o : Outcome). o .answer) p;
@@ -96,35 +96,35 @@ follows m c p = record {
   outcome-is = p;
 }
 
-pub follows-as : (m : Machine) (c : Made) → Follows (asked c) m c → (j : code.Call) → c .call ≡ j → Follows (callOf j) m c
+pub follows-as : (m : Machine) (c : Made) → Follows (callMade c) m c → (j : code.Call) → c .call ≡ j → Follows (callOf j) m c
 follows-as m c f j e = subst (λ (i : code.Call). Follows (callOf i) m c) e f
 
 -- ---- a run
 
-pub ends : (m : Machine) (run : List Made) → Run m run → worldAt (end m run) ≡ after (callsOf run) (worldAt m)
+pub ends : (m : Machine) (run : List Made) → RunFrom m run → worldAt (end m run) ≡ after (callsOf run) (worldAt m)
 unfolding after
 ends m [] r = refl
 ends m (c ∷ cs) r = ends (left c) cs (r .1) ∙ ap (after (callsOf cs)) (follows m c (r .0) .leaves)
 
-pub answers-are : (m : Machine) (run : List Made) → Run m run → answersOf run ≡ answers (callsOf run) (worldAt m)
+pub answers-are : (m : Machine) (run : List Made) → RunFrom m run → answersOf run ≡ answers (callsOf run) (worldAt m)
 unfolding answers
 answers-are m [] r = refl
 answers-are m (c ∷ cs) r =
     ap₂ (λ (a : Answer) (l : List Answer). a ∷ l) (follows m c (r .0) .answers)
     (answers-are (left c) cs (r .1) ∙ ap (answers (callsOf cs)) (follows m c (r .0) .leaves))
 
-pub history-is : (h : History) (m : Machine) (run : List Made) → Run m run → historyBy h run ≡ historyOf h (callsOf run) (worldAt m)
+pub history-is : (h : History) (m : Machine) (run : List Made) → RunFrom m run → historyBy h run ≡ historyOf h (callsOf run) (worldAt m)
 history-is h m run r = ap (λ (rs : List Answer). history (callsOf run) rs h) (answers-are m run r)
 
 pub calls-append : (xs ys : List Made) → callsOf (xs ++ ys) ≡ callsOf xs ++ callsOf ys
 calls-append [] ys = refl
-calls-append (c ∷ xs) ys = ap (λ (l : List Call). asked c ∷ l) (calls-append xs ys)
+calls-append (c ∷ xs) ys = ap (λ (l : List Call). callMade c ∷ l) (calls-append xs ys)
 
-pub run-first : (m : Machine) (xs ys : List Made) → Run m (xs ++ ys) → Run m xs
+pub run-first : (m : Machine) (xs ys : List Made) → RunFrom m (xs ++ ys) → RunFrom m xs
 run-first m [] ys r = tt
 run-first m (c ∷ xs) ys r = (r .0, run-first (left c) xs ys (r .1))
 
-pub run-rest : (m : Machine) (xs ys : List Made) → Run m (xs ++ ys) → Run (end m xs) ys
+pub run-rest : (m : Machine) (xs ys : List Made) → RunFrom m (xs ++ ys) → RunFrom (end m xs) ys
 run-rest m [] ys r = r
 run-rest m (c ∷ xs) ys r = run-rest (left c) xs ys (r .1)
 
@@ -133,46 +133,46 @@ run-rest m (c ∷ xs) ys r = run-rest (left c) xs ys (r .1)
 -- the call c that a run makes after these
 pub record Reached (m : Machine) (before : List Made) (c : Made) : Type 0 where
   pub world-is : worldAt (end m before) ≡ after (callsOf before) (worldAt m)
-  pub follows-there : Follows (asked c) (end m before) c
-  pub answers-there : answered c ≡ answer (asked c) (after (callsOf before) (worldAt m))
-  pub leaves-there : worldAt (left c) ≡ next (asked c) (after (callsOf before) (worldAt m))
+  pub follows-there : Follows (callMade c) (end m before) c
+  pub answers-there : answerGiven c ≡ answer (callMade c) (after (callsOf before) (worldAt m))
+  pub leaves-there : worldAt (left c) ≡ next (callMade c) (after (callsOf before) (worldAt m))
   pub history-before : (h : History) → historyBy h before ≡ historyOf h (callsOf before) (worldAt m)
-  pub history-with : (h : History) → historyBy h (before ++ c ∷ []) ≡ historyOf h (callsOf before ++ asked c ∷ []) (worldAt m)
+  pub history-with : (h : History) → historyBy h (before ++ c ∷ []) ≡ historyOf h (callsOf before ++ callMade c ∷ []) (worldAt m)
 
-pub reached : (m : Machine) (run : List Made) → Run m run → EachMade run (Reached m)
+pub reached : (m : Machine) (run : List Made) → RunFrom m run → EachMade run (Reached m)
 reached m run r before c later e = record {
   world-is = here;
   follows-there = there;
-  answers-there = there .answers ∙ ap (answer (asked c)) here;
-  leaves-there = there .leaves ∙ ap (next (asked c)) here;
+  answers-there = there .answers ∙ ap (answer (callMade c)) here;
+  leaves-there = there .leaves ∙ ap (next (callMade c)) here;
   history-before = λ h. history-is h m before first;
   history-with = λ h. history-is h m (before ++ c ∷ []) with-it ∙ ap (λ (cs : List Call). historyOf h cs (worldAt m)) (calls-append before (c ∷ []));
 }
   where
-    split : Run m (before ++ c ∷ later)
-    split = subst (Run m) e r
+    split : RunFrom m (before ++ c ∷ later)
+    split = subst (RunFrom m) e r
 
-    first : Run m before
+    first : RunFrom m before
     first = run-first m before (c ∷ later) split
 
-    rest : Run (end m before) (c ∷ later)
+    rest : RunFrom (end m before) (c ∷ later)
     rest = run-rest m before (c ∷ later) split
 
     here : worldAt (end m before) ≡ after (callsOf before) (worldAt m)
     here = ends m before first
 
-    there : Follows (asked c) (end m before) c
+    there : Follows (callMade c) (end m before) c
     there = follows (end m before) c (rest .0)
 
-    with-it : Run m (before ++ c ∷ [])
+    with-it : RunFrom m (before ++ c ∷ [])
     with-it = joined m before first (rest .0, tt)
       where
-        joined : (m : Machine) (xs : List Made) → Run m xs → Run (end m xs) (c ∷ []) → Run m (xs ++ c ∷ [])
+        joined : (m : Machine) (xs : List Made) → RunFrom m xs → RunFrom (end m xs) (c ∷ []) → RunFrom m (xs ++ c ∷ [])
         joined m [] r s = s
         joined m (d ∷ xs) r s = (r .0, joined (left d) xs (r .1) s)
 
 -- what holds of every call that follows the rules holds of every call of every run
-pub each-call : (P : Machine → Made → Type 0) → ((m : Machine) (c : Made) → Follows (asked c) m c → P m c) → EveryCall P
+pub each-call : (P : Machine → Made → Type 0) → ((m : Machine) (c : Made) → Follows (callMade c) m c → P m c) → EveryCall P
 each-call P p m run r before c later e = p (end m before) c (reached m run r before c later e .follows-there)
 
 -- ---- a start
@@ -193,7 +193,7 @@ at-start claim p s a run =
 -- a claim about runs of the code that follows from one about the runs of the rules from its world on
 abbrev pub Carried : Claim → RunClaim → Type 0
 Carried ofRules ofCode =
-    (found : List ℕ) (h : History) (m : Machine) (run : List Made) → Run m run
+    (found : List ℕ) (h : History) (m : Machine) (run : List Made) → RunFrom m run
     → ((calls : List Call) → ofRules found h (worldAt m) calls) → ofCode found h m run
 
 pub carried-start :

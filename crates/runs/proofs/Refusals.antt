@@ -13,21 +13,21 @@ use Rattle.model.specs.Starts.{startAnswerOf}
 use Rattle.model.specs.declared.Answer as code
 use Rattle.model.specs.declared.StartAnswer as code-start
 use Rattle.model.specs.declared.StartAnswer.the-variants.{Ready, NotAllowed}
-use Rattle.runs.specs.Machines.{Machine, Made, StartMade, worldAt, left, asked, accepted, StartPromised}
+use Rattle.runs.specs.Machines.{Machine, Made, StartMade, worldAt, left, callMade, acceptedCall, StartPromised}
 use Rattle.runs.specs.Refusals.{RefusesExactly, StartRefusesExactly, RefusalsOfCode, RefusedOfCode}
 use Rattle.runs.proofs.Machines.{answerAs, Follows, each-call, machine-of}
 
-call-exact : (m : Machine) (c : Made) → Follows (asked c) m c → RefusesExactly m c
+call-exact : (m : Machine) (c : Made) → Follows (callMade c) m c → RefusesExactly m c
 call-exact m c f = record {
   only = λ k g. by .only k (sym (f .answers) ∙ ap (λ (a : code.Answer). answerOf a (c .cache)) g);
   whenever = λ k n t. f .gives ∙ ap answerAs (by .whenever k n t);
 }
   where
-    by : of-rules.RefusedExactly (asked c) (worldAt m)
-    by = refused-exactly (asked c) (worldAt m)
+    by : of-rules.RefusedExactly (callMade c) (worldAt m)
+    by = refused-exactly (callMade c) (worldAt m)
 
-call-keeps : (m : Machine) (c : Made) → Follows (asked c) m c → accepted c ≡ false → left c ≡ m
-call-keeps m c f t = machine-of (left c) m (f .leaves ∙ refused-keeps (asked c) (worldAt m) (ap isAccepted (sym (f .answers)) ∙ t))
+call-keeps : (m : Machine) (c : Made) → Follows (callMade c) m c → acceptedCall c ≡ false → left c ≡ m
+call-keeps m c f t = machine-of (left c) m (f .leaves ∙ refused-keeps (callMade c) (worldAt m) (ap isAccepted (sym (f .answers)) ∙ t))
 
 -- ---- a start
 
@@ -58,4 +58,4 @@ pub refusals-of-code : RefusalsOfCode
 refusals-of-code = record { by-call = each-call RefusesExactly call-exact; by-start = start-exact }
 
 pub refused-of-code : RefusedOfCode
-refused-of-code = record { by-call = each-call (λ m c. accepted c ≡ false → left c ≡ m) call-keeps; by-start = start-keeps }
+refused-of-code = record { by-call = each-call (λ m c. acceptedCall c ≡ false → left c ≡ m) call-keeps; by-start = start-keeps }

@@ -20,7 +20,7 @@ use Rattle.model.specs.State.{answerOf, callOf}
 use Rattle.model.specs.declared.Call.{Call}
 use Rattle.model.specs.declared.Call.the-variants.{Load, Store, Retry, Commit, Abort, Idle, Reply, Flush, Show}
 use Rattle.model.specs.declared.Answer as code
-use Rattle.runs.specs.Machines.{Machine, Made, worldAt, left, asked, callsOf}
+use Rattle.runs.specs.Machines.{Machine, Made, worldAt, left, callMade, callsOf}
 use Rattle.runs.specs.Values.{EachValueRight, GivesWaits, LoadGivesWaits, RetryGivesWaits, EachInquiryRight, FlushMade, EachFlushRight, FlatMoves, FlatMoved, FlatAtEnd, ValuesOfCode, WaitsOfCode, FlushesOfCode, FlatMemoryOfCode}
 use Rattle.runs.proofs.Machines.{answerAs, Follows, follows-as, ends, history-is, Reached, reached, each-call, Carried, carried-start, carried-state}
 
@@ -28,8 +28,8 @@ use Rattle.runs.proofs.Machines.{answerAs, Follows, follows-as, ends, h
 
 values-carried : Carried ValuesRight EachValueRight
 values-carried found h m run r p before c later e i v g =
-    subst (λ (g : History). RightValue found g (asked c) i v) (sym (at .history-with h))
-    (p (callsOf before ++ asked c ∷ []) (callsOf before) (asked c) [] refl i v
+    subst (λ (g : History). RightValue found g (callMade c) i v) (sym (at .history-with h))
+    (p (callsOf before ++ callMade c ∷ []) (callsOf before) (callMade c) [] refl i v
     (sym (at .answers-there) ∙ ap (λ (a : code.Answer). answerOf a (c .cache)) g))
   where
     at : Reached m before c
@@ -53,13 +53,13 @@ waits-given k i a n m c f w = record {
   otherwise = λ l. (w .otherwise l .0, f .gives ∙ ap answerAs (w .otherwise l .1));
 }
 
-load-given : (m : Machine) (c : Made) → Follows (asked c) m c → LoadGivesWaits m c
+load-given : (m : Machine) (c : Made) → Follows (callMade c) m c → LoadGivesWaits m c
 load-given m c f a n g t = waits-given (rules.load a n) _ a n m c there (load-waits a n (worldAt m) (ap isAccepted (sym (there .answers)) ∙ t))
   where
     there : Follows (rules.load a n) m c
     there = follows-as m c f (Load a n) g
 
-retry-given : (m : Machine) (c : Made) → Follows (asked c) m c → RetryGivesWaits m c
+retry-given : (m : Machine) (c : Made) → Follows (callMade c) m c → RetryGivesWaits m c
 retry-given m c f i g t = waits-given (rules.retry i) i _ _ m c there (retry-waits i (worldAt m) (ap isAccepted (sym (there .answers)) ∙ t))
   where
     there : Follows (rules.retry i) m c
@@ -71,7 +71,7 @@ about-same i p q a = rw (p, q) a
 inquiries-carried : Carried InquiriesRight EachInquiryRight
 inquiries-carried found h m run r p before c later e i g t =
     about-same i (at .history-before h) (at .world-is)
-    (p (callsOf before ++ asked c ∷ []) (callsOf before) (asked c) [] refl i (ap callOf g) (ap isAccepted (sym (at .answers-there)) ∙ t))
+    (p (callsOf before ++ callMade c ∷ []) (callsOf before) (callMade c) [] refl i (ap callOf g) (ap isAccepted (sym (at .answers-there)) ∙ t))
   where
     at : Reached m before c
     at = reached m run r before c later e
@@ -94,7 +94,7 @@ flush-answer w =
     (λ (o : Outcome). isAccepted (o .answer) ≡ true → o .answer ≡ rules.flushed (dirtyLines (w .hierarchy)))
     (λ k e. absurd (false≢true e)) (λ e f p r. refl)
 
-flush-given : (m : Machine) (c : Made) → Follows (asked c) m c → FlushMade m c
+flush-given : (m : Machine) (c : Made) → Follows (callMade c) m c → FlushMade m c
 flush-given m c f g t = record {
   counts = there .gives ∙ ap answerAs flushed-is;
   in-use = exact .in-use;
@@ -114,7 +114,7 @@ flush-given m c f g t = record {
 flushes-carried : Carried FlushesRight EachFlushRight
 flushes-carried found h m run r p before c later e g t =
     ap (λ (w : World). w .hierarchy .memory) (at .leaves-there)
-    ∙ p (callsOf before ++ asked c ∷ []) (callsOf before) (asked c) [] refl (ap callOf g) (ap isAccepted (sym (at .answers-there)) ∙ t)
+    ∙ p (callsOf before ++ callMade c ∷ []) (callsOf before) (callMade c) [] refl (ap callOf g) (ap isAccepted (sym (at .answers-there)) ∙ t)
     ∙ ap (λ (h : History). flatCommitted h found) (sym (at .history-before h))
   where
     at : Reached m before c
@@ -141,9 +141,9 @@ flat-moves Reply m d e f = ap flatWithHeld e ∙ f
 flat-moves Flush m d e f = ap flatWithHeld e ∙ f
 flat-moves (Show a) m d e f = ap flatWithHeld e ∙ f
 
-flat-given : (m : Machine) (c : Made) → Follows (asked c) m c → FlatMoved m c
+flat-given : (m : Machine) (c : Made) → Follows (callMade c) m c → FlatMoved m c
 flat-given m c f t =
-    flat-moves (c .call) m (left c) (f .leaves) (flat-call (asked c) (worldAt m) (ap isAccepted (sym (f .answers)) ∙ t))
+    flat-moves (c .call) m (left c) (f .leaves) (flat-call (callMade c) (worldAt m) (ap isAccepted (sym (f .answers)) ∙ t))
 
 flat-carried : Carried FlatAfter FlatAtEnd
 flat-carried found h m run r p =

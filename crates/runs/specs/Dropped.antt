@@ -7,7 +7,7 @@ use Rattle.lists.specs.Padded.{select}
 use Rattle.rules.specs.Dropped.{struck, remaining}
 use Rattle.model.specs.declared.Call.the-variants.{Abort}
 use Rattle.model.specs.declared.Answer.{Answer}
-use Rattle.runs.specs.Machines.{Machine, numberAt, Made, Run, StartMade, AcceptedStart, end, accepted, callsOf, answersOf, startLeft, EachMade}
+use Rattle.runs.specs.Machines.{Machine, numberAt, Made, RunFrom, StartMade, AcceptedStart, end, acceptedCall, callsOf, answersOf, startLeft, EachMade}
 
 -- the stretch, made from m on, is dropped for n
 pub record DroppedFor (n : ℕ) (m : Machine) (stretch : List Made) : Type 0 where
@@ -18,13 +18,13 @@ pub record DroppedFor (n : ℕ) (m : Machine) (stretch : List Made) : Type 0 whe
   pub final : Made
   pub ends : stretch ≡ body ++ final ∷ []
   pub aborts : final .call ≡ Abort n
-  pub passes : accepted final ≡ true
+  pub passes : acceptedCall final ≡ true
   -- "and no accepted abort in it names less than n"
-  pub above : EachMade stretch (λ before c. (k : ℕ) → c .call ≡ Abort k → accepted c ≡ true → k < n → ⊥)
+  pub above : EachMade stretch (λ before c. (k : ℕ) → c .call ≡ Abort k → acceptedCall c ≡ true → k < n → ⊥)
 
 -- which calls of a run with a stretch dropped for n remain
-abbrev pub kept : ℕ → List Made → List Made → List Made → List Bool
-kept n pre stretch post = remaining (struck n) (callsOf pre) (callsOf stretch) (callsOf post)
+abbrev pub remainingOf : ℕ → List Made → List Made → List Made → List Bool
+remainingOf n pre stretch post = remaining (struck n) (callsOf pre) (callsOf stretch) (callsOf post)
 
 abbrev pub gaveAll : List Made → List Answer
 gaveAll run = map (λ (c : Made). c .gave .answer) run
@@ -42,9 +42,9 @@ pub record SameSeen (marks : List Bool) (m : Machine) (whole : List Made) (d : M
 abbrev pub NoTraceFrom : Machine → Machine → Type 0
 NoTraceFrom m d =
     (n : ℕ) (pre stretch post rest : List Made)
-    → Run m (pre ++ (stretch ++ post)) → DroppedFor n (end m pre) stretch
-    → Run d rest → callsOf rest ≡ select (kept n pre stretch post) (callsOf (pre ++ (stretch ++ post)))
-    → SameSeen (kept n pre stretch post) m (pre ++ (stretch ++ post)) d rest
+    → RunFrom m (pre ++ (stretch ++ post)) → DroppedFor n (end m pre) stretch
+    → RunFrom d rest → callsOf rest ≡ select (remainingOf n pre stretch post) (callsOf (pre ++ (stretch ++ post)))
+    → SameSeen (remainingOf n pre stretch post) m (pre ++ (stretch ++ post)) d rest
 
 -- demand 3: a dropped stretch leaves no trace
 pub record DroppedOfCode : Type 0 where

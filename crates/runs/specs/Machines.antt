@@ -49,26 +49,26 @@ abbrev pub left : Made → Machine
 left c = record { state = c .gave .next; cache = c .cache; memory = c .memory }
 
 -- the call and its answer with 01's numbers and values; of show line the bytes and where in the cache they stand
-abbrev pub asked : Made → rules.Call
-asked c = callOf (c .call)
+abbrev pub callMade : Made → rules.Call
+callMade c = callOf (c .call)
 
-abbrev pub answered : Made → rules.Answer
-answered c = answerOf (c .gave .answer) (c .cache)
+abbrev pub answerGiven : Made → rules.Answer
+answerGiven c = answerOf (c .gave .answer) (c .cache)
 
 -- "A call is accepted when its answer is no refusal."
-abbrev pub accepted : Made → Bool
-accepted c = isAccepted (answered c)
+abbrev pub acceptedCall : Made → Bool
+acceptedCall c = isAccepted (answerGiven c)
 
 -- what the contract of `step` promises of a call made on m
 abbrev pub AsPromised : Machine → Made → Type 0
-AsPromised m c = Does (asked c) (worldAt m) (c .gave) (c .cache) (c .memory)
+AsPromised m c = Does (callMade c) (worldAt m) (c .gave) (c .cache) (c .memory)
 
 -- ---- a run
 
 -- "Each call gets what the last one handed back or left": the calls made from m on
-abbrev pub Run : Machine → List Made → Type 0
-Run m [] = Unit {0}
-Run m (c ∷ cs) = AsPromised m c × Run (left c) cs
+abbrev pub RunFrom : Machine → List Made → Type 0
+RunFrom m [] = Unit {0}
+RunFrom m (c ∷ cs) = AsPromised m c × RunFrom (left c) cs
 
 -- what a run leaves
 abbrev pub end : Machine → List Made → Machine
@@ -76,10 +76,10 @@ end m [] = m
 end m (c ∷ cs) = end (left c) cs
 
 abbrev pub callsOf : List Made → List rules.Call
-callsOf run = map asked run
+callsOf run = map callMade run
 
 abbrev pub answersOf : List Made → List rules.Answer
-answersOf run = map answered run
+answersOf run = map answerGiven run
 
 -- the stores, the loads and the last commit of a run, read off its calls and what they answered, after the history h
 abbrev pub historyBy : History → List Made → History
@@ -91,7 +91,7 @@ EachMade run P = (before : List Made) (c : Made) (later : List Made) → run ≡
 
 -- every call of every run, from any machine on: made on what the calls before it left
 abbrev pub EveryCall : (Machine → Made → Type 0) → Type 0
-EveryCall P = (m : Machine) (run : List Made) → Run m run → EachMade run (λ before c. P (end m before) c)
+EveryCall P = (m : Machine) (run : List Made) → RunFrom m run → EachMade run (λ before c. P (end m before) c)
 
 -- ---- a call of `State::start`
 
@@ -124,11 +124,11 @@ RunClaim = List ℕ → History → Machine → List Made → Type 0
 -- "A run after a start begins with what an accepted start left."
 abbrev pub RunsAfterStart : RunClaim → Type 0
 RunsAfterStart claim =
-    (s : StartMade) → AcceptedStart s → (run : List Made) → Run (startLeft s) run
+    (s : StartMade) → AcceptedStart s → (run : List Made) → RunFrom (startLeft s) run
     → claim (s .memory) noHistory (startLeft s) run
 
 -- a run from any well-formed state on: flat memory of the state is what was found, and what its queues hold is the history
 abbrev pub RunsFromState : RunClaim → Type 0
 RunsFromState claim =
-    (m : Machine) → Formed (worldAt m) → (run : List Made) → Run m run
+    (m : Machine) → Formed (worldAt m) → (run : List Made) → RunFrom m run
     → claim (flatOf (worldAt m .hierarchy)) (historyAt (worldAt m)) m run

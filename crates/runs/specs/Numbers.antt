@@ -3,9 +3,9 @@
 use mathlib.Core.Path.{_≡_}
 use mathlib.Core.Bool.{true}
 use Rattle.rules.specs.Numbers.{numberAfter}
-use Rattle.runs.specs.Machines.{numberAt, StartMade, AcceptedStart, left, asked, accepted, startLeft, EveryCall}
+use Rattle.runs.specs.Machines.{numberAt, StartMade, AcceptedStart, left, callMade, acceptedCall, startLeft, EveryCall}
 
 -- after an accepted start, and after every accepted call
 pub record NumbersOfCode : Type 0 where
   pub after-start : (s : StartMade) → AcceptedStart s → numberAt (startLeft s) ≡ 1
-  pub by-call : EveryCall (λ m c. accepted c ≡ true → numberAt (left c) ≡ numberAfter (asked c) (numberAt m))
+  pub by-call : EveryCall (λ m c. acceptedCall c ≡ true → numberAt (left c) ≡ numberAfter (callMade c) (numberAt m))

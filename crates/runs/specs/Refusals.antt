@@ -6,12 +6,12 @@ use Rattle.rules.specs.Refusals.{namesRefusal, allChecks, FirstFailing}
 use Rattle.rules.specs.Runs.{startAllowed}
 use Rattle.model.specs.declared.Answer.the-variants.{Refused}
 use Rattle.model.specs.declared.StartAnswer.the-variants.{Ready, NotAllowed}
-use Rattle.runs.specs.Machines.{Machine, Made, StartMade, worldAt, left, asked, accepted, StartPromised, EveryCall}
+use Rattle.runs.specs.Machines.{Machine, Made, StartMade, worldAt, left, callMade, acceptedCall, StartPromised, EveryCall}
 
 -- "A refusal occurs under its stated condition and under no other.": the number is that of the first condition, in 01's order, that applies
 pub record RefusesExactly (m : Machine) (c : Made) : Type 0 where
-  pub only : (k : ℕ) → c .gave .answer ≡ Refused k → FirstFailing k (allChecks (asked c) (worldAt m))
-  pub whenever : (k : ℕ) → namesRefusal (asked c) ≡ true → FirstFailing k (allChecks (asked c) (worldAt m)) → c .gave .answer ≡ Refused k
+  pub only : (k : ℕ) → c .gave .answer ≡ Refused k → FirstFailing k (allChecks (callMade c) (worldAt m))
+  pub whenever : (k : ℕ) → namesRefusal (callMade c) ≡ true → FirstFailing k (allChecks (callMade c) (worldAt m)) → c .gave .answer ≡ Refused k
 
 -- "Start reads no earlier state, so 1 alone can refuse it."
 pub record StartRefusesExactly (s : StartMade) : Type 0 where
@@ -25,5 +25,5 @@ pub record RefusalsOfCode : Type 0 where
 
 -- "It returns the number alone, and state, cache and memory keep their contents.": a refused start too leaves the cache as found
 pub record RefusedOfCode : Type 0 where
-  pub by-call : EveryCall (λ m c. accepted c ≡ false → left c ≡ m)
+  pub by-call : EveryCall (λ m c. acceptedCall c ≡ false → left c ≡ m)
   pub by-start : (s : StartMade) → StartPromised s → (k : ℕ) → s .gave .answer ≡ NotAllowed k → s .cache ≡ s .found

@@ -10,7 +10,7 @@ use Rattle.rules.specs.Values.{RightValue, lacksByte, waitingLoad, InquiryAbout
 use Rattle.model.specs.declared.Call.{Call}
 use Rattle.model.specs.declared.Call.the-variants.{Load, Store, Retry, Commit, Abort, Idle, Reply, Flush, Show}
 use Rattle.model.specs.declared.Answer.the-variants.{Value, Waits, Flushed}
-use Rattle.runs.specs.Machines.{Machine, Made, worldAt, numberAt, left, end, asked, accepted, historyBy, EachMade, EveryCall, RunClaim, RunsAfterStart, RunsFromState}
+use Rattle.runs.specs.Machines.{Machine, Made, worldAt, numberAt, left, end, callMade, acceptedCall, historyBy, EachMade, EveryCall, RunClaim, RunsAfterStart, RunsFromState}
 
 -- ---- every value is right, at its time
 
@@ -18,7 +18,7 @@ use Rattle.runs.specs.Machines.{Machine, Made, worldAt, numberAt, left, 
 -- applied that the run made before operation i and did not abort
 abbrev pub EachValueRight : RunClaim
 EachValueRight found h m run =
-    EachMade run (λ before c. (i v : ℕ) → c .gave .answer ≡ Value i v → RightValue found (historyBy h (before ++ c ∷ [])) (asked c) i v)
+    EachMade run (λ before c. (i v : ℕ) → c .gave .answer ≡ Value i v → RightValue found (historyBy h (before ++ c ∷ [])) (callMade c) i v)
 
 -- demand 2: every value that the code answers
 pub record ValuesOfCode : Type 0 where
@@ -38,18 +38,18 @@ pub record GivesWaits (i a n : ℕ) (m : Machine) (c : Made) : Type 0 where
 -- an accepted load, as the next operation number
 abbrev pub LoadGivesWaits : Machine → Made → Type 0
 LoadGivesWaits m c =
-    (a n : ℕ) → c .call ≡ Load a n → accepted c ≡ true → GivesWaits (numberAt m) a n m c
+    (a n : ℕ) → c .call ≡ Load a n → acceptedCall c ≡ true → GivesWaits (numberAt m) a n m c
 
 -- an accepted inquiry, for the bytes of the waiting load of that number
 abbrev pub RetryGivesWaits : Machine → Made → Type 0
 RetryGivesWaits m c =
-    (i : ℕ) → c .call ≡ Retry i → accepted c ≡ true
+    (i : ℕ) → c .call ≡ Retry i → acceptedCall c ≡ true
     → GivesWaits i (waitingLoad i (worldAt m) .address) (waitingLoad i (worldAt m) .width) m c
 
 -- which is the latest load that the run was given as number i
 abbrev pub EachInquiryRight : RunClaim
 EachInquiryRight found h m run =
-    EachMade run (λ before c. (i : ℕ) → c .call ≡ Retry i → accepted c ≡ true → InquiryAbout (historyBy h before) i (worldAt (end m before)))
+    EachMade run (λ before c. (i : ℕ) → c .call ≡ Retry i → acceptedCall c ≡ true → InquiryAbout (historyBy h before) i (worldAt (end m before)))
 
 -- demand 2: an accepted load or inquiry waits exactly if a byte of it is lacking
 pub record WaitsOfCode : Type 0 where
@@ -70,12 +70,12 @@ pub record FlushGives (m : Machine) (c : Made) : Type 0 where
   pub flattens : c .memory ≡ flatOf (worldAt m .hierarchy)
 
 abbrev pub FlushMade : Machine → Made → Type 0
-FlushMade m c = c .call ≡ Flush → accepted c ≡ true → FlushGives m c
+FlushMade m c = c .call ≡ Flush → acceptedCall c ≡ true → FlushGives m c
 
 -- every accepted flush of the run leaves memory as found with exactly the committed stores applied
 abbrev pub EachFlushRight : RunClaim
 EachFlushRight found h m run =
-    EachMade run (λ before c. c .call ≡ Flush → accepted c ≡ true → c .memory ≡ flatCommitted (historyBy h before) found)
+    EachMade run (λ before c. c .call ≡ Flush → acceptedCall c ≡ true → c .memory ≡ flatCommitted (historyBy h before) found)
 
 -- demand 2: what an accepted flush counts, cleans and leaves in memory
 pub record FlushesOfCode : Type 0 where
@@ -106,7 +106,7 @@ FlatMoves Flush m d = flatAt d ≡ flatAt m
 FlatMoves (Show a) m d = flatAt d ≡ flatAt m
 
 abbrev pub FlatMoved : Machine → Made → Type 0
-FlatMoved m c = accepted c ≡ true → FlatMoves (c .call) m (left c)
+FlatMoved m c = acceptedCall c ≡ true → FlatMoves (c .call) m (left c)
 
 -- after a run it is memory as found with every store of the run applied that is not aborted
 abbrev pub FlatAtEnd : RunClaim
