@@ -6,13 +6,14 @@ use native.Mathlib.Omega.{arith}
 use lib.Dec.{leb, eqb}
 use borrow.Author.Tests.{leb-true, eqb-true}
 use Rattle.lists.proofs.Cond.{cases, and-left, and-right}
+use Rattle.rules.specs.declared.Figures.{Figures}
 use Rattle.rules.specs.Shape.{setsAllowed, figuresAllowed}
 
-pub record Figured (sets ways size : ℕ) : Type 0 where
-  pub some-set : 0 < sets
-  pub most-sets : sets ≤ 64
-  pub some-way : 0 < ways
-  pub most-ways : ways ≤ 4
+pub record Figured (f : Figures) (size : ℕ) : Type 0 where
+  pub some-set : 0 < f .sets
+  pub most-sets : f .sets ≤ 64
+  pub some-way : 0 < f .ways
+  pub most-ways : f .ways ≤ 4
   pub some-line : 16 ≤ size
   pub whole-lines : size % 16 ≡ 0
   pub most-size : size ≤ 65536
@@ -28,9 +29,11 @@ sets-bound n e =
     cases (eqb n 32) (λ h. let q = eqb-true n 32 h in (omega arith, omega arith)) λ h6.
     let q = eqb-true n 64 (rw (h1, h2, h3, h4, h5, h6) at e) in (omega arith, omega arith)
 
-pub figures-tell : (sets ways size : ℕ) → figuresAllowed sets ways size ≡ true → Figured sets ways size
+pub figures-tell : (f : Figures) (size : ℕ) → figuresAllowed f size ≡ true → Figured f size
 unfolding figuresAllowed
-figures-tell sets ways size e =
+figures-tell f size e =
+    let sets = f .sets in
+    let ways = f .ways in
     let s = sets-bound sets (and-left (setsAllowed sets) _ e) in
     let e₁ = and-right (setsAllowed sets) _ e in
     let w = and-left (leb 1 ways && leb ways 4) _ e₁ in

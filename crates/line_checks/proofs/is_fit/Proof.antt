@@ -21,28 +21,28 @@ returns c =
 
 mul-result : tie.Need-mul-result
 mul-result c =
-    let figures-allowed = c .before .before .figures-allowed in
-    let if1 = c .before .if1 in
-    let f = figures-tell _ _ _ (sym (figures-allowed .ensures) ∙ if1 .taken) in omega (arith, mul-le-mul (f .most-sets) (f .most-ways))
+    let figures-allowed = c .before .before .before .figures-allowed in
+    let if1 = c .before .before .if1 in
+    let f = figures-tell _ _ (sym (figures-allowed .ensures) ∙ if1 .taken) in omega (arith, mul-le-mul (f .most-sets) (f .most-ways))
 
 cast-result : tie.Need-cast-result
 cast-result c =
-    let figures-allowed = c .before .before .figures-allowed in
-    let if1 = c .before .if1 in
-    let f = figures-tell _ _ _ (sym (figures-allowed .ensures) ∙ if1 .taken) in omega (arith, mul-le-mul (f .most-sets) (f .most-ways))
+    let figures-allowed = c .before .before .before .figures-allowed in
+    let if1 = c .before .before .if1 in
+    let f = figures-tell _ _ (sym (figures-allowed .ensures) ∙ if1 .taken) in omega (arith, mul-le-mul (f .most-sets) (f .most-ways))
 
 mul-result-2 : tie.Need-mul-result-2
 mul-result-2 c =
-    let figures-allowed = c .before .before .figures-allowed in
-    let if1 = c .before .if1 in
-    let f = figures-tell _ _ _ (sym (figures-allowed .ensures) ∙ if1 .taken) in omega (arith, mul-le-mul (f .most-sets) (f .most-ways))
+    let figures-allowed = c .before .before .before .figures-allowed in
+    let if1 = c .before .before .if1 in
+    let f = figures-tell _ _ (sym (figures-allowed .ensures) ∙ if1 .taken) in omega (arith, mul-le-mul (f .most-sets) (f .most-ways))
 
 returns-2 : tie.Need-returns-2
 unfolding fits
 returns-2 c =
-    let figures-allowed = c .before .before .figures-allowed in
-    let if1 = c .before .if1 in
-    rw (sym (figures-allowed .ensures) ∙ if1 .taken, eq-eqb _ _ (c .if2 .left))
+    let figures-allowed = c .before .before .before .figures-allowed in
+    let if1 = c .before .before .if1 in
+    rw (sym (figures-allowed .ensures) ∙ if1 .taken, eq-eqb _ _ (c .before .if2 .left))
 
 returns-3 : tie.Need-returns-3
 unfolding fits
