@@ -1,7 +1,8 @@
 -- What allowed figures leave to the functions behind them, as bounds on numbers.
-use Prim.Native.Nat.{ℕ, _%_, _<_, _≤_}
+use Prim.Native.Nat.{ℕ, _*_, _%_, _<_, _≤_}
 use mathlib.Core.Path.{_≡_}
 use mathlib.Core.Bool.{true, _&&_}
+use native.Mathlib.Nat.{mul-le-mul}
 use native.Mathlib.Omega.{arith}
 use lib.Dec.{leb, eqb}
 use borrow.Author.Tests.{leb-true, eqb-true}
@@ -11,9 +12,9 @@ use Rattle.rules.specs.Shape.{setsAllowed, figuresAllowed}
 
 pub record Figured (f : Figures) (size : ℕ) : Type 0 where
   pub some-set : 0 < f .sets
-  pub most-sets : f .sets ≤ 64
   pub some-way : 0 < f .ways
-  pub most-ways : f .ways ≤ 4
+  -- the records of all sets have room in the table
+  pub room : f .sets * f .ways ≤ 256
   pub some-line : 16 ≤ size
   pub whole-lines : size % 16 ≡ 0
   pub most-size : size ≤ 65536
@@ -41,9 +42,8 @@ figures-tell f size e =
     let m = and-right (eqb (size % 16) 0) _ e₂ in
     record {
       some-set = s .0;
-      most-sets = s .1;
       some-way = leb-true 1 ways (and-left _ _ w);
-      most-ways = leb-true ways 4 (and-right (leb 1 ways) _ w);
+      room = mul-le-mul (s .1) (leb-true ways 4 (and-right (leb 1 ways) _ w));
       some-line = leb-true 16 size (and-left _ _ m);
       whole-lines = eqb-true (size % 16) 0 (and-left _ _ e₂);
       most-size = leb-true size 65536 (and-right (leb 16 size) _ m);

@@ -3,7 +3,6 @@ use borrow.Author.Needs.{needs}
 use mathlib.Core.Path.{sym, _∙_}
 use native.Mathlib.Omega.{arith}
 use borrow.Author.Tests.{eq-eqb, ne-eqb}
-use native.Mathlib.Nat.{mul-le-mul}
 use Rattle.rules.specs.Shape.{fits}
 use Rattle.line_checks.proofs.Figures.{figures-tell}
 use Rattle.line_checks.proofs.is_fit.Statement.{statement}
@@ -23,19 +22,19 @@ mul-result : tie.Need-mul-result
 mul-result c =
     let figures-allowed = c .before .before .before .figures-allowed in
     let if1 = c .before .before .if1 in
-    let f = figures-tell _ _ (sym (figures-allowed .ensures) ∙ if1 .taken) in omega (arith, mul-le-mul (f .most-sets) (f .most-ways))
+    let f = figures-tell _ _ (sym (figures-allowed .ensures) ∙ if1 .taken) in omega (arith, f .room)
 
 cast-result : tie.Need-cast-result
 cast-result c =
     let figures-allowed = c .before .before .before .figures-allowed in
     let if1 = c .before .before .if1 in
-    let f = figures-tell _ _ (sym (figures-allowed .ensures) ∙ if1 .taken) in omega (arith, mul-le-mul (f .most-sets) (f .most-ways))
+    let f = figures-tell _ _ (sym (figures-allowed .ensures) ∙ if1 .taken) in omega (arith, f .room)
 
 mul-result-2 : tie.Need-mul-result-2
 mul-result-2 c =
     let figures-allowed = c .before .before .before .figures-allowed in
     let if1 = c .before .before .if1 in
-    let f = figures-tell _ _ (sym (figures-allowed .ensures) ∙ if1 .taken) in omega (arith, mul-le-mul (f .most-sets) (f .most-ways))
+    let f = figures-tell _ _ (sym (figures-allowed .ensures) ∙ if1 .taken) in omega (arith, f .room)
 
 returns-2 : tie.Need-returns-2
 unfolding fits
