@@ -12,7 +12,7 @@ use Rattle.rules.specs.Lines.{dirtyLines}
 use Rattle.rules.specs.Flat.{flatBefore, flatCommitted}
 use Rattle.lists.specs.Bytes.{valueAt}
 use Rattle.rules.specs.Examples.{table, script, whole, seenAnswers, struckAnswers, seenEnd, struckEnd, evicting, inquiring, waitingOnly, draining, otherCache, beginning, past, flatValue, twoLines, reusing, overtaken, evictedFlush}
-use Rattle.rules.specs.States.{richTags, richCache, richStores, richLoads, richQueues, richLines, clauses, broken, brokenClauses, unfit}
+use Rattle.rules.specs.States.{richTags, richCache, richStores, richLoads, richQueues, richLines, clauses, broken, brokenClauses}
 use Rattle.rules.specs.Computed.{computed}
 
 -- the table: what the rules give is what 01 says, all eight examples
@@ -58,11 +58,6 @@ broken-clauses = refl
 pub broken-formed : map (λ w. wellFormed (w .queues) (w .hierarchy)) broken ≡ replicate 24 false
 unfolding computed richTags richCache richStores richLoads broken brokenClauses
 broken-formed = refl
-
--- figures and lengths that check 1 refuses
-pub unfit-fits : map fits unfit ≡ replicate 11 false
-unfolding computed unfit
-unfit-fits = refl
 
 -- ---- dropped stretches
 

@@ -1,3 +1,4 @@
+pub mod RefusalTable
 pub mod Examples
 pub mod Checks
 pub mod Numbers
