@@ -1,5 +1,4 @@
-pub mod RefusalTable
-pub mod Examples
+pub mod ByComputing
 pub mod Checks
 pub mod Numbers
 pub mod LineFacts
