@@ -1,15 +1,15 @@
 -- Calls by their checks: what a call's outcome is, when checks 1 and 10 refuse it, and when they pass and its own checks follow.
-use Prim.Native.Nat.{ℕ, _+_, _%_, _^_, _<_, _≤_}
+use Prim.Native.Nat.{ℕ, _+_, _^_}
 use mathlib.Core.Path.{_≡_, refl, sym, _∙_, ap}
 use mathlib.Core.Bool.{Bool, true, false, not}
 use mathlib.Core.List.{List, [], _∷_, _++_}
 use native.Mathlib.Omega.{arith}
 use lib.Dec.{ltb}
-use borrow.Author.Tests.{ltb-true, ltb-false, lt-ltb, le-ltb, le-leb, lt-leb, eq-eqb, ne-eqb}
+use borrow.Author.Tests.{ltb-true, ltb-false, le-leb, lt-leb, eq-eqb, ne-eqb}
 use Rattle.lists.proofs.Cond.{cases}
 use Rattle.rules.specs.Shape.{Queues, Hierarchy, fits, topNumber, isFreeStore, isFreeLoad}
-use Rattle.lists.specs.Padded.{any, every}
-use Rattle.rules.specs.Calls.{Call, Check, widthAllowed, load, store, refused, check, numberCheck, loadRule, storeRule, guarded, passes, unchanged, accessChecks, callChecks, rule}
+use Rattle.lists.specs.Padded.{any}
+use Rattle.rules.specs.Calls.{Call, Check, load, store, refused, check, numberCheck, loadRule, storeRule, guarded, passes, unchanged, accessChecks, callChecks, rule}
 use Rattle.rules.specs.WellFormed.{wellFormed}
 use Rattle.rules.specs.Runs.{stateChecks, refusal, outcome}
 use Rattle.rules.proofs.Checks.{shut, malformed, opened, checked, guarded-append, guarded-passes}

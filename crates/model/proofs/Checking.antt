@@ -54,9 +54,22 @@ module _ (q : Queues) (b : Hierarchy) (ss : length (q .stores) ≡ 16) (ls : len
   queues-parted : queuesFormed q b ≡ (queuesGood q b && requestGood q b)
   unfolding queuesFormed queuesGood every
   queues-parted =
-      let e : every (λ t. t) ((freeZero q ∷ freePlacesLast q ∷ committedUpToLast q ∷ numbersRise q ∷ numbersUpToLast q ∷ numbersApart q ∷ accessesPass q b ∷ committedWait q ∷ waitingUncovered q ∷ []) ++ (requestAbsent (q .request) b ∷ requestInside (q .request) b ∷ requestWanted (q .request) q ∷ [])) ≡ (queuesGood q b && (requestAbsent (q .request) b && (requestInside (q .request) b && (requestWanted (q .request) q && true)))) = every-join (freeZero q ∷ freePlacesLast q ∷ committedUpToLast q ∷ numbersRise q ∷ numbersUpToLast q ∷ numbersApart q ∷ accessesPass q b ∷ committedWait q ∷ waitingUncovered q ∷ []) (requestAbsent (q .request) b ∷ requestInside (q .request) b ∷ requestWanted (q .request) q ∷ []) in
       rw (eq-eqb (length (q .stores)) 16 ss, eq-eqb (length (q .loads)) 8 ls, le-leb (q .last) topNumber top)
-      (e ∙ ap (λ (t : Bool). queuesGood q b && t) (and-true (requestAbsent (q .request) b) (requestInside (q .request) b) (requestWanted (q .request) q)))
+      (every-join entryClauses (requestAbsent (q .request) b ∷ requestInside (q .request) b ∷ requestWanted (q .request) q ∷ [])
+      ∙ ap (λ (t : Bool). queuesGood q b && t) (and-true (requestAbsent (q .request) b) (requestInside (q .request) b) (requestWanted (q .request) q)))
+    where
+      entryClauses : List Bool
+      entryClauses =
+          freeZero q
+          ∷ freePlacesLast q
+          ∷ committedUpToLast q
+          ∷ numbersRise q
+          ∷ numbersUpToLast q
+          ∷ numbersApart q
+          ∷ accessesPass q b
+          ∷ committedWait q
+          ∷ waitingUncovered q
+          ∷ []
 
   formed-parted : fits b ≡ true → linesFormed b ≡ true → wellFormed q b ≡ (queuesGood q b && requestGood q b)
   unfolding wellFormed

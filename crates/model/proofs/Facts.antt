@@ -4,18 +4,18 @@ use mathlib.Core.Path.{_≡_, refl, sym, _∙_, subst}
 use mathlib.Core.Bool.{Bool, true, false, not, _&&_}
 use mathlib.Core.List.{List, map}
 use native.Mathlib.Omega.{arith}
-use lib.Dec.{ltb, leb, eqb}
+use lib.Dec.{ltb, eqb}
 use lib.ListN.{length, length-map}
-use borrow.Author.Tests.{ltb-true, ltb-false, leb-true, le-leb, eqb-true, not-true}
+use borrow.Author.Tests.{ltb-true, ltb-false, le-leb, eqb-true, not-true}
 use Rattle.lists.specs.Padded.{any, every, first}
 use Rattle.lists.specs.Counted.{firstFrom}
-use Rattle.lists.proofs.Cond.{cases, and-left, and-right, or-then}
+use Rattle.lists.proofs.Cond.{and-left, and-right, or-then}
 use Rattle.lists.proofs.Counting.{first-low, first-high}
 use Rattle.lists.proofs.Every.{every-first, every-head}
 use Rattle.lists.proofs.Some.{any-first}
 use Rattle.rules.specs.declared.Request.{Request}
 use Rattle.rules.specs.declared.Request.the-variants.{Line}
-use Rattle.rules.specs.Shape.{Queues, Hierarchy, setsAllowed, figuresAllowed, fits, noLoad, noStore, isFreeLoad, isFreeStore}
+use Rattle.rules.specs.Shape.{Queues, Hierarchy, figuresAllowed, fits, noLoad, noStore, isFreeLoad, isFreeStore}
 use Rattle.rules.specs.Calls.{widthAllowed, passes, accessChecks, waitingAt, committedStore, oldestStore, storeReady}
 use Rattle.rules.specs.WellFormed.{wellFormed, loadPasses, storePasses, freeStoreZero, freeLoadZero, committedWaitAt, waitingUncoveredAt, requestAbsent, requestInside, requestWanted}
 use Rattle.rules.proofs.QueueView.{Parts, parts, goodLoad, goodStore, goodRequest, load-passes, store-passes, good-load, good-store}

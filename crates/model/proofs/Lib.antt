@@ -4,3 +4,4 @@ pub mod Facts
 pub mod Reading
 pub mod Checking
 pub mod Moves
+pub mod Accepted

@@ -30,6 +30,7 @@ impl State {
         }
     }
 
+    // Abort from number n on. Refused: 1, 10, 16.
     pub fn abort(self, cache: &[u8], memory: &[u8], n: u32) -> Step
         ensures { λ r. ⌜ Does (rules.abort n) (worldOf self (now (cache .entry)) (now (memory .entry))) r (now (cache .entry)) (now (memory .entry)) ⌝ }
     {

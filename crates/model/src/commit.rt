@@ -62,6 +62,7 @@ impl State {
         }
     }
 
+    // Commit up to number k. Refused: 1, 10, 15.
     pub fn commit(self, cache: &[u8], memory: &[u8], k: u32) -> Step
         ensures { λ r. ⌜ Does (rules.commit k) (worldOf self (now (cache .entry)) (now (memory .entry))) r (now (cache .entry)) (now (memory .entry)) ⌝ }
     {

@@ -31,6 +31,7 @@ impl State {
         }
     }
 
+    // Flush: every dirty line goes to memory. Refused: 1, 10, 18.
     pub fn flush(self, cache: &[u8], memory: &mut [u8]) -> Step
         ensures { λ r. ⌜ Does rules.flush (worldOf self (now (cache .entry)) (now (memory .entry))) r (now (cache .entry)) (now (memory .exit)) ⌝ }
     {

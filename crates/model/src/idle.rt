@@ -164,7 +164,7 @@ impl State {
         }
     }
 
-    // "Idle does the first that applies."
+    // "Idle does the first that applies." Refused: 1, 10. (Memory is lent to be written, and is left as it was.)
     pub fn idle(self, cache: &mut [u8], memory: &mut [u8]) -> Step
         ensures { λ r. ⌜ Does rules.idle (worldOf self (now (cache .entry)) (now (memory .entry))) r (now (cache .exit)) (now (memory .exit)) ⌝ }
     {

@@ -58,18 +58,29 @@ pub struct Started {
 
 // What a call answers, with the paper's numbers.
 pub enum Answer {
+    // the refusal's number (`rules` has a name for each)
     Refused(u32),
+    // the operation number
     Stored(u32),
+    // the operation number and the value
     Value(u32, u32),
+    // the operation number
     Waits(u32),
+    // the committed number h now in force
     Committed(u32),
+    // the last operation number now in force
     Kept(u32),
+    // idle (a): the operation number of the store that was written
     Drained(u32),
+    // idle (b) and (c): the first address of the requested line
     Requested(u32),
+    // idle (d): nothing was done
     Idled,
+    // the first address of the line that was filled
     Filled(u32),
+    // how many lines were written
     Flushed(u32),
-    // the place and the length of the part of the cache
+    // the place and the length of the part of the cache: 16 bytes, or place 0 and length 0
     Shown(usize, usize),
 }
 
@@ -81,13 +92,20 @@ pub struct Step {
 
 // The calls of a run.
 pub enum Call {
+    // address, width
     Load(u32, u32),
+    // address, width, value
     Store(u32, u32, u32),
+    // 01: inquiry, about an operation number
     Retry(u32),
+    // k, the number to commit up to
     Commit(u32),
+    // n, the first number to drop
     Abort(u32),
     Idle,
+    // the memory reply
     Reply,
     Flush,
+    // 01: show line, by an address in the line
     Show(u32),
 }

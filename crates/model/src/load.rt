@@ -39,6 +39,7 @@ impl State {
         Step { answer, next: self }
     }
 
+    // Load: the operation takes the next number, and answers its value or that it waits. Refused: 1, 10, 2, 3, 4, 13, 12.
     pub fn load(self, cache: &[u8], memory: &[u8], address: u32, width: u32) -> Step
         ensures { λ r. ⌜ Does (rules.load address width) (worldOf self (now (cache .entry)) (now (memory .entry))) r (now (cache .entry)) (now (memory .entry)) ⌝ }
     {

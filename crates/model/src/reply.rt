@@ -68,7 +68,7 @@ impl State {
         }
     }
 
-    // The memory reply.
+    // The memory reply: the requested line is filled. Refused: 1, 10, 17.
     pub fn reply(self, cache: &mut [u8], memory: &mut [u8]) -> Step
         ensures { λ r. ⌜ Does rules.reply (worldOf self (now (cache .entry)) (now (memory .entry))) r (now (cache .exit)) (now (memory .exit)) ⌝ }
     {

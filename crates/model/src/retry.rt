@@ -60,7 +60,7 @@ impl State {
         }
     }
 
-    // Inquiry about number i.
+    // Inquiry about number i: a waiting load is tried again. Refused: 1, 10, 14.
     pub fn retry(self, cache: &[u8], memory: &[u8], i: u32) -> Step
         ensures { λ r. ⌜ Does (rules.retry i) (worldOf self (now (cache .entry)) (now (memory .entry))) r (now (cache .entry)) (now (memory .entry)) ⌝ }
     {

@@ -7,6 +7,7 @@ use crate::State;
 use crate::Step;
 
 impl State {
+    // Any call of a run, by the enum: what the method of that call answers, hands back and leaves.
     pub fn step(self, call: Call, cache: &mut [u8], memory: &mut [u8]) -> Step
         ensures { λ r. ⌜ Does (callOf call) (worldOf self (now (cache .entry)) (now (memory .entry))) r (now (cache .exit)) (now (memory .exit)) ⌝ }
     {

@@ -55,6 +55,7 @@ impl State {
         self.refused(VALUE_TOO_LARGE)
     }
 
+    // Store: the operation takes the next number and is held. Refused: 1, 10, 2, 3, 4, 5, 13, 11.
     pub fn store(self, cache: &[u8], memory: &[u8], address: u32, width: u32, value: u32) -> Step
         ensures { λ r. ⌜ Does (rules.store address width value) (worldOf self (now (cache .entry)) (now (memory .entry))) r (now (cache .entry)) (now (memory .entry)) ⌝ }
     {

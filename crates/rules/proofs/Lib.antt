@@ -1,4 +1,4 @@
-pub mod Examples
+pub mod ByComputing
 pub mod Checks
 pub mod Numbers
 pub mod LineFacts

@@ -5,6 +5,7 @@ use Rattle.rules.specs.declared.Figures.{Figures}
 use Rattle.rules.specs.Shape.{World}
 use Rattle.rules.specs.Calls.{Call}
 use Rattle.rules.specs.Refusals.{RefusedKeeps, RefusedExactly}
+use Rattle.rules.specs.RefusalTable.{AsStarted, AsGiven, startRows, inputRows, stateRows, clauseRows, orderRows}
 use Rattle.rules.specs.Numbers.{FirstNumber, NextNumber}
 use Rattle.rules.specs.Dropped.{DroppedStretch, DroppedAfterStart}
 use Rattle.rules.specs.Kept.{StartFormed, NextKept, RunKept, AdmittedAfterStart}
@@ -17,6 +18,14 @@ RefusedCallsKeep = (c : Call) (w : World) → RefusedKeeps c w
 -- each refusal is given under its stated condition and under no other
 abbrev pub RefusalsExact : Type 0
 RefusalsExact = (c : Call) (w : World) → RefusedExactly c w
+
+-- the table of refusals, row by row
+pub record RefusalTableHolds : Type 0 where
+  pub starts : AsStarted startRows
+  pub input : AsGiven inputRows
+  pub state : AsGiven stateRows
+  pub clauses : AsGiven clauseRows
+  pub order : AsGiven orderRows
 
 -- the next operation number
 abbrev pub NumbersGiven : Type 0

@@ -16,10 +16,10 @@ use Rattle.rules.specs.Calls.{Call, Answer, load, store, retry, commit, 
 use Rattle.rules.specs.Runs.{emptyQueues, started, startWorld, answer, answers, after}
 use Rattle.rules.specs.Flat.{History, noHistory, historyOf, loadOf, flatBefore}
 
--- what an example shows: answers of calls, or figures
+-- what an example shows: answers of calls, or numbers
 pub data Shown : Type 0 where
   gives : List Answer → Shown
-  figures : List ℕ → Shown
+  numbers : List ℕ → Shown
 
 pub record Example : Type 0 where
   pub seen : Shown
@@ -96,8 +96,8 @@ table =
     }
     -- "two sets, address 52: line 3, set 1"
     ∷ record {
-      seen = figures (lineOf 52 ∷ setOf (fresh 2 1 64 .hierarchy) (lineOf 52) ∷ []);
-      expected = figures (3 ∷ 1 ∷ []);
+      seen = numbers (lineOf 52 ∷ setOf (fresh 2 1 64 .hierarchy) (lineOf 52) ∷ []);
+      expected = numbers (3 ∷ 1 ∷ []);
     }
     -- "h 2, last 4: abort 3, 4, 5 pass; 2 and 6 give 16"
     ∷ record {
@@ -133,14 +133,14 @@ table =
     -- then line 0 is in way 0, line 1 is absent (no way below 2 has it), and line 2 is in way 1
     ∷ record {
       seen =
-          figures
+          numbers
           (slotOf twoFilled 1
           ∷ victim twoFilled 2
           ∷ slotOf (fillLine 2 twoFilled) 0
           ∷ slotOf (fillLine 2 twoFilled) 1
           ∷ slotOf (fillLine 2 twoFilled) 2
           ∷ []);
-      expected = figures (1 ∷ 1 ∷ 0 ∷ 2 ∷ 1 ∷ []);
+      expected = numbers (1 ∷ 1 ∷ 0 ∷ 2 ∷ 1 ∷ []);
     }
     ∷ []
 
@@ -184,9 +184,9 @@ seenAnswers s = select (stays s) (answers (whole s) (s .from))
 abbrev pub struckAnswers : Stretch → List Answer
 struckAnswers s = answers (select (stays s) (whole s)) (s .from)
 
--- what a run leaves, in figures: last, h, the first places of the queues, the ages of the first two slots, the first byte of memory
-abbrev pub figuresOf : World → List ℕ
-figuresOf w =
+-- what a run leaves, in numbers: last, h, the first places of the queues, the ages of the first two slots, the first byte of memory
+abbrev pub numbersOf : World → List ℕ
+numbersOf w =
     w .queues .last
     ∷ w .queues .committed
     ∷ getD (w .queues .stores) 0 noStore .number
@@ -199,10 +199,10 @@ figuresOf w =
     ∷ []
 
 abbrev pub seenEnd : Stretch → List ℕ
-seenEnd s = figuresOf (after (whole s) (s .from))
+seenEnd s = numbersOf (after (whole s) (s .from))
 
 abbrev pub struckEnd : Stretch → List ℕ
-struckEnd s = figuresOf (after (select (stays s) (whole s)) (s .from))
+struckEnd s = numbersOf (after (select (stays s) (whole s)) (s .from))
 
 -- Line 0 is dirty, and line 1 is requested for the committed load 2. Then a load that waits, a held store, a refused call, and a
 -- reply that evicts the dirty line.

@@ -13,4 +13,5 @@ pub mod Values
 pub mod Computed
 pub mod Examples
 pub mod States
+pub mod RefusalTable
 pub mod Claims

@@ -1,6 +1,6 @@
 -- Lines: where a line stands, use, a store written to its line, write back, the victim and the fill.
 -- Four steps on one slot or its set (use, put a store, write back, install) make up every change of the hierarchy.
-use Prim.Native.Nat.{ℕ, _+_, _*_, _-_, _/_, _%_}
+use Prim.Native.Nat.{ℕ, _+_, _*_, _/_, _%_}
 use mathlib.Core.Bool.{Bool, true, false, cond, not, _&&_}
 use mathlib.Core.List.{List}
 use mathlib.Core.Option.{Option, some, none}

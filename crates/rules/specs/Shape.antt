@@ -1,8 +1,8 @@
 -- The shape of the store: lines, sets, ways and slots; the tag records, the two queues and the miss register; the figures that are allowed.
 -- The state with its cache and memory is two records here. `Queues`: last, h, the miss register and both queues. `Hierarchy`:
--- geometry, tag records, cache and memory. An abort changes the first only.
+-- figures, memory length, tag records, cache and memory. An abort changes the first only.
 -- `q` is a Queues and `b` a Hierarchy throughout.
-use Prim.Native.Nat.{ℕ, _*_, _-_, _/_, _%_}
+use Prim.Native.Nat.{ℕ, _*_, _/_, _%_}
 use mathlib.Core.Bool.{Bool, true, false, _&&_, _||_}
 use mathlib.Core.List.{List}
 use lib.Dec.{ltb, leb, eqb}
@@ -87,7 +87,7 @@ pub record World : Type 0 where
 abbrev pub world : Queues → Hierarchy → World
 world q b = record { queues = q; hierarchy = b }
 
--- the same geometry with other records and other bytes
+-- the same figures and memory length with other records and other bytes
 abbrev pub holding : Hierarchy → List Tag → List ℕ → List ℕ → Hierarchy
 holding b tags cache memory =
     record { figures = b .figures; size = b .size; tags = tags; cache = cache; memory = memory }

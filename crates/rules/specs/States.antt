@@ -14,16 +14,16 @@ use Rattle.rules.specs.WellFormed.{lineClauses, queueClauses}
 
 -- ---- building a state
 
-abbrev tag : Bool → Bool → ℕ → ℕ → Tag
+abbrev pub tag : Bool → Bool → ℕ → ℕ → Tag
 tag v d l a = record { valid = v; dirty = d; line = l; age = a }
 
-abbrev heldAt : ℕ → ℕ → ℕ → ℕ → StoreEntry
+abbrev pub heldAt : ℕ → ℕ → ℕ → ℕ → StoreEntry
 heldAt i a w v = record { number = i; address = a; width = w; value = v }
 
-abbrev waitingLoad : ℕ → ℕ → ℕ → LoadEntry
+abbrev pub waitingLoad : ℕ → ℕ → ℕ → LoadEntry
 waitingLoad i a w = record { number = i; address = a; width = w; waiting = true }
 
-abbrev answeredLoad : ℕ → ℕ → ℕ → LoadEntry
+abbrev pub answeredLoad : ℕ → ℕ → ℕ → LoadEntry
 answeredLoad i a w = record { number = i; address = a; width = w; waiting = false }
 
 -- two sets of two ways over six lines of memory, in which byte a is a + 1
@@ -36,7 +36,7 @@ lines tags cache = record {
   memory = eachFrom (λ a x. a + 1) 0 (replicate 96 0);
 }
 
-abbrev queues : ℕ → ℕ → Request → List StoreEntry → List LoadEntry → Queues
+abbrev pub queues : ℕ → ℕ → Request → List StoreEntry → List LoadEntry → Queues
 queues last h r ss ls = record { last = last; committed = h; request = r; stores = ss; loads = ls }
 
 -- ---- the rich state
@@ -148,34 +148,3 @@ brokenClauses =
     allBut 0 ∷ allBut 1 ∷ allBut 2 ∷ allBut 3 ∷ allBut 4 ∷ allBut 5 ∷ allBut 6 ∷ allBut 7 ∷ allBut 8 ∷ allBut 9
     ∷ allBut 10 ∷ allBut 11 ∷ allBut 12 ∷ allBut 13 ∷ allBut 14 ∷ allBut 15 ∷ allBut 16 ∷ allBut 17 ∷ allBut 18
     ∷ allBut 19 ∷ allBut 20 ∷ allBut 21 ∷ set (allBut 22) 23 false ∷ allBut 23 ∷ []
-
--- ---- check 1
-
-abbrev sized : ℕ → ℕ → ℕ → ℕ → ℕ → Hierarchy
-sized sets ways size cache memory = record {
-  figures = geometry sets ways;
-  size = size;
-  tags = replicate 256 noTag;
-  cache = replicate cache 0;
-  memory = replicate memory 0;
-}
-
--- figures that are not allowed, and lent lengths that disagree
-unfoldable pub unfit : List Hierarchy
-unfit =
-    -- 0, 3 and 128 sets
-    sized 0 1 32 0 32
-    ∷ sized 3 1 32 48 32
-    ∷ sized 128 1 32 2048 32
-    -- 0 and 5 ways
-    ∷ sized 1 0 32 0 32
-    ∷ sized 1 5 32 80 32
-    -- no memory, part of a line
-    ∷ sized 1 1 0 16 0
-    ∷ sized 1 1 24 16 24
-    -- a byte too few or too many is lent
-    ∷ sized 1 1 32 15 32
-    ∷ sized 1 1 32 17 32
-    ∷ sized 1 1 32 16 31
-    ∷ sized 1 1 32 16 48
-    ∷ []

@@ -1,7 +1,7 @@
 // The declared types of the load/store model: figures, a tag record, an entry of each queue, and the miss register; and the numbers
 // that every crate names. The rules over them stand in specs/, and what is claimed of the rules is promised here by functions that do
 // nothing.
-ghost use Rattle.rules.specs.Claims.{RefusedCallsKeep, RefusalsExact, NumbersGiven, DroppedStretches, KeptWellFormed, ValuesAreRight, WaitsAreExact, FlushesAreExact, FlatMemoryIsKept};
+ghost use Rattle.rules.specs.Claims.{RefusedCallsKeep, RefusalsExact, RefusalTableHolds, NumbersGiven, DroppedStretches, KeptWellFormed, ValuesAreRight, WaitsAreExact, FlushesAreExact, FlatMemoryIsKept};
 
 // The figures of a store that a start chooses.
 pub struct Figures {
@@ -138,6 +138,11 @@ pub fn refused_calls_keep()
 // Each refusal is given exactly when its condition holds and no condition before it, in 01's order, does.
 pub fn refusals_exact()
     ensures { λ r. ⌜ RefusalsExact ⌝ }
+{}
+
+// The table of refusals: states and calls that give each refusal, beside neighbours that do not, and which comes first.
+pub fn refusal_table()
+    ensures { λ r. ⌜ RefusalTableHolds ⌝ }
 {}
 
 // The next operation number is 1 after a start, rises by 1 with each accepted load or store, and becomes n with an accepted abort n.

@@ -1,6 +1,6 @@
 -- `State::abort_accepted` meets its contract.
 use borrow.Author.Needs.{needs}
-use Rattle.rules.specs.Calls.{abortRule, squash}
+use Rattle.model.proofs.Accepted.{aborted-state}
 use Rattle.model.proofs.State.abort_accepted.Statement.{statement}
 use Rattle.model.proofs.State.abort_accepted.Tie as tie
 
@@ -14,10 +14,9 @@ sub-last : tie.Need-sub-last
 sub-last c = search needs
 
 returns : tie.Need-returns
-unfolding abortRule squash
 returns c =
     let squash-stores = c .before .squash-stores in
-    λ k m. rw (squash-stores .ensures, c .squash-loads .ensures)
+    aborted-state _ _ _ _ (squash-stores .ensures) (c .squash-loads .ensures)
 
 pub abort-accepted-spec : {M : Type 1} → statement M
 abort-accepted-spec =

@@ -4,14 +4,11 @@ use native.Mathlib.Omega.{arith}
 use denote.Ref.{now}
 use Rattle.rules.proofs.LineFacts.{fits-tells, good-tells}
 use Rattle.model.proofs.CacheLoops.{dirty-inside}
-use Rattle.model.proofs.Moves.{flush-parts}
-use native.Mathlib.Nat.{mul-le-mul}
 use Rattle.model.proofs.Facts.{fit-figures, fit-cache}
 use Rattle.rules.proofs.QueueView.{parts}
-use Rattle.rules.specs.Calls.{flushRule}
-use Rattle.rules.specs.Lines.{dirtyLines}
 use Rattle.model.proofs.Facts.{fit-figures}
 use Rattle.model.proofs.Facts.{fit-cache}
+use Rattle.model.proofs.Accepted.{flushed-state}
 use Rattle.model.proofs.State.flush_accepted.Statement.{statement}
 use Rattle.model.proofs.State.flush_accepted.Tie as tie
 
@@ -54,11 +51,10 @@ same-length : tie.Need-same-length
 same-length c = search needs
 
 returns : tie.Need-returns
-unfolding flushRule dirtyLines
 returns c =
     let dirty-count = c .before .before .before .before .before .dirty-count in
     let write-back-all = c .before .before .before .write-back-all in
-    rw (dirty-count .ensures, c .clean-all .ensures, write-back-all .ensures, flush-parts)
+    flushed-state _ _ _ _ _ _ (dirty-count .ensures) (c .clean-all .ensures) (write-back-all .ensures)
 
 pub flush-accepted-spec : {M : Type 1} → statement M
 flush-accepted-spec =

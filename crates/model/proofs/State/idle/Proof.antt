@@ -40,23 +40,30 @@ store-ready-requires c κs = search needs
 is-present-requires : tie.Need-is-present-requires
 is-present-requires c κs =
     let args = c .before .before .before .before .before .before .before .before .before .before .before .args in
+    let s = args .self in
+    let cache = now (args .cache) in
+    let memory = now (args .memory) in
     let state-refusal = c .before .before .before .before .before .before .state-refusal in
     let if1 = c .before .before .before .before .before .if1 in
-    shaped-self _ _ (fit-shaped (args .self) (now (args .cache)) (now (args .memory)) ((state-opens rules.idle _ _ _ (state-refusal .ensures) (if1 .left)) .fit))
+    shaped-self _ _ (fit-shaped s cache memory ((state-opens rules.idle _ _ _ (state-refusal .ensures) (if1 .left)) .fit))
 
 drain-oldest-requires : tie.Need-drain-oldest-requires
 unfolding lineOf
 drain-oldest-requires c κs =
     let args = c .before .before .before .before .before .before .before .before .before .before .before .before .before .before .before .args in
+    let s = args .self in
+    let cache = now (args .cache) in
+    let memory = now (args .memory) in
     let state-refusal = c .before .before .before .before .before .before .before .before .before .before .state-refusal in
     let if1 = c .before .before .before .before .before .before .before .before .before .if1 in
     let store-ready = c .before .before .before .before .before .store-ready in
     let is-present = c .before .before .before .is-present in
     let if2 = c .before .before .if2 in
     let if3 = c .before .if3 in
+    let ready = sym (store-ready .ensures ∙ ready-at s cache memory) ∙ if2 .taken in
     let o = state-opens rules.idle _ _ _ (state-refusal .ensures) (if1 .left) in
-    let f = fit-figures (args .self) (now (args .cache)) (now (args .memory)) (o .fit) in
-    (fit-shaped (args .self) (now (args .cache)) (now (args .memory)) (o .fit), oldest-fine (queuesOf (args .self)) (hierarchyOf (args .self) (now (args .cache)) (now (args .memory))) (f .most-size) (parts _ _ (o .formed)) (sym (store-ready .ensures ∙ ready-at (args .self) (now (args .cache)) (now (args .memory))) ∙ if2 .taken), refl, (sym (is-present .ensures) ∙ if3 .taken))
+    let f = fit-figures s cache memory (o .fit) in
+    (fit-shaped s cache memory (o .fit), oldest-fine (queuesOf s) (hierarchyOf s cache memory) (f .most-size) (parts _ _ (o .formed)) ready, refl, (sym (is-present .ensures) ∙ if3 .taken))
 
 same-length-3 : tie.Need-same-length-3
 same-length-3 c = search needs
@@ -68,6 +75,9 @@ returns-2 : tie.Need-returns-2
 unfolding lineOf
 returns-2 c =
     let args = c .before .before .before .before .before .before .before .before .before .before .before .before .before .before .before .before .before .before .args in
+    let s = args .self in
+    let cache = now (args .cache) in
+    let memory = now (args .memory) in
     let state-refusal = c .before .before .before .before .before .before .before .before .before .before .before .before .before .state-refusal in
     let if1 = c .before .before .before .before .before .before .before .before .before .before .before .before .if1 in
     let store-ready = c .before .before .before .before .before .before .before .before .store-ready in
@@ -75,17 +85,22 @@ returns-2 c =
     let if2 = c .before .before .before .before .before .if2 in
     let if3 = c .before .before .before .before .if3 in
     let drain-oldest = c .before .before .drain-oldest in
-    drain-oldest .ensures _ ∙ sym (none-does rules.idle _ _ (state-opens rules.idle _ _ _ (state-refusal .ensures) (if1 .left)) refl ∙ idle-drains (args .self) (now (args .cache)) (now (args .memory)) (sym (store-ready .ensures ∙ ready-at (args .self) (now (args .cache)) (now (args .memory))) ∙ if2 .taken) (sym (is-present .ensures) ∙ if3 .taken))
+    let ready = sym (store-ready .ensures ∙ ready-at s cache memory) ∙ if2 .taken in
+    let o = state-opens rules.idle _ _ _ (state-refusal .ensures) (if1 .left) in
+    drain-oldest .ensures _ ∙ sym (none-does rules.idle _ _ o refl ∙ idle-drains s cache memory ready (sym (is-present .ensures) ∙ if3 .taken))
 
 idle-request-requires : tie.Need-idle-request-requires
 unfolding lineOf
 idle-request-requires c κs =
     let args = c .before .before .before .before .before .before .before .before .before .before .before .before .before .before .args in
+    let s = args .self in
+    let cache = now (args .cache) in
+    let memory = now (args .memory) in
     let state-refusal = c .before .before .before .before .before .before .before .before .before .state-refusal in
     let if1 = c .before .before .before .before .before .before .before .before .if1 in
     let store-ready = c .before .before .before .before .store-ready in
     let is-present = c .before .before .is-present in
-    (shaped-self _ _ (fit-shaped (args .self) (now (args .cache)) (now (args .memory)) ((state-opens rules.idle _ _ _ (state-refusal .ensures) (if1 .left)) .fit)), (store-ready .ensures ∙ ready-at (args .self) (now (args .cache)) (now (args .memory))), refl, is-present .ensures)
+    (shaped-self _ _ (fit-shaped s cache memory ((state-opens rules.idle _ _ _ (state-refusal .ensures) (if1 .left)) .fit)), (store-ready .ensures ∙ ready-at s cache memory), refl, is-present .ensures)
 
 same-length-5 : tie.Need-same-length-5
 same-length-5 c = search needs
@@ -97,21 +112,28 @@ returns-3 : tie.Need-returns-3
 unfolding lineOf
 returns-3 c =
     let args = c .before .before .before .before .before .before .before .before .before .before .before .before .before .before .before .args in
+    let s = args .self in
+    let cache = now (args .cache) in
+    let memory = now (args .memory) in
     let state-refusal = c .before .before .before .before .before .before .before .before .before .before .state-refusal in
     let if1 = c .before .before .before .before .before .before .before .before .before .if1 in
     let is-present = c .before .before .before .is-present in
     let if3 = c .before .if3 in
-    c .idle-request .ensures _ _ ∙ sym (none-does rules.idle _ _ (state-opens rules.idle _ _ _ (state-refusal .ensures) (if1 .left)) refl ∙ idle-absent (args .self) (now (args .cache)) (now (args .memory)) (sym (is-present .ensures) ∙ if3 .left))
+    let o = state-opens rules.idle _ _ _ (state-refusal .ensures) (if1 .left) in
+    c .idle-request .ensures _ _ ∙ sym (none-does rules.idle _ _ o refl ∙ idle-absent s cache memory (sym (is-present .ensures) ∙ if3 .left))
 
 idle-request-requires-2 : tie.Need-idle-request-requires-2
 unfolding lineOf
 idle-request-requires-2 c κs =
     let args = c .before .before .before .before .before .before .before .before .before .before .before .before .before .args in
+    let s = args .self in
+    let cache = now (args .cache) in
+    let memory = now (args .memory) in
     let state-refusal = c .before .before .before .before .before .before .before .before .state-refusal in
     let if1 = c .before .before .before .before .before .before .before .if1 in
     let store-ready = c .before .before .before .store-ready in
     let is-present = c .before .is-present in
-    (shaped-self _ _ (fit-shaped (args .self) (now (args .cache)) (now (args .memory)) ((state-opens rules.idle _ _ _ (state-refusal .ensures) (if1 .left)) .fit)), (store-ready .ensures ∙ ready-at (args .self) (now (args .cache)) (now (args .memory))), refl, is-present .ensures)
+    (shaped-self _ _ (fit-shaped s cache memory ((state-opens rules.idle _ _ _ (state-refusal .ensures) (if1 .left)) .fit)), (store-ready .ensures ∙ ready-at s cache memory), refl, is-present .ensures)
 
 same-length-7 : tie.Need-same-length-7
 same-length-7 c = search needs
@@ -122,11 +144,16 @@ same-length-8 c = search needs
 returns-4 : tie.Need-returns-4
 returns-4 c =
     let args = c .before .before .before .before .before .before .before .before .before .before .before .before .before .before .args in
+    let s = args .self in
+    let cache = now (args .cache) in
+    let memory = now (args .memory) in
     let state-refusal = c .before .before .before .before .before .before .before .before .before .state-refusal in
     let if1 = c .before .before .before .before .before .before .before .before .if1 in
     let store-ready = c .before .before .before .before .store-ready in
     let if2 = c .before .if2 in
-    c .idle-request2 .ensures _ _ ∙ sym (none-does rules.idle _ _ (state-opens rules.idle _ _ _ (state-refusal .ensures) (if1 .left)) refl ∙ idle-unready (args .self) (now (args .cache)) (now (args .memory)) (sym (store-ready .ensures ∙ ready-at (args .self) (now (args .cache)) (now (args .memory))) ∙ if2 .left))
+    let unready = sym (store-ready .ensures ∙ ready-at s cache memory) ∙ if2 .left in
+    let o = state-opens rules.idle _ _ _ (state-refusal .ensures) (if1 .left) in
+    c .idle-request2 .ensures _ _ ∙ sym (none-does rules.idle _ _ o refl ∙ idle-unready s cache memory unready)
 
 pub idle-spec : {M : Type 1} → statement M
 idle-spec =

@@ -1,6 +1,5 @@
 -- `State::request_line` meets its contract.
 use borrow.Author.Needs.{needs}
-use mathlib.Core.Path.{refl}
 use Rattle.rules.specs.Shape.{lineOf}
 use Rattle.model.proofs.State.request_line.Statement.{statement}
 use Rattle.model.proofs.State.request_line.Tie as tie

@@ -37,7 +37,13 @@ retry-accepted-requires c κs =
     let has-waiting = c .before .before .has-waiting in
     let if2 = c .before .if2 in
     let o = state-opens rules.idle _ _ _ (state-refusal .ensures) (if1 .left) in
-    (fit-shaped (args .self) (now (args .cache)) (now (args .memory)) (o .fit), rw (c .waiting-load .ensures) (waiting-fine (queuesOf (args .self)) (hierarchyOf (args .self) (now (args .cache)) (now (args .memory))) (fit-figures (args .self) (now (args .cache)) (now (args .memory)) (o .fit) .most-size) (parts _ _ (o .formed)) _ (sym (has-waiting .ensures) ∙ if2 .taken)), c .waiting-load .ensures)
+    let s = args .self in
+    let cache = now (args .cache) in
+    let memory = now (args .memory) in
+    let small = fit-figures s cache memory (o .fit) .most-size in
+    let waits = sym (has-waiting .ensures) ∙ if2 .taken in
+    let fine = waiting-fine (queuesOf s) (hierarchyOf s cache memory) small (parts _ _ (o .formed)) _ waits in
+    (fit-shaped s cache memory (o .fit), rw (c .waiting-load .ensures) fine, c .waiting-load .ensures)
 
 refused-requires-2 : tie.Need-refused-requires-2
 refused-requires-2 c κs = search needs

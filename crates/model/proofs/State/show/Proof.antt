@@ -1,6 +1,5 @@
 -- `State::show` meets its contract.
 use borrow.Author.Needs.{needs}
-use mathlib.Core.Path.{sym}
 use Rattle.model.proofs.Moves.{show-answers}
 use Rattle.model.proofs.State.show.Statement.{statement}
 use Rattle.model.proofs.State.show.Tie as tie

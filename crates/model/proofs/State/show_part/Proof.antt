@@ -79,7 +79,11 @@ returns-3 c =
     let find = c .before .find in
     let o = state-opens (rules.show (args .address)) _ _ _ (state-refusal .ensures) (if1 .left) in
     let f = fit-shaped (args .self) (now (args .cache)) (now (args .memory)) (o .fit) in
-    (show-present _ _ _ _ (none-does _ _ _ o refl) _ (if2 .left) (sym (found-present (hierarchyOf (args .self) (now (args .cache)) (now (args .memory))) (lineOf (args .address)) _ _ (first-slot .ensures .0) (find .ensures)) ∙ lt-ltb _ _ (c .if3 .taken)) (found-slot (hierarchyOf (args .self) (now (args .cache)) (now (args .memory))) (lineOf (args .address)) _ _ (first-slot .ensures .0) (find .ensures)) (omega (arith, f .cache-long)), omega (arith, f .cache-long))
+    let b = hierarchyOf (args .self) (now (args .cache)) (now (args .memory)) in
+    let l = lineOf (args .address) in
+    let here = sym (found-present b l _ _ (first-slot .ensures .0) (find .ensures)) ∙ lt-ltb _ _ (c .if3 .taken) in
+    let slot = found-slot b l _ _ (first-slot .ensures .0) (find .ensures) in
+    (show-present _ _ _ _ (none-does _ _ _ o refl) _ (if2 .left) here slot (omega (arith, f .cache-long)), omega (arith, f .cache-long))
 
 returns-4 : tie.Need-returns-4
 unfolding lineOf

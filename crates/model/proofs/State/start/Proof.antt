@@ -3,7 +3,6 @@ use borrow.Author.Needs.{needs}
 use mathlib.Core.Path.{refl, sym, _∙_}
 use native.Mathlib.Omega.{arith}
 use borrow.Author.Tests.{eq-eqb, ne-eqb}
-use native.Mathlib.Nat.{mul-le-mul}
 use Rattle.line_checks.proofs.Figures.{figures-tell}
 use Rattle.rules.specs.Runs.{startAllowed, startAnswer, startWorld, started, unstarted}
 use Rattle.model.proofs.State.start.Statement.{statement}

@@ -1,9 +1,7 @@
 -- `write_store` meets its contract.
 use borrow.Author.Needs.{needs}
-use mathlib.Core.Path.{_≡_}
 use native.Mathlib.Omega.{arith}
 use denote.Ref.{now}
-use Prim.Native.Nat.{ℕ, _+_, _<_}
 use Rattle.rules.specs.Shape.{lineOf}
 use Rattle.model.proofs.Facts.{found-low}
 use Rattle.model.proofs.CacheLoops.{found-inside}

@@ -1,6 +1,8 @@
--- The shared table, 01's worked script, the states of well-formed, dropped stretches, and runs beside flat memory, computed.
+-- What the checker computes: the table of refusals, the shared table, 01's worked script, the states of well-formed, dropped stretches,
+-- and runs beside flat memory.
+-- Files are checked in the order of their names, this one first: an edited rule meets an example here before it meets a proof.
 use mathlib.Core.Path.{_≡_, refl}
-use mathlib.Core.Bool.{true, false}
+use mathlib.Core.Bool.{true}
 use mathlib.Core.List.{[], _∷_, _++_, map}
 use lib.ListN.{replicate}
 use Rattle.rules.specs.Shape.{geometry, fits}
@@ -12,8 +14,33 @@ use Rattle.rules.specs.Lines.{dirtyLines}
 use Rattle.rules.specs.Flat.{flatBefore, flatCommitted}
 use Rattle.lists.specs.Bytes.{valueAt}
 use Rattle.rules.specs.Examples.{table, script, whole, seenAnswers, struckAnswers, seenEnd, struckEnd, evicting, inquiring, waitingOnly, draining, otherCache, beginning, past, flatValue, twoLines, reusing, overtaken, evictedFlush}
-use Rattle.rules.specs.States.{richTags, richCache, richStores, richLoads, richQueues, richLines, clauses, broken, brokenClauses, unfit}
+use Rattle.rules.specs.States.{richTags, richCache, richStores, richLoads, richQueues, richLines, clauses, broken, brokenClauses}
+use Rattle.rules.specs.RefusalTable.{startRows, inputRows, stateRows, clauseRows, orderRows, AsStarted, AsGiven}
 use Rattle.rules.specs.Computed.{computed}
+
+-- ---- the table of refusals
+
+pub start-refusals : AsStarted startRows
+unfolding computed startRows
+start-refusals = refl
+
+pub input-refusals : AsGiven inputRows
+unfolding computed inputRows
+input-refusals = refl
+
+pub state-refusals : AsGiven stateRows
+unfolding computed stateRows
+state-refusals = refl
+
+pub clause-refusals : AsGiven clauseRows
+unfolding computed clauseRows richTags richCache richStores richLoads broken
+clause-refusals = refl
+
+pub refusals-in-order : AsGiven orderRows
+unfolding computed orderRows
+refusals-in-order = refl
+
+-- ---- the shared table, and 01's worked script
 
 -- the table: what the rules give is what 01 says, all eight examples
 pub table-holds : map (λ e. e .seen) table ≡ map (λ e. e .expected) table
@@ -41,6 +68,8 @@ pub script-answers :
 unfolding computed script
 script-answers = refl
 
+-- ---- well-formed
+
 -- the rich state keeps every clause, and check 1
 pub rich-formed : wellFormed richQueues richLines ≡ true
 unfolding computed richTags richCache richStores richLoads
@@ -50,19 +79,10 @@ pub rich-fits : fits richLines ≡ true
 unfolding computed richTags richCache richStores richLoads
 rich-fits = refl
 
--- each broken state breaks its clause alone, and is not well formed
+-- each broken state breaks its clause alone (that it is not well formed is in the table of refusals)
 pub broken-clauses : map clauses broken ≡ brokenClauses
 unfolding computed richTags richCache richStores richLoads broken brokenClauses
 broken-clauses = refl
-
-pub broken-formed : map (λ w. wellFormed (w .queues) (w .hierarchy)) broken ≡ replicate 24 false
-unfolding computed richTags richCache richStores richLoads broken brokenClauses
-broken-formed = refl
-
--- figures and lengths that check 1 refuses
-pub unfit-fits : map fits unfit ≡ replicate 11 false
-unfolding computed unfit
-unfit-fits = refl
 
 -- ---- dropped stretches
 
