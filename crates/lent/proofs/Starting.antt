@@ -1,16 +1,15 @@
 -- What the start by value hands back is what a start on a lent state leaves: the started state where it answers ready, the given
 -- state, and the cache as it was, where it refuses. And a start and a call on one state are the start and the call of the rules.
 use Prim.Native.Nat.{ℕ}
-use mathlib.Core.Path.{_≡_, refl, sym, _∙_, ap}
+use mathlib.Core.Path.{_≡_, sym, _∙_, ap}
 use mathlib.Core.Bool.{Bool, true, false}
 use mathlib.Core.List.{List}
 use Rattle.lists.proofs.Cond.{cases}
 use Rattle.rules.specs.declared.Figures.{Figures}
 use Rattle.rules.specs.Shape.{World}
-use Rattle.rules.specs.Calls.{Outcome}
 use Rattle.rules.specs.Runs as rules
 use Rattle.rules.specs.Runs.{ready, startRefused, startAllowed, startAnswer, startWorld, unstarted, outcome}
-use Rattle.model.specs.State.{worldOf, noState, outcomeOf, callOf, Does}
+use Rattle.model.specs.State.{worldOf, noState, callOf, Does}
 use Rattle.model.specs.Starts.{startAnswerOf, Starts}
 use Rattle.model.specs.declared.Answer.{Answer}
 use Rattle.model.specs.declared.Call.{Call}
@@ -39,12 +38,12 @@ module _ (f : Figures) (cache memory : List ℕ) where
         let allowed : startAllowed f cache memory ≡ true = sym answered ∙ ap isReady (sym (does .0) ∙ ap startAnswerOf told) in
         (does .0, does .1 ∙ rw allowed)
 
-    pub start-kept : (k : ℕ) → r .answer ≡ NotAllowed k → StartsIn f (worldOf s cache memory) (record { answer = NotAllowed k; state = s }) cache′ memory
+    pub start-kept : (k : ℕ) → r .answer ≡ NotAllowed k → StartsIn f (worldOf s cache memory) (record { answer = r .answer; state = s }) cache′ memory
     unfolding startedIn startWorld unstarted isReady
     start-kept k told =
         let allowed : startAllowed f cache memory ≡ false = sym answered ∙ ap isReady (sym (does .0) ∙ ap startAnswerOf told) in
         let same : cache′ ≡ cache = ap (λ (v : World). v .hierarchy .cache) (does .1) ∙ rw allowed in
-        (sym (ap startAnswerOf told) ∙ does .0, rw allowed (ap (λ (b : List ℕ). worldOf s b memory) same))
+        (does .0, rw allowed (ap (λ (b : List ℕ). worldOf s b memory) same))
 
   -- on the state that is all zero it leaves what the start by value hands back, accepted or refused
   over-none : startedIn f (worldOf noState cache memory) ≡ startWorld f cache memory

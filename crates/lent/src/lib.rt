@@ -18,10 +18,7 @@ fn started_or_kept(state: State, figures: Figures, cache: &mut [u8], memory: &[u
     let answer = r.answer;
     match answer {
         StartAnswer::Ready => r,
-        StartAnswer::NotAllowed(k) => Started {
-            answer: StartAnswer::NotAllowed(k),
-            state,
-        },
+        StartAnswer::NotAllowed(_) => Started { answer, state },
     }
 }
 

@@ -10,8 +10,8 @@ start-requires c κs = search needs
 enum-told : tie.Need-enum-told
 enum-told c = search needs
 
-enum-known-answer : tie.Need-enum-known-answer
-enum-known-answer c = search needs
+enum-told-2 : tie.Need-enum-told-2
+enum-told-2 c = search needs
 
 same-length : tie.Need-same-length
 same-length c = search needs
@@ -26,9 +26,8 @@ same-length-2 c = search needs
 
 returns-2 : tie.Need-returns-2
 returns-2 c =
-    let start = c .before .before .before .before .before .start in
-    let answer = c .before .answer in
-    start-kept _ _ _ _ (start .result) _ (start .ensures) _ (answer .given .1)
+    let start = c .before .before .before .before .start in
+    start-kept _ _ _ _ (start .result) _ (start .ensures) _ (c .enum-told2 .given .1)
 
 pub started-or-kept-spec : {M : Type 1} → statement M
 started-or-kept-spec =
@@ -36,7 +35,7 @@ started-or-kept-spec =
     (tie.spec
     start-requires
     enum-told
-    enum-known-answer
+    enum-told-2
     same-length
     returns
     same-length-2
