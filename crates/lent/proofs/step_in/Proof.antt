@@ -1,5 +1,5 @@
--- `lent_memory::call_in` meets its contract: a walk of its code, written by tools/lent_call. The borrow of the state is opened, the
--- record is copied out and passed to `State::step`, what that hands back is stored where the record stood, and the borrow is closed at it.
+-- `lent::step_in` meets its contract: a walk of its code, written by tools/lent_call. The borrow of the struct is opened, the record is
+-- copied out and passed to `State::step`, what that hands back is stored where the record stood, and the borrow is closed at it.
 use mathlib.Core.Path.{_≡_, refl, ap}
 use Prim.Native.Nat.{ℕ}
 use mathlib.Core.List.{[], _∷_, List}
@@ -40,8 +40,7 @@ use denote.Triple.Spec.{Meets, tripleOf}
 use denote.Triple.Table.{entered, cited}
 use denote.Triple.Walked.{says, Stays, stay-ref, stay-none, goes-none, gave-slice, goes-gave-slice, walkOf, AllGo, goes-ref, Walks, ends-at, walked, walk-meets}
 use denote.Exit.{yes}
-use Rattle.rules.specs.Runs.{outcome}
-use Rattle.model.specs.State.{queuesOf, hierarchyOf, outcomeOf, callOf}
+use Rattle.model.specs.State.{worldOf, callOf, Does}
 use Rattle.model.specs.declared.State.{State}
 use Rattle.model.specs.declared.Step.{Step}
 use Rattle.model.proofs.State as T
@@ -57,10 +56,10 @@ use Rattle.model.proofs.State.step as g
 use Rattle.model.proofs.State.step.Symbol as g-def
 use Rattle.model.proofs.State.step.Symbol.{name as #callee}
 use Rattle.model.proofs.State.step.Met as g-thm
-use Rattle.lent_memory.proofs.call_in.Key.{name as #own}
-use Rattle.lent_memory.proofs.call_in as f
-use Rattle.lent_memory.proofs.call_in.Statement as stated
-use Rattle.lent_memory.proofs.call_in.Code as code
+use Rattle.lent.proofs.step_in.Key.{name as #own}
+use Rattle.lent.proofs.step_in as f
+use Rattle.lent.proofs.step_in.Statement as stated
+use Rattle.lent.proofs.step_in.Code as code
 
 abbrev stayed : Stays (f.ended .signature .params) (f.ended .kept)
 stayed = (stay-ref (0 ∷ []) tt (plain (λ _. T.the-row)), (stay-none (λ _. Call-T.the-row) yes, (gave-slice (1 ∷ []) tt (plain (λ _. u8)), (gave-slice (2 ∷ []) tt (plain (λ _. u8)), tt))))
@@ -70,7 +69,7 @@ abbrev Callee : {M : Type 1} (𝓤 : URA M) (H : Heap 𝓤) (A : Atoms 𝓤) (at
 Callee 𝓤 H A at-mem run = tripleOf 𝓤 H A g.signature (g.spec 𝓤 H A at-mem run)
 
 abbrev Fact : State → Call → List ℕ → List ℕ → Step → List ℕ → List ℕ → Type 0
-Fact h call cache memory r cache′ memory′ = outcomeOf r cache′ memory′ ≡ outcome (callOf call) (queuesOf h) (hierarchyOf h cache memory)
+Fact h call cache memory r cache′ memory′ = Does (callOf call) (worldOf h cache memory) r cache′ memory′
 
 abbrev valsT : State → List Val
 valsT = LL.vals T.the-type T′.the-laws
@@ -133,7 +132,7 @@ module _ {M : Type 1} (𝓤 : URA M) (H : Heap 𝓤) (A : Atoms 𝓤) (W : Given
         move ! (23 ∷ []) $ fsplit ! $ fsplit3 ! $ drop ! $ move ! (2 ∷ []) $ fsplit ! $ drop ! $ fsplit ! $ move ! (1 ∷ []) $ fsplit ! $ move ! (1 ∷ []) $ drop ! $ move ! (26 ∷ []) $ split ! $ move ! (4 ∷ 5 ∷ 0 ∷ []) $
         opens ! tt T.the-row {h = h} b o (λ vs. spelt ! T.the-row (Is T.the-row) (shows 𝓤 H A T.the-row) valsT (LL.tells T.the-type T′.the-laws) fullShare h vs b o $
         move ! (1 ∷ []) $ peeks ! T.the-row (Is T.the-row) (shows 𝓤 H A T.the-row) h (valsT h) (λ was. move ! (1 ∷ 0 ∷ []) $
-        -- the state is copied out, and the slices are lent on
+        -- the struct is copied out, and the slices are lent on
         assigns ! (of-opd ! (load ! (from ! (hop ! (look ! 26 refl) (stop !))) (look-raw ! 0 refl))) (from ! (stop !)) (init ! 16 refl (LL.lawful T.the-type T′.the-laws 𝓤 H A W .typed h _ was .0)) $
         assigns ! (addr ! (from ! (fld ! refl (hop ! (look-in ! 22 (sub ! 0 refl (whole !))) (stop !))))) (from ! (stop !)) (init ! 14 refl (tt, tt)) $
         assigns ! (agg ! (and-then ! (load ! (from ! (stop !)) (look ! 14 refl)) (and-then ! (load ! (from ! (fld ! refl (stop !))) (look-in ! 22 (sub ! 1 refl (whole !)))) (no-more !)))) (from ! (stop !)) (init ! 12 refl (tt, (tt, (record { fits = room-cache .0 }, tt)))) $
@@ -148,7 +147,7 @@ module _ {M : Type 1} (𝓤 : URA M) (H : Heap 𝓤) (A : Atoms 𝓤) (W : Given
         fsplit ! $ drop ! $ fsplit ! $ drop ! $ fsplit ! $ fsplit ! $ move ! (1 ∷ []) $ feqL ! (λ len-cache.
         move ! (1 ∷ []) $ fsplit ! $ fsplit ! $ move ! (1 ∷ []) $ feqL ! (λ len-memory.
         move ! (1 ∷ []) $ drop ! $ move ! (2 ∷ []) $ split ! $ move ! (1 ∷ []) $ peeks ! S.the-row (Is S.the-row) (shows 𝓤 H A S.the-row) r (v ∷ []) (λ is.
-        -- the next state is stored where the last stood
+        -- the next struct is stored where the last stood
         land ! (from ! (stop !)) (init ! 19 refl (LL.lawful S.the-type S′.the-laws 𝓤 H A W .typed r _ is .0)) $
         rewrite ! 19 (λ (u : Val). ‵ (fat fullShare S′.mir l5 0 u)) (ap only (LL.tells S.the-type S′.the-laws r _ is)) refl $
         assigns ! (of-opd ! (load ! (from ! (fld ! refl (stop !))) (look-in ! 19 (sub ! 1 refl (whole !))))) (from ! (hop ! (look ! 27 refl) (stop !))) (store-raw ! 4 refl (LL.lawful T.the-type T′.the-laws 𝓤 H A W .typed (r .next) _ (next-is r _ is) .0)) $
@@ -171,9 +170,9 @@ meets : {M : Type 1} (𝓤 : URA M) (H : Heap 𝓤) (A : Atoms 𝓤) → Given �
 meets 𝓤 H A W at-mem run 𝓣 known = walk-meets 𝓤 H A f.ended stayed W (goes 𝓤 H A W at-mem run) (f.clauses 𝓤 H A at-mem run) (WpFn 𝓤 H (𝓣 .C) (𝓣 .Λ) code.function) (WpFn-mono 𝓤 H (W .laws) 𝓣 code.function)
     (walks 𝓤 H A W at-mem run (𝓣 .C) (𝓣 .Λ) (fmOf 𝓤 H (W .laws) 𝓣) known)
 
-pub call-in-spec : {M : Type 1} → stated.statement M
+pub step-in-spec : {M : Type 1} → stated.statement M
 unfolding code.routine tablesOf
-call-in-spec 𝓤 H 𝓜 𝓖 𝓡 =
+step-in-spec 𝓤 H 𝓜 𝓖 𝓡 =
     entered 𝓤 H (tripleOf 𝓤 H (𝓖 .A) f.signature (f.spec 𝓤 H (𝓖 .A) (𝓜 .mem) (𝓡 .run)))
     (tables 𝓤 H 𝓜 𝓡 code.env .C) (tables 𝓤 H 𝓜 𝓡 code.env .Λ) #own code.function (code.unfolded 𝓤 H 𝓜 𝓡)
     (meets 𝓤 H (𝓖 .A) (givenOf 𝓤 H 𝓜 𝓖) (𝓜 .mem) (𝓡 .run) (tablesOf 𝓤 H 𝓜 (tables 𝓤 H 𝓜 𝓡 code.env))
