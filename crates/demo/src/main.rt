@@ -1,9 +1,9 @@
 // A run of the model on 2 sets of 2 ways and 256 bytes of memory. Each check writes a line: its name, then `ok` or `wrong`.
 use model::Call;
-use model::Figures;
 use model::StartAnswer;
 use model::Started;
 use model::State;
+use rules::Figures;
 use rules::Tag;
 
 mod answers;
