@@ -161,20 +161,20 @@ fn abort_part(s: State, cache: &mut [u8], memory: &mut [u8]) -> State {
     c.next
 }
 
-// Number 4 goes to the next load.
-fn next_load(s: State, cache: &[u8], memory: &[u8]) -> State {
-    let a = s.load(cache, memory, ADDRESS, 1);
-    report(b"  the next load is number 4", answers::is_value(a, 4, 200));
-    a.next
+// The older load gets its value, and number 4 goes to the next load.
+fn later_loads(s: State, cache: &[u8], memory: &[u8]) -> State {
+    let a = s.retry(cache, memory, 3);
+    report(b"  retry gives the value", answers::is_value(a, 3, 65));
+    let b = a.next.load(cache, memory, ADDRESS, 1);
+    report(b"  the next load is number 4", answers::is_value(b, 4, 200));
+    b.next
 }
 
-// The calls that follow: the older load gets its line and its value, then the next load is made.
+// The calls that follow: the reply fills the line of the older load.
 fn later_part(s: State, cache: &mut [u8], memory: &mut [u8]) -> State {
     let a = s.reply(cache, memory);
     report(b"  reply fills", answers::is_filled(a, 64));
-    let b = a.next.retry(cache, memory, 3);
-    report(b"  retry gives the value", answers::is_value(b, 3, 65));
-    next_load(b.next, cache, memory)
+    later_loads(a.next, cache, memory)
 }
 
 // Whether two tag records are the same, age and all.
