@@ -1,5 +1,5 @@
-//! A bench for the tests: a state with its cache and memory, and calls that are
-//! each judged by the plain rules too.
+//! A machine for the tests: a state with its cache and memory, each of whose
+//! calls is judged by the plain rules too.
 #![allow(dead_code)]
 
 use compare::model::Right;
@@ -8,20 +8,20 @@ use compare::types::{Answer, Call, Snapshot, State};
 
 /// A state with what is lent to it.
 #[derive(Clone, Debug, PartialEq, Eq)]
-pub struct Bench {
+pub struct Judged {
     pub state: State,
     pub cache: Vec<u8>,
     pub memory: Vec<u8>,
 }
 
-impl Bench {
+impl Judged {
     /// An accepted start over memory that is found with byte a % 251 + 1 at a.
-    pub fn new(sets: u32, ways: u32, length: usize) -> Bench {
+    pub fn new(sets: u32, ways: u32, length: usize) -> Judged {
         let memory = (0..length).map(|a| (a % 251 + 1) as u8).collect();
-        let mut bench =
-            Bench { state: State::zero(), cache: vec![0xA5; (sets * ways) as usize * 16], memory };
-        assert_eq!(bench.call(Call::Start { sets, ways }), Answer::Ready);
-        bench
+        let mut judged =
+            Judged { state: State::zero(), cache: vec![0xA5; (sets * ways) as usize * 16], memory };
+        assert_eq!(judged.call(Call::Start { sets, ways }), Answer::Ready);
+        judged
     }
 
     pub fn snapshot(&self) -> Snapshot<'_> {

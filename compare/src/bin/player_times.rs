@@ -2,8 +2,8 @@
 //! outputs byte for byte. Both read a file and write a file. The time is the
 //! processor's, so that other work on the machine disturbs it little.
 //!
-//! `player_bench PROGRAM [--lines N] [--rounds N]` prints the tables; the Rust
-//! player is this program itself, started once more as `player_bench --play`.
+//! `player_times PROGRAM [--lines N] [--rounds N]` prints the tables; the Rust
+//! player is this program itself, started once more as `player_times --play`.
 
 use std::fs::{self, File};
 use std::path::{Path, PathBuf};
@@ -66,7 +66,7 @@ struct Files {
 
 impl Files {
     fn new() -> Result<Files, String> {
-        let folder = std::env::temp_dir().join(format!("player_bench_{}", std::process::id()));
+        let folder = std::env::temp_dir().join(format!("player_times_{}", std::process::id()));
         fs::create_dir_all(&folder).map_err(|error| error.to_string())?;
         Ok(Files { input: folder.join("script"), output: folder.join("output"), folder })
     }
