@@ -7,6 +7,7 @@ use rules::Figures;
 use rules::Tag;
 
 mod answers;
+mod lent_run;
 
 // The address of the run: byte 2 of the line at 48, which is line 3, in set 1.
 const ADDRESS: u32 = 50;
@@ -239,4 +240,5 @@ fn main() {
     refusal_part(flushed, &mut cache, &mut memory);
     let requested = request_part(flushed, &mut cache, &mut memory);
     trace_part(requested, cache, memory);
+    lent_run::lent_part();
 }
