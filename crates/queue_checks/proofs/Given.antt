@@ -8,7 +8,8 @@ use Rattle.rules.specs.declared.Request.the-variants.{Free, Line}
 use Rattle.rules.specs.Shape.{Queues, Hierarchy}
 use Rattle.rules.specs.Calls.{storeReady}
 use Rattle.rules.specs.WellFormed.{queueLengths, lastFits, storePasses, loadPasses, requestAbsent, requestInside, requestWanted, queuesFormed}
-use Rattle.queue_checks.specs.Good.{queuesOf, queuesWith, sized, queuesGood}
+use Rattle.access.specs.AccessChecks.{sized}
+use Rattle.queue_checks.specs.Good.{queuesFrom, queuesWith, queuesGood}
 use Rattle.queue_checks.proofs.Good.{and-true}
 
 pub ready-given : (q : Queues) → storeReady (queuesWith (q .committed) (q .stores) (q .loads)) ≡ storeReady q
@@ -20,7 +21,7 @@ unfolding requestWanted storeReady
 wanted-given Free q = refl
 wanted-given (Line l) q = refl
 
-pub good-given : (q : Queues) (b : Hierarchy) → queuesGood (queuesOf (q .last) (q .committed) (q .stores) (q .loads)) (sized (b .size)) ≡ queuesGood q b
+pub good-given : (q : Queues) (b : Hierarchy) → queuesGood (queuesFrom (q .last) (q .committed) (q .stores) (q .loads)) (sized (b .size)) ≡ queuesGood q b
 unfolding queuesGood storePasses loadPasses
 good-given q b = refl
 

@@ -1,2 +1,3 @@
-pub mod Given
 pub mod Good
+pub mod Ready
+pub mod Given
