@@ -1,3 +1,2 @@
 pub mod Good
 pub mod Ready
-pub mod Given
