@@ -1,1 +1,6 @@
-pub mod Benches
+pub mod Machines
+pub mod Values
+pub mod Kept
+pub mod Refusals
+pub mod Numbers
+pub mod Dropped

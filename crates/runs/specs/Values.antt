@@ -1,0 +1,119 @@
+-- Demand 2, said of runs of the code: each value right at its time, when a load waits, what a flush counts and leaves, and flat memory.
+use Prim.Native.Nat.{ℕ}
+use mathlib.Core.Path.{_≡_}
+use mathlib.Core.Bool.{true, false}
+use mathlib.Core.List.{List, [], _∷_, _++_}
+use Rattle.lists.specs.Padded.{filter}
+use Rattle.rules.specs.Lines.{dirtyLines}
+use Rattle.rules.specs.Flat.{below, flatOf, applied, appliedAll, heldStores, flatWithHeld, flatCommitted}
+use Rattle.rules.specs.Values.{RightValue, lacksByte, waitingLoad, InquiryAbout, dirtyInUse}
+use Rattle.model.specs.declared.Call.{Call}
+use Rattle.model.specs.declared.Call.the-variants.{Load, Store, Retry, Commit, Abort, Idle, Reply, Flush, Show}
+use Rattle.model.specs.declared.Answer.the-variants.{Value, Waits, Flushed}
+use Rattle.runs.specs.Machines.{Machine, Made, worldAt, numberAt, left, end, callMade, acceptedCall, historyBy, EachMade, EveryCall, RunClaim, RunsAfterStart, RunsFromState}
+
+-- ---- every value is right, at its time
+
+-- a value v that the code answers as operation i is what flat memory holds at the bytes of load i: memory as found with the stores
+-- applied that the run made before operation i and did not abort
+abbrev pub EachValueRight : RunClaim
+EachValueRight found h m run =
+    EachMade run (λ before c. (i v : ℕ) → c .gave .answer ≡ Value i v → RightValue found (historyBy h (before ++ c ∷ [])) (callMade c) i v)
+
+-- demand 2: every value that the code answers
+pub record ValuesOfCode : Type 0 where
+  pub after-start : RunsAfterStart EachValueRight
+  pub from-state : RunsFromState EachValueRight
+
+-- ---- a load waits exactly if a byte is lacking, at its time
+
+-- what the call c on m answers as operation i, for the n bytes from a on
+pub record GivesWaits (i a n : ℕ) (m : Machine) (c : Made) : Type 0 where
+  -- "waits" only if some byte is in no older held store and its line is absent, and whenever it is so
+  pub only : (j : ℕ) → c .gave .answer ≡ Waits j → lacksByte i (worldAt m) a n ≡ true
+  pub whenever : lacksByte i (worldAt m) a n ≡ true → c .gave .answer ≡ Waits i
+  -- else a value
+  pub otherwise : lacksByte i (worldAt m) a n ≡ false → (v : ℕ) × (c .gave .answer ≡ Value i v)
+
+-- an accepted load, as the next operation number
+abbrev pub LoadGivesWaits : Machine → Made → Type 0
+LoadGivesWaits m c =
+    (a n : ℕ) → c .call ≡ Load a n → acceptedCall c ≡ true → GivesWaits (numberAt m) a n m c
+
+-- an accepted inquiry, for the bytes of the waiting load of that number
+abbrev pub RetryGivesWaits : Machine → Made → Type 0
+RetryGivesWaits m c =
+    (i : ℕ) → c .call ≡ Retry i → acceptedCall c ≡ true
+    → GivesWaits i (waitingLoad i (worldAt m) .address) (waitingLoad i (worldAt m) .width) m c
+
+-- which is the latest load that the run was given as number i
+abbrev pub EachInquiryRight : RunClaim
+EachInquiryRight found h m run =
+    EachMade run (λ before c. (i : ℕ) → c .call ≡ Retry i → acceptedCall c ≡ true → InquiryAbout (historyBy h before) i (worldAt (end m before)))
+
+-- demand 2: an accepted load or inquiry waits exactly if a byte of it is lacking
+pub record WaitsOfCode : Type 0 where
+  pub by-load : EveryCall LoadGivesWaits
+  pub by-inquiry : EveryCall RetryGivesWaits
+  pub after-start : RunsAfterStart EachInquiryRight
+  pub from-state : RunsFromState EachInquiryRight
+
+-- ---- flush
+
+-- an accepted flush c on m
+pub record FlushGives (m : Machine) (c : Made) : Type 0 where
+  -- it answers the number of dirty records before it, all of them in use;
+  pub counts : c .gave .answer ≡ Flushed (dirtyLines (worldAt m .hierarchy))
+  pub in-use : dirtyLines (worldAt m .hierarchy) ≡ dirtyInUse (worldAt m .hierarchy)
+  -- after it no record is dirty, and memory is flat memory
+  pub cleans : dirtyLines (worldAt (left c) .hierarchy) ≡ 0
+  pub flattens : c .memory ≡ flatOf (worldAt m .hierarchy)
+
+abbrev pub FlushMade : Machine → Made → Type 0
+FlushMade m c = c .call ≡ Flush → acceptedCall c ≡ true → FlushGives m c
+
+-- every accepted flush of the run leaves memory as found with exactly the committed stores applied
+abbrev pub EachFlushRight : RunClaim
+EachFlushRight found h m run =
+    EachMade run (λ before c. c .call ≡ Flush → acceptedCall c ≡ true → c .memory ≡ flatCommitted (historyBy h before) found)
+
+-- demand 2: what an accepted flush counts, cleans and leaves in memory
+pub record FlushesOfCode : Type 0 where
+  pub by-flush : EveryCall FlushMade
+  pub after-start : RunsAfterStart EachFlushRight
+  pub from-state : RunsFromState EachFlushRight
+
+-- ---- flat memory
+
+-- flat memory of a machine, with its held stores on top in number order
+abbrev pub flatAt : Machine → List ℕ
+flatAt m = flatWithHeld (worldAt m)
+
+-- what an accepted call on m that leaves d does to it: a store gains itself,
+abbrev pub FlatMoves : Call → Machine → Machine → Type 0
+FlatMoves (Load a n) m d = flatAt d ≡ flatAt m
+FlatMoves (Store a n v) m d =
+    flatAt d ≡ applied (record { number = numberAt m; address = a; width = n; value = v }) (flatAt m)
+FlatMoves (Retry i) m d = flatAt d ≡ flatAt m
+FlatMoves (Commit k) m d = flatAt d ≡ flatAt m
+-- an abort drops the held stores numbered n or more,
+FlatMoves (Abort n) m d =
+    (flatOf (worldAt d .hierarchy) ≡ flatOf (worldAt m .hierarchy)) × (heldStores (worldAt d) ≡ filter (below n) (heldStores (worldAt m)))
+-- and every other call leaves it as it was
+FlatMoves Idle m d = flatAt d ≡ flatAt m
+FlatMoves Reply m d = flatAt d ≡ flatAt m
+FlatMoves Flush m d = flatAt d ≡ flatAt m
+FlatMoves (Show a) m d = flatAt d ≡ flatAt m
+
+abbrev pub FlatMoved : Machine → Made → Type 0
+FlatMoved m c = acceptedCall c ≡ true → FlatMoves (c .call) m (left c)
+
+-- after a run it is memory as found with every store of the run applied that is not aborted
+abbrev pub FlatAtEnd : RunClaim
+FlatAtEnd found h m run = flatAt (end m run) ≡ appliedAll (historyBy h run .stores) found
+
+-- demand 2: flat memory, after each accepted call and after a run
+pub record FlatMemoryOfCode : Type 0 where
+  pub by-call : EveryCall FlatMoved
+  pub after-start : RunsAfterStart FlatAtEnd
+  pub from-state : RunsFromState FlatAtEnd
