@@ -6,12 +6,13 @@ use mathlib.Core.Option.{Option, some, none}
 use lib.Dec.{ltb, leb, eqb}
 use lib.ListN.{length}
 use Rattle.lists.specs.Padded.{every}
-use Rattle.rules.specs.Shape.{topNumber}
+use Rattle.rules.specs.Shape.{topNumber, geometry}
 use Rattle.rules.specs.Calls.{Call, load, store, retry, commit, abort, idle, reply, flush}
+use Rattle.rules.specs.declared.Figures.{Figures}
 
--- what a line asks for: a start (sets, ways, memory), or a call
+-- what a line asks for: a start (its figures and the memory length), or a call
 pub data Command : Type 0 where
-  start : ℕ → ℕ → ℕ → Command
+  start : Figures → ℕ → Command
   make : Call → Command
 
 -- ---- bytes
@@ -29,6 +30,10 @@ isDigit b = leb 48 b && leb b 57
 -- "at most 64 bytes before it"
 abbrev pub longestLine : ℕ
 longestLine = 64
+
+-- what is held of a line: one byte more than the longest has, which tells that it is longer
+abbrev pub heldBytes : ℕ
+heldBytes = longestLine + 1
 
 -- ---- words: "separated by one space"
 
@@ -77,7 +82,7 @@ withTwo c a w = cond (eqb c 76) (some (make (load a w))) none
 
 -- with three: G sets ways memory, S (store) address width value
 abbrev pub withThree : ℕ → ℕ → ℕ → ℕ → Option Command
-withThree c x y z = cond (eqb c 71) (some (start x y z)) (cond (eqb c 83) (some (make (store x y z))) none)
+withThree c x y z = cond (eqb c 71) (some (start (geometry x y) z)) (cond (eqb c 83) (some (make (store x y z))) none)
 
 abbrev pub named : ℕ → Option (List ℕ) → Option Command
 named c none = none
