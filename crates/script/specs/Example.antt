@@ -1,4 +1,4 @@
--- 01's example, whole lines that are no line, and lines that just are.
+-- 01's example, an input at the edges, lines that are no command, and lines that just are one.
 use Prim.Native.Nat.{ℕ}
 use Prim.Native.Char.{code}
 use mathlib.Core.List.{List, [], _∷_, _++_}
@@ -62,7 +62,7 @@ badLines =
     (bytesOf "A " ++ replicate 62 (code "0") ++ bytesOf "1") ∷
     []
 
--- ---- lines that just are
+-- ---- lines that just are commands
 
 -- 64 bytes: A, a space, 61 zeros and 1
 abbrev pub longLine : List ℕ

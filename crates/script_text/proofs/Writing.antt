@@ -32,7 +32,7 @@ wrote-then {at} {p} {q} {xs} {ys} {l} {m} {o} f g =
       next = omega (arith, length-append xs ys);
     }
 
--- a turn of a loop that copies a word
+-- a step of a loop that copies a word
 pub word-more : (word l : List ℕ) (at i : ℕ) → i < length word → set (sets l at (take i word)) (at + i) (getD word i 0) ≡ sets l at (take (i + 1) word)
 word-more word l at i h =
     sym (rw (add-one, take-suc word i 0 h) (sets-append (take i word) (getD word i 0 ∷ []) l at ∙ rw (length-take-le i word (omega arith))))
