@@ -16,7 +16,8 @@ use Rattle.rules.specs.Shape.{Queues, Hierarchy, fits, topNumber}
 use Rattle.rules.specs.Calls.{guarded, storeReady}
 use Rattle.rules.specs.WellFormed.{freeZero, freePlacesLast, committedUpToLast, numbersRise, numbersUpToLast, numbersApart, accessesPass, committedWait, waitingUncovered, storePasses, loadPasses, requestAbsent, requestInside, requestWanted, linesFormed, queuesFormed, wellFormed}
 use Rattle.rules.specs.Runs.{stateChecks}
-use Rattle.queue_checks.specs.Good.{queuesGood, queuesWith, sized}
+use Rattle.queue_checks.specs.Good.{queuesGood, queuesWith}
+use Rattle.access.specs.AccessChecks.{sized}
 use Rattle.model.specs.Tables.{tabled, usedTags}
 use Rattle.model.proofs.CacheLoops.{used-line}
 use Rattle.model.specs.State.{queuesOf, hierarchyOf}
@@ -89,7 +90,7 @@ module _ (s : State) (cache memory : List ℕ) where
 
   pub request-at :
       (r : Request)
-      → (requestAbsent r (tabled (s .sets) (s .ways) (s .tags)) && (requestInside r (sized (s .size)) && requestWanted r (queuesOf s)))
+      → (requestAbsent r (tabled (s .figures) (s .tags)) && (requestInside r (sized (s .size)) && requestWanted r (queuesOf s)))
       ≡ (requestAbsent r (hierarchyOf s cache memory) && (requestInside r (hierarchyOf s cache memory) && requestWanted r (queuesOf s)))
   unfolding requestAbsent requestInside present slotOf
   request-at Free = refl
@@ -104,10 +105,10 @@ module _ (s : State) (cache memory : List ℕ) where
   unfolding storeReady
   ready-at = refl
 
-  pub present-at : (l : ℕ) → present (tabled (s .sets) (s .ways) (s .tags)) l ≡ present (hierarchyOf s cache memory) l
+  pub present-at : (l : ℕ) → present (tabled (s .figures) (s .tags)) l ≡ present (hierarchyOf s cache memory) l
   unfolding present slotOf
   present-at l = refl
 
   -- the records of a used line
-  pub used-at : (l : ℕ) → useLine l (hierarchyOf s cache memory) ≡ record { sets = s .sets; ways = s .ways; size = s .size; tags = usedTags (s .sets) (s .ways) l (s .tags); cache = cache; memory = memory }
+  pub used-at : (l : ℕ) → useLine l (hierarchyOf s cache memory) ≡ record { figures = s .figures; size = s .size; tags = usedTags (s .figures) l (s .tags); cache = cache; memory = memory }
   used-at l = used-line l (hierarchyOf s cache memory)

@@ -7,11 +7,10 @@ use Rattle.model.proofs.State.drain_oldest.Tie as tie
 
 write-store-requires : tie.Need-write-store-requires
 write-store-requires c κs =
-    let p = c .before .before .before .before .pre in
+    let p = c .before .before .before .before .before .pre in
     record {
       some-set = p .0 .some-set;
-      most-sets = p .0 .most-sets;
-      most-ways = p .0 .most-ways;
+      room = p .0 .room;
       cache-long = p .0 .cache-long;
       narrow = p .1 .narrow;
       one-line = p .1 .one-line;
@@ -26,9 +25,10 @@ same-length c = search needs
 
 returns : tie.Need-returns
 returns c =
-    let b = c .before .before .before .before .before .before .before .before in
+    let args = c .before .before .before .before .before .before .before .before .before .args in
+    let pre = c .before .before .before .before .before .before .before .before .before .pre in
     let write-store = c .before .before .before .write-store in
-    λ m. drained-state (b .args .self) (now (b .args .cache)) m (b .args .s) _ _ _ (b .pre .2) (write-store .ensures) (c .pop-store .ensures)
+    λ m. drained-state (args .self) (now (args .cache)) m (args .s) _ _ _ (pre .2) (write-store .ensures) (c .pop-store .ensures)
 
 pub drain-oldest-spec : {M : Type 1} → statement M
 drain-oldest-spec = tie.close (tie.spec write-store-requires pop-store-requires same-length returns)

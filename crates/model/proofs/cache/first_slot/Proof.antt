@@ -2,7 +2,7 @@
 use mathlib.Core.Path.{refl}
 use native.Mathlib.Omega.{arith}
 use borrow.Author.Needs.{needs}
-use Rattle.model.proofs.CacheLoops.{slots-room, table-room}
+use Rattle.model.proofs.CacheLoops.{slots-room}
 use Rattle.model.proofs.cache.first_slot.Statement.{statement}
 use Rattle.model.proofs.cache.first_slot.Tie as tie
 
@@ -11,15 +11,21 @@ rem-result c = search needs
 
 mul-result : tie.Need-mul-result
 mul-result c =
-    omega (arith, slots-room (c .args .sets) (c .args .ways) (c .args .line) (c .pre .0), table-room (c .args .sets) (c .args .ways) (c .pre .1) (c .pre .2))
+    let args = c .before .before .args in
+    let pre = c .before .before .pre in
+    omega (arith, slots-room (args .figures) (args .line) (pre .0))
 
 cast-result : tie.Need-cast-result
 cast-result c =
-    omega (arith, slots-room (c .args .sets) (c .args .ways) (c .args .line) (c .pre .0), table-room (c .args .sets) (c .args .ways) (c .pre .1) (c .pre .2))
+    let args = c .before .before .args in
+    let pre = c .before .before .pre in
+    omega (arith, slots-room (args .figures) (args .line) (pre .0))
 
 returns : tie.Need-returns
 returns c =
-    (refl, slots-room (c .args .sets) (c .args .ways) (c .args .line) (c .pre .0), table-room (c .args .sets) (c .args .ways) (c .pre .1) (c .pre .2))
+    let args = c .before .before .args in
+    let pre = c .before .before .pre in
+    (refl, slots-room (args .figures) (args .line) (pre .0), pre .1)
 
 pub first-slot-spec : {M : Type 1} → statement M
 first-slot-spec = tie.close (tie.spec rem-result mul-result cast-result returns)

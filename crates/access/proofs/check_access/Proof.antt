@@ -1,14 +1,10 @@
 -- `check_access` meets its contract: each return by the tests that led there.
 use mathlib.Core.Path.{sym, _∙_}
-use Prim.Native.Nat.{_<_}
 use native.Mathlib.Omega.{arith}
 use borrow.Author.Needs.{needs}
-use Rattle.rules.specs.Calls.{guarded}
-use Rattle.model.specs.State.{checkedAccess}
-use Rattle.model.proofs.Calls.{access-uneven, access-out, access-in}
-use Rattle.model.proofs.Facts.{width-cases}
-use Rattle.model.proofs.access.check_access.Statement.{statement}
-use Rattle.model.proofs.access.check_access.Tie as tie
+use Rattle.access.proofs.AccessChecks.{width-some, access-width, access-uneven, access-out, access-in}
+use Rattle.access.proofs.check_access.Statement.{statement}
+use Rattle.access.proofs.check_access.Tie as tie
 
 width-allowed-requires : tie.Need-width-allowed-requires
 width-allowed-requires c κs = search needs
@@ -16,7 +12,7 @@ width-allowed-requires c κs = search needs
 rem-if2 : tie.Need-rem-if2
 rem-if2 c =
     let width-allowed = c .before .width-allowed in
-    width-cases (λ w. 0 < w) (omega arith) (omega arith) (omega arith) _ (sym (width-allowed .ensures) ∙ c .if1 .taken)
+    width-some _ (sym (width-allowed .ensures) ∙ c .if1 .taken)
 
 returns : tie.Need-returns
 returns c =
@@ -46,10 +42,9 @@ returns-4 c =
     access-in _ _ _ (sym (width-allowed .ensures) ∙ if1 .taken) (if2 .left) (omega arith)
 
 returns-5 : tie.Need-returns-5
-unfolding checkedAccess guarded
 returns-5 c =
     let width-allowed = c .before .width-allowed in
-    rw (sym (width-allowed .ensures) ∙ c .if1 .left)
+    access-width _ _ _ (sym (width-allowed .ensures) ∙ c .if1 .left)
 
 pub check-access-spec : {M : Type 1} → statement M
 check-access-spec =
