@@ -51,9 +51,11 @@ byte-alike b p q (r, l) =
     let t = ap₂ effect (same-command (p .line) (q .line) l) r in
     cases (eqb b lineFeed)
     (λ e. rw e ((ap (λ (u : script.Effect). u .run) t, refl), ap (λ (u : script.Effect). u .says) t))
-    (λ e. rw e ((r, take-front heldBytes (p .line) (b ∷ []) ∙ ap (λ (k : List ℕ). take heldBytes (k ++ (b ∷ []))) l ∙ sym (take-front heldBytes (q .line) (b ∷ []))), refl))
+    (λ e. let more = ap (λ (k : List ℕ). take heldBytes (k ++ (b ∷ []))) l in
+    rw e ((r, take-front heldBytes (p .line) (b ∷ []) ∙ more ∙ sym (take-front heldBytes (q .line) (b ∷ []))), refl))
 
-bytes-alike : (bs : List ℕ) (p q : script.Player) (l : Lent) → Alike p q → Alike (afterBytes bs p) (afterBytes bs q) × (output bs p ≡ output bs q) × (lentAfter bs p l ≡ lentAfter bs q l)
+bytes-alike : (bs : List ℕ) (p q : script.Player) (l : Lent) → Alike p q
+    → Alike (afterBytes bs p) (afterBytes bs q) × (output bs p ≡ output bs q) × (lentAfter bs p l ≡ lentAfter bs q l)
 unfolding afterBytes output lentAfter
 bytes-alike [] p q l a = (a, refl, refl)
 bytes-alike (b ∷ bs) p q l a =
@@ -118,31 +120,39 @@ plays-on input i next h {s} {s′} {s″} f g =
 
 -- ---- up to the end of a line
 
-other-byte : (b : ℕ) (p : script.Player) → eqb b lineFeed ≡ false → (byteOutput b p ≡ []) × (afterByte b p ≡ record { run = p .run; line = p .line ++ (b ∷ []) })
+other-byte : (b : ℕ) (p : script.Player) → eqb b lineFeed ≡ false
+    → (byteOutput b p ≡ []) × (afterByte b p ≡ record { run = p .run; line = p .line ++ (b ∷ []) })
 unfolding byteOutput afterByte
 other-byte b p e = (rw e, rw e)
 
+-- the bytes before the first LF
+abbrev unfed : List ℕ → List ℕ
+unfed bs = take (position isFeed bs) bs
+
 module _ (l : Lent) where
-  -- the bytes before the first LF lengthen the line, and do nothing else
+  -- they lengthen the line, and do nothing else
   piece : (bs : List ℕ) (p : script.Player)
-      → (output (take (position isFeed bs) bs) p ≡ []) × (afterBytes (take (position isFeed bs) bs) p ≡ record { run = p .run; line = p .line ++ take (position isFeed bs) bs }) × (lentAfter (take (position isFeed bs) bs) p l ≡ l)
+      → (output (unfed bs) p ≡ []) × (afterBytes (unfed bs) p ≡ record { run = p .run; line = p .line ++ unfed bs }) × (lentAfter (unfed bs) p l ≡ l)
   unfolding position output afterBytes lentAfter
   piece [] p = (refl, ap (λ (k : List ℕ). record { run = p .run; line = k }) (sym (append-nil (p .line))), refl)
   piece (b ∷ bs) p = cases (eqb b lineFeed)
       (λ e. rw e (refl, ap (λ (k : List ℕ). record { run = p .run; line = k }) (sym (append-nil (p .line))), refl))
       (λ e. let i = piece bs (afterByte b p) in
       let h = other-byte b p e in
-      let xs = take (position isFeed bs) bs in
+      let xs = unfed bs in
       let more : position isFeed (b ∷ bs) ≡ suc (position isFeed bs) = rw e in
       rw more (
         ap₂ (λ (x y : List ℕ). x ++ y) (h .0) (i .0),
-        i .1 ∙ ap (λ (q : script.Player). record { run = q .run; line = q .line ++ xs }) (h .1) ∙ ap (λ (k : List ℕ). record { run = p .run; line = k }) (append-assoc (p .line) (b ∷ []) xs),
+        i .1 ∙ ap (λ (q : script.Player). record { run = q .run; line = q .line ++ xs }) (h .1)
+            ∙ ap (λ (k : List ℕ). record { run = p .run; line = k }) (append-assoc (p .line) (b ∷ []) xs),
         ap (λ (t : Bool). lentAfter xs (afterByte b p) (cond t (laidIn (afterByte b p .run) l) l)) e ∙ i .2,
       ))
 
   -- the LF behind them
   feed : (p : script.Player)
-      → (output (lineFeed ∷ []) p ≡ effect (commandOf (p .line)) (p .run) .says) × (afterBytes (lineFeed ∷ []) p ≡ record { run = effect (commandOf (p .line)) (p .run) .run; line = [] }) × (lentAfter (lineFeed ∷ []) p l ≡ laidIn (effect (commandOf (p .line)) (p .run) .run) l)
+      → (output (lineFeed ∷ []) p ≡ effect (commandOf (p .line)) (p .run) .says)
+      × (afterBytes (lineFeed ∷ []) p ≡ record { run = effect (commandOf (p .line)) (p .run) .run; line = [] })
+      × (lentAfter (lineFeed ∷ []) p l ≡ laidIn (effect (commandOf (p .line)) (p .run) .run) l)
   unfolding output afterBytes lentAfter byteOutput afterByte
   feed p = (append-nil _, refl, refl)
 
@@ -424,7 +434,8 @@ module _ (p : Player) (at : ℕ) (out : List ℕ) (len : length (p .line) ≡ he
 
 -- ---- a whole input
 
-end-short : (run : Option World) (line : List ℕ) → atEnd (record { run = run; line = take heldBytes line }) ≡ atEnd (record { run = run; line = line })
+end-short : (run : Option World) (line : List ℕ)
+    → atEnd (record { run = run; line = take heldBytes line }) ≡ atEnd (record { run = run; line = line })
 unfolding atEnd
 end-short run [] = refl
 end-short run (b ∷ line) =
@@ -435,5 +446,7 @@ unfolding played
 chunks-played =
     record {
       joined = λ xs ys out at f g. chunks-join xs ys out at f g;
-      ended = λ bytes e f. ap (λ (k : List ℕ). output bytes newPlayer ++ k) (ap atEnd (f .player-after ∙ ap (λ (p : script.Player). shortened (afterBytes bytes p)) e) ∙ end-short _ _);
+      ended = λ bytes e f.
+          let after = f .player-after ∙ ap (λ (p : script.Player). shortened (afterBytes bytes p)) e in
+          ap (λ (k : List ℕ). output bytes newPlayer ++ k) (ap atEnd after ∙ end-short _ _);
     }

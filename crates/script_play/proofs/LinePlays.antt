@@ -12,10 +12,10 @@ use lib.Seq.{sets, sets-eq, take-at, length-take-le}
 use borrow.Author.Tests.{ne-eqb, le-leb, lt-leb, leb-true, leb-false}
 use Rattle.lists.proofs.Cond.{cases, either, and-left, and-right, wrong}
 use Rattle.rules.specs.declared.Figures.{Figures}
-use Rattle.rules.specs.Shape.{World, world, holding, lineBytes, setsAllowed, waysAllowed, figuresAllowed}
+use Rattle.rules.specs.Shape.{World, world, lineBytes, setsAllowed, waysAllowed, figuresAllowed}
 use Rattle.rules.specs.Calls.{Outcome}
 use Rattle.rules.specs.Calls as rules
-use Rattle.rules.specs.Runs.{StartAnswer, ready, startRefused, started, startAllowed, unstarted, startAnswer, startWorld, outcome, answer, next}
+use Rattle.rules.specs.Runs.{ready, startRefused, started, startAllowed, unstarted, startAnswer, startWorld, outcome, answer, next}
 use Rattle.model.specs.State.{queuesOf, hierarchyOf, worldOf, outcomeOf, answerOf, callOf}
 use Rattle.model.specs.declared.State.{State}
 use Rattle.model.specs.declared.Step.{Step}

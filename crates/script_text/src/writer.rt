@@ -1,7 +1,6 @@
 // The line that answers, written into a lent buffer.
-ghost use mathlib.Core.Path.{_≡_};
-ghost use mathlib.Core.List.{List, [], _∷_};
-ghost use Prim.Native.Nat.{ℕ, _+_, _≤_, _<_};
+ghost use mathlib.Core.List.{[], _∷_};
+ghost use Prim.Native.Nat.{_+_, _≤_, _<_};
 ghost use lib.ListN.{length};
 ghost use Rattle.script.specs.Commands.{space};
 ghost use Rattle.script.specs.Words.{printed, said, valueWord, answerLine, readyLine};

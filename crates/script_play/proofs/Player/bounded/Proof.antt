@@ -14,8 +14,8 @@ use Rattle.script_play.proofs.Player.bounded.Tie as tie
 
 returns : tie.Need-returns
 returns c =
+    let l : length (c .before .before .before .before .args .self .line) ≡ heldBytes = search (needs, length-of) in
     let p = c .before .before .before .before .args .self in
-    let l : length (p .line) ≡ heldBytes = search (needs, length-of) in
     let same = held-same (p .line) (p .length) l (c .if1 .taken) in
     (omega arith, λ cache memory. ap (λ (x : List ℕ). record { run = runOf (p .started) (p .state) cache memory; line = x }) same)
 

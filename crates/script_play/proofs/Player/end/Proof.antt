@@ -12,7 +12,8 @@ use Rattle.script_play.proofs.Player.end.Tie as tie
 returns : tie.Need-returns
 returns c =
     let l : length (c .before .before .before .args .self .line) ≡ heldBytes = search (needs, length-of) in
-    ends-empty (c .before .before .before .args .self) (c .before .before .before .args .at) (c .before .before .before .args .out .now) l (c .if1 .taken)
+    let args = c .before .before .before .args in
+    ends-empty (args .self) (args .at) (args .out .now) l (c .if1 .taken)
 
 write-answer-requires : tie.Need-write-answer-requires
 write-answer-requires c κs = search needs
@@ -24,7 +25,10 @@ returns-2 : tie.Need-returns-2
 unfolding answerLine
 returns-2 c =
     let l : length (c .before .before .before .before .before .before .before .args .self .line) ≡ heldBytes = search (needs, length-of) in
-    ends-refused (c .before .before .before .before .before .before .before .args .self) (c .before .before .before .before .before .before .before .args .at) (c .before .before .before .before .before .before .before .args .out .now) l (c .before .before .before .before .if1 .left) (c .before .before .write-answer .ensures)
+    let args = c .before .before .before .before .before .before .before .args in
+    let if1 = c .before .before .before .before .if1 in
+    let write-answer = c .before .before .write-answer in
+    ends-refused (args .self) (args .at) (args .out .now) l (if1 .left) (write-answer .ensures)
 
 pub end-spec : {M : Type 1} → statement M
 end-spec = tie.close (tie.spec returns write-answer-requires same-length returns-2)

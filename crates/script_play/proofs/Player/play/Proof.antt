@@ -52,11 +52,13 @@ returns c =
 
 returns-2 : tie.Need-returns-2
 returns-2 c =
-    let p = c .before .before .before .before .before .before .args .self in
-    let l : length (p .line) ≡ heldBytes = search (needs, length-of) in
-    let s = playerAt p (c .before .before .before .before .before .before .args .cache .now) (c .before .before .before .before .before .before .args .memory .now) (c .before .before .before .before .before .before .args .out .now) 0 in
-    let short = sym (roomy-tells (c .before .before .before .before .before .before .args .input .now) s (c .before .is-roomy .result) (c .before .is-roomy .ensures)) ∙ c .if1 .left in
-    none-played (c .before .before .before .before .before .before .args .input .now) p (c .before .before .before .before .before .before .args .cache .now) (c .before .before .before .before .before .before .args .memory .now) (c .before .before .before .before .before .before .args .out .now) l short
+    let l : length (c .before .before .before .before .before .before .args .self .line) ≡ heldBytes = search (needs, length-of) in
+    let args = c .before .before .before .before .before .before .args in
+    let is-roomy = c .before .is-roomy in
+    let input = args .input .now in
+    let s = playerAt (args .self) (args .cache .now) (args .memory .now) (args .out .now) 0 in
+    let short = sym (roomy-tells input s (is-roomy .result) (is-roomy .ensures)) ∙ c .if1 .left in
+    none-played input (args .self) (args .cache .now) (args .memory .now) (args .out .now) l short
 
 pub play-spec : {M : Type 1} → statement M
 play-spec =

@@ -82,15 +82,22 @@ add-t9 c =
 
 returns : tie.Need-returns Inv-loop μ-loop
 returns c =
-    let line = c .before .before .before .before .args .line in
-    let rest = drop (c .before .before .before .before .args .from) (c .before .before .before .before .args .input .now) in
-    let n = c .before .before .room-for .result in
-    let len : length line ≡ heldBytes = search needs in
-    let last : c .before .loop .i ≡ n = omega arith in
-    let written : c .before .loop .bytes ≡ sets line (c .before .before .before .before .args .held) (take n rest) = c .before .loop .inv .1 ∙ ap (λ (k : ℕ). sets line (c .before .before .before .before .args .held) (take k rest)) last in
+    let len : length (c .before .before .before .before .args .line) ≡ heldBytes = search needs in
+    let args = c .before .before .before .before .args in
+    let pre = c .before .before .before .before .pre in
+    let room-for = c .before .before .room-for in
+    let loop = c .before .loop in
+    let line = args .line in
+    let rest = drop (args .from) (args .input .now) in
+    let n = room-for .result in
+    let d = args .end - args .from in
+    let last : loop .i ≡ n = omega arith in
+    let written : loop .bytes ≡ sets line (args .held) (take n rest) =
+    loop .inv .1 ∙ ap (λ (k : ℕ). sets line (args .held) (take k rest)) last in
+    let long : d ≤ length rest = omega (arith, length-drop (args .from) (args .input .now)) in
     record {
-      bytes = ap (take (c .before .before .before .before .args .held + n)) written ∙ held-all (c .before .before .before .before .args .held) (c .before .before .before .before .args .end - c .before .before .before .before .args .from) n (c .before .before .before .before .pre .0) (c .before .before .room-for .ensures) line rest len (omega (arith, length-drop (c .before .before .before .before .args .from) (c .before .before .before .before .args .input .now)));
-      short = room-bounds (c .before .before .before .before .args .held) (c .before .before .before .before .args .end - c .before .before .before .before .args .from) n (c .before .before .before .before .pre .0) (c .before .before .room-for .ensures) .1;
+      bytes = ap (take (args .held + n)) written ∙ held-all (args .held) d n (pre .0) (room-for .ensures) line rest len long;
+      short = room-bounds (args .held) d n (pre .0) (room-for .ensures) .1;
     }
 
 pub hold-spec : {M : Type 1} → statement M

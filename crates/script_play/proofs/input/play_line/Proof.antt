@@ -3,7 +3,6 @@ use Rattle.model.proofs.Facts.{length-of}
 use lib.Seq.{length-take-le}
 use lib.ListN.{length}
 use Rattle.script.specs.Commands.{heldBytes}
-use Prim.Native.Nat.{_<_}
 use mathlib.Core.Path.{_≡_, sym}
 use Rattle.script_play.proofs.InputPlays.{end-bounds, end-before, piece-held, line-played}
 use Rattle.script_text.specs.Reader.{askedOf}
@@ -35,12 +34,14 @@ returns c =
 array-share-prefix-bytes : tie.Need-array-share-prefix-bytes
 array-share-prefix-bytes c =
     let l : length (c .before .before .before .hold .result .line) ≡ heldBytes = search (needs, length-of) in
-    omega (arith, c .before .before .before .hold .ensures .short)
+    let hold = c .before .before .before .hold in
+    omega (arith, hold .ensures .short)
 
 slice-aggregate-command : tie.Need-slice-aggregate-command
 slice-aggregate-command c =
     let l : length (c .before .before .before .before .hold .result .line) ≡ heldBytes = search (needs, length-of) in
-    sym (length-take-le (c .before .before .before .before .hold .result .length) (c .before .before .before .before .hold .result .line) (omega (arith, c .before .before .before .before .hold .ensures .short)))
+    let hold = c .before .before .before .before .hold in
+    sym (length-take-le (hold .result .length) (hold .result .line) (omega (arith, hold .ensures .short)))
 
 command-requires : tie.Need-command-requires
 command-requires c κs = search needs

@@ -2,14 +2,14 @@
 use Rattle.model.proofs.Facts.{length-of}
 use lib.Seq.{take-all, length-take-le}
 use Rattle.script_play.proofs.InputPlays.{plays-none, plays-on}
-use Rattle.script_play.specs.Player.{playerAt, afterChunk, Plays}
+use Rattle.script_play.specs.Player.{playerAt, Plays}
 use lib.ListN.{length, take}
 use Rattle.script.specs.Commands.{heldBytes}
 use Rattle.script_text.specs.Written.{lineRoom}
 use native.Mathlib.Omega.{arith}
 use mathlib.Core.List.{List}
 use Prim.Native.Nat.{ℕ, _*_, _-_, _≤_}
-use mathlib.Core.Path.{_≡_, refl, sym, _∙_, ap, subst}
+use mathlib.Core.Path.{_≡_, refl, _∙_, subst}
 use borrow.Author.Needs.{needs}
 use Rattle.script_play.proofs.input.play_lines.Statement.{statement}
 use Rattle.script_play.proofs.input.play_lines.Tie as tie
@@ -26,8 +26,10 @@ abbrev μ-loop : tie.MeasureT-loop
 loop-holds : tie.Need-loop-holds Inv-loop μ-loop
 loop-holds c =
     let l : length (c .before .before .before .before .args .player .line) ≡ heldBytes = search (needs, length-of) in
-    let short = length-take-le (c .before .before .before .before .args .player .length) (c .before .before .before .before .args .player .line) (omega (arith, c .before .before .before .before .pre .0)) in
-    (omega arith, omega arith, c .before .before .before .before .pre .0, refl, refl, refl, plays-none _ (omega (arith, short, c .before .before .before .before .pre .0)))
+    let args = c .before .before .before .before .args in
+    let pre = c .before .before .before .before .pre in
+    let short = length-take-le (args .player .length) (args .player .line) (omega (arith, pre .0)) in
+    (omega arith, omega arith, pre .0, refl, refl, refl, plays-none _ (omega (arith, short, pre .0)))
 
 play-line-requires : tie.Need-play-line-requires Inv-loop μ-loop
 play-line-requires c κs = search needs

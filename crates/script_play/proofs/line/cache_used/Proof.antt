@@ -1,7 +1,6 @@
 -- `cache_used` meets its contract.
 use native.Mathlib.Omega.{arith}
 use Rattle.script_play.proofs.LinePlays.{cache-fits, many-sets, many-ways, slots-room}
-use borrow.Author.Needs.{needs}
 use Rattle.script_play.proofs.line.cache_used.Statement.{statement}
 use Rattle.script_play.proofs.line.cache_used.Tie as tie
 
