@@ -20,7 +20,7 @@ slice-relend-prefix-step c = search needs
 
 slice-aggregate-step : tie.Need-slice-aggregate-step
 slice-aggregate-step c =
-    let args = c .before .before .before .before .before .before .args in
+    let args = c .before .before .before .before .before .before .before .args in
     let cache-used = c .before .before .cache-used in
     sym (length-take-le (cache-used .result) (args .cache .now) (omega arith))
 
@@ -29,7 +29,7 @@ slice-relend-prefix-step-2 c = search needs
 
 slice-aggregate-step-2 : tie.Need-slice-aggregate-step-2
 slice-aggregate-step-2 c =
-    let args = c .before .before .before .before .before .before .before .args in
+    let args = c .before .before .before .before .before .before .before .before .args in
     let memory-used = c .before .before .memory-used in
     sym (length-take-le (memory-used .result) (args .memory .now) (omega arith))
 
@@ -50,8 +50,8 @@ same-length-3 c = search needs
 
 returns : tie.Need-returns
 returns c =
-    let args = c .before .before .before .before .before .before .before .before .before .before .before .before .before .before .before .before .before .args in
-    let pre = c .before .before .before .before .before .before .before .before .before .before .before .before .before .before .before .before .before .pre in
+    let args = c .before .before .before .before .before .before .before .before .before .before .before .before .before .before .before .before .before .before .args in
+    let pre = c .before .before .before .before .before .before .before .before .before .before .before .before .before .before .before .before .before .before .pre in
     let cache-used = c .before .before .before .before .before .before .before .before .before .before .before .before .before .cache-used in
     let memory-used = c .before .before .before .before .before .before .before .before .before .before .before .before .memory-used in
     let step = c .before .before .before .before .before .before .before .before .before .step in
