@@ -19,19 +19,13 @@ slice-relend-prefix-step : tie.Need-slice-relend-prefix-step
 slice-relend-prefix-step c = search needs
 
 slice-aggregate-step : tie.Need-slice-aggregate-step
-slice-aggregate-step c =
-    let args = c .before .before .before .before .before .before .before .args in
-    let cache-used = c .before .before .cache-used in
-    sym (length-take-le (cache-used .result) (args .cache .now) (omega arith))
+slice-aggregate-step c = sym (length-take-le _ _ (search needs))
 
 slice-relend-prefix-step-2 : tie.Need-slice-relend-prefix-step-2
 slice-relend-prefix-step-2 c = search needs
 
 slice-aggregate-step-2 : tie.Need-slice-aggregate-step-2
-slice-aggregate-step-2 c =
-    let args = c .before .before .before .before .before .before .before .before .args in
-    let memory-used = c .before .before .memory-used in
-    sym (length-take-le (memory-used .result) (args .memory .now) (omega arith))
+slice-aggregate-step-2 c = sym (length-take-le _ _ (search needs))
 
 step-requires : tie.Need-step-requires
 step-requires c κs = search needs

@@ -20,19 +20,13 @@ slice-relend-prefix-start : tie.Need-slice-relend-prefix-start
 slice-relend-prefix-start c = search needs
 
 slice-aggregate-start : tie.Need-slice-aggregate-start
-slice-aggregate-start c =
-    let args = c .before .before .before .before .before .before .args in
-    let cache-used = c .before .before .cache-used in
-    sym (length-take-le (cache-used .result) (args .cache .now) (omega arith))
+slice-aggregate-start c = sym (length-take-le _ _ (search needs))
 
 slice-reshare-prefix-start : tie.Need-slice-reshare-prefix-start
 slice-reshare-prefix-start c = search needs
 
 slice-aggregate-start-2 : tie.Need-slice-aggregate-start-2
-slice-aggregate-start-2 c =
-    let args = c .before .before .before .before .before .before .before .args in
-    let memory-used = c .before .before .memory-used in
-    sym (length-take-le (memory-used .result) (args .memory .now) (omega arith))
+slice-aggregate-start-2 c = sym (length-take-le _ _ (search needs))
 
 start-requires : tie.Need-start-requires
 start-requires c κs = search needs
@@ -44,10 +38,7 @@ slice-relend-prefix-zero-bytes : tie.Need-slice-relend-prefix-zero-bytes
 slice-relend-prefix-zero-bytes c = search needs
 
 slice-aggregate-zero-bytes : tie.Need-slice-aggregate-zero-bytes
-slice-aggregate-zero-bytes c =
-    let args = c .before .before .before .before .before .before .before .before .before .before .before .before .before .before .args in
-    let memory-used = c .before .before .before .before .before .before .before .before .before .memory-used in
-    sym (length-take-le (memory-used .result) (args .memory .now) (omega arith))
+slice-aggregate-zero-bytes c = sym (length-take-le _ _ (search needs))
 
 zero-bytes-requires : tie.Need-zero-bytes-requires
 zero-bytes-requires c κs = search needs
