@@ -30,6 +30,13 @@ use Rattle.script_play.specs.declared.Player.{Player}
 use Rattle.script_play.specs.declared.line.AfterLine.{AfterLine}
 use Rattle.script_play.specs.declared.input.Held.{Held}
 
+-- ---- the lent bytes, wherever an input is cut
+
+lent-cut : (xs ys : List ℕ) (p : script.Player) (l : Lent) → lentAfter (xs ++ ys) p l ≡ lentAfter ys (afterBytes xs p) (lentAfter xs p l)
+unfolding afterBytes lentAfter
+lent-cut [] ys p l = refl
+lent-cut (b ∷ xs) ys p l = lent-cut xs ys (afterByte b p) (cond (eqb b lineFeed) (laidIn (afterByte b p .run) l) l)
+
 -- ---- a line held short
 
 -- two players with the same run, of whose lines the same bytes are held
@@ -68,11 +75,6 @@ short-alike : (p : script.Player) → Alike (shortened p) p
 short-alike p = (refl, take-take heldBytes heldBytes (p .line) (omega arith))
 
 -- ---- one after the other
-
-lent-cut : (xs ys : List ℕ) (p : script.Player) (l : Lent) → lentAfter (xs ++ ys) p l ≡ lentAfter ys (afterBytes xs p) (lentAfter xs p l)
-unfolding afterBytes lentAfter
-lent-cut [] ys p l = refl
-lent-cut (b ∷ xs) ys p l = lent-cut xs ys (afterByte b p) (cond (eqb b lineFeed) (laidIn (afterByte b p .run) l) l)
 
 pub plays-none : (s : PlayerAt) → length (s .player .line) ≤ heldBytes → Plays [] s s
 unfolding afterBytes output lentAfter

@@ -28,7 +28,9 @@ cast-t9 : tie.Need-cast-t9
 cast-t9 c = search needs
 
 returns : tie.Need-returns
-returns c = digit-fits _ _ _ refl (c .if1 .taken)
+returns c =
+    let args = c .before .before .args in
+    digit-fits (args .s) (args .b) _ refl (omega (arith, c .if1 .taken))
 
 spoil-requires : tie.Need-spoil-requires
 spoil-requires c κs = search needs
