@@ -17,6 +17,7 @@ use Rattle.lists.specs.Counted.{allFrom}
 use Rattle.lists.proofs.Cond.{cases, and-left, and-right, and-both, or-one, or-two, or-then, or-by, none-or, wrong}
 use Rattle.lists.proofs.Counting.{all-at, all-by, every-drop}
 use Rattle.lists.proofs.CountedLoops.{all-end}
+use Rattle.rules.specs.declared.Figures.{Figures}
 use Rattle.rules.specs.declared.Tag.{Tag}
 use Rattle.rules.specs.Shape.{Hierarchy, noTag, tagAt, slots, firstSlot, setsAllowed, waysAllowed, figuresAllowed, fits}
 use Rattle.rules.specs.Lines.{holdsLine}
@@ -36,23 +37,23 @@ same-set r s w ways h low high =
     level r s (λ l. let m = set-room r s ways l in omega arith) (λ l. let m = set-room s r ways l in omega arith)
 
 -- "Ways: 1 to 4."
-pub few-ways : (b : Hierarchy) → fits b ≡ true → b .ways ≤ 4
+pub few-ways : (b : Hierarchy) → fits b ≡ true → b .figures .ways ≤ 4
 unfolding fits figuresAllowed
 few-ways b e =
-    let figures = and-left (figuresAllowed (b .sets) (b .ways) (b .size)) _ e in
-    let ways = and-left (waysAllowed (b .ways)) _ (and-right (setsAllowed (b .sets)) _ figures) in
-    leb-true (b .ways) 4 (and-right (leb 1 (b .ways)) _ ways)
+    let figures = and-left (figuresAllowed (b .figures) (b .size)) _ e in
+    let ways = and-left (waysAllowed (b .figures .ways)) _ (and-right (setsAllowed (b .figures .sets)) _ figures) in
+    leb-true (b .figures .ways) 4 (and-right (leb 1 (b .figures .ways)) _ ways)
 
 -- ---- one record
 
-module _ (sets ways size : ℕ) (cache memory : List ℕ) (s k : ℕ) (t : Tag) where
+module _ (f : Figures) (size : ℕ) (cache memory : List ℕ) (s k : ℕ) (t : Tag) where
   abbrev good : Bool
-  good = slotGood sets ways size cache memory s k t
+  good = slotGood f size cache memory s k t
 
   -- what is asked of a valid record
   pub record Valid : Type 0 where
     pub inside : 16 * t .line < size
-    pub own : t .line % sets ≡ s
+    pub own : t .line % f .sets ≡ s
     pub clean : t .dirty ≡ false → (i : ℕ) → i < 16 → getD cache (16 * k + i) 0 ≡ getD memory (16 * t .line + i) 0
 
   -- and of an invalid one
@@ -61,25 +62,25 @@ module _ (sets ways size : ℕ) (cache memory : List ℕ) (s k : ℕ) (t : Tag) 
     pub line : t .line ≡ 0
     pub zeroed : (i : ℕ) → i < 16 → getD cache (16 * k + i) 0 ≡ 0
 
-  age-tells : good ≡ true → t .age < ways
+  age-tells : good ≡ true → t .age < f .ways
   unfolding slotGood
-  age-tells e = ltb-true (t .age) ways (and-left (ltb (t .age) ways) _ e)
+  age-tells e = ltb-true (t .age) (f .ways) (and-left (ltb (t .age) (f .ways)) _ e)
 
   valid-tells : good ≡ true → t .valid ≡ true → Valid
   unfolding slotGood validGood sameBytes
   valid-tells e v =
-      let g : validGood sets size cache memory s k t ≡ true = rw v at (and-right (ltb (t .age) ways) _ e) in
+      let g : validGood (f .sets) size cache memory s k t ≡ true = rw v at (and-right (ltb (t .age) (f .ways)) _ e) in
       let h = and-right (ltb (16 * t .line) size) _ g in
       record {
         inside = ltb-true (16 * t .line) size (and-left (ltb (16 * t .line) size) _ g);
-        own = eqb-true (t .line % sets) s (and-left (eqb (t .line % sets) s) _ h);
-        clean = λ d i l. eqb-true _ _ (all-at _ 16 0 (or-then (t .dirty) _ (and-right (eqb (t .line % sets) s) _ h) d) i (omega arith) (omega arith));
+        own = eqb-true (t .line % f .sets) s (and-left (eqb (t .line % f .sets) s) _ h);
+        clean = λ d i l. eqb-true _ _ (all-at _ 16 0 (or-then (t .dirty) _ (and-right (eqb (t .line % f .sets) s) _ h) d) i (omega arith) (omega arith));
       }
 
   invalid-tells : good ≡ true → t .valid ≡ false → Invalid
   unfolding slotGood invalidGood zeroBytes
   invalid-tells e v =
-      let g : invalidGood cache k t ≡ true = rw v at (and-right (ltb (t .age) ways) _ e) in
+      let g : invalidGood cache k t ≡ true = rw v at (and-right (ltb (t .age) (f .ways)) _ e) in
       let h = and-right (not (t .dirty)) _ g in
       record {
         undirty = not-true (t .dirty) (and-left (not (t .dirty)) _ g);
@@ -87,16 +88,16 @@ module _ (sets ways size : ℕ) (cache memory : List ℕ) (s k : ℕ) (t : Tag) 
         zeroed = λ i l. eqb-true _ 0 (all-at _ 16 0 (and-right (eqb (t .line) 0) _ h) i (omega arith) (omega arith));
       }
 
-  slot-is : t .age < ways → (t .valid ≡ true → Valid) → (t .valid ≡ false → Invalid) → good ≡ true
+  slot-is : t .age < f .ways → (t .valid ≡ true → Valid) → (t .valid ≡ false → Invalid) → good ≡ true
   unfolding slotGood validGood invalidGood sameBytes zeroBytes
-  slot-is a f g =
-      and-both (ltb (t .age) ways) _ (lt-ltb (t .age) ways a)
+  slot-is a p g =
+      and-both (ltb (t .age) (f .ways)) _ (lt-ltb (t .age) (f .ways) a)
       (cases (t .valid)
       (λ v.
-      let h = f v in
+      let h = p v in
       rw v
       (and-both _ _ (lt-ltb (16 * t .line) size (h .inside))
-      (and-both _ _ (eq-eqb (t .line % sets) s (h .own))
+      (and-both _ _ (eq-eqb (t .line % f .sets) s (h .own))
       (or-by _ _ (λ d. all-by _ 16 0 (λ i p q. eq-eqb _ _ (h .clean d i (omega arith))))))))
       (λ v.
       let h = g v in
@@ -186,29 +187,29 @@ module _ (tags : List Tag) where
 module _ (b : Hierarchy) where
   -- the record of way w of set s
   abbrev tag : ℕ → ℕ → Tag
-  tag s w = tagAt (b .tags) (s * b .ways + w)
+  tag s w = tagAt (b .tags) (s * b .figures .ways + w)
 
   pub record Passed (s w : ℕ) : Type 0 where
-    pub alone : slotGood (b .sets) (b .ways) (b .size) (b .cache) (b .memory) s (s * b .ways + w) (tag s w) ≡ true
+    pub alone : slotGood (b .figures) (b .size) (b .cache) (b .memory) s (s * b .figures .ways + w) (tag s w) ≡ true
     pub apart : (j : ℕ) → j < w → sameAgeOrLine (tag s j) (tag s w) ≡ false
 
 -- a well-formed table passes
-module _ (b : Hierarchy) (g : Good b) (s w : ℕ) (s-in : s < b .sets) (w-in : w < b .ways) where
+module _ (b : Hierarchy) (g : Good b) (s w : ℕ) (s-in : s < b .figures .sets) (w-in : w < b .figures .ways) where
   abbrev k : ℕ
-  k = s * b .ways + w
+  k = s * b .figures .ways + w
 
   in-use : k < slots b
-  in-use = let h = set-room s (b .sets) (b .ways) s-in in omega arith
+  in-use = let h = set-room s (b .figures .sets) (b .figures .ways) s-in in omega arith
 
   pub good-passes : Passed b s w
   good-passes =
       record {
         alone =
-            slot-is (b .sets) (b .ways) (b .size) (b .cache) (b .memory) s k (tag b s w)
+            slot-is (b .figures) (b .size) (b .cache) (b .memory) s k (tag b s w)
             (g .ages s s-in .small k (omega arith) (omega arith))
             (λ v. record {
               inside = g .lines .inside k v;
-              own = same-set _ s w (b .ways) w-in (g .lines .own k v .0) (g .lines .own k v .1);
+              own = same-set _ s w (b .figures .ways) w-in (g .lines .own k v .0) (g .lines .own k v .1);
               clean = λ d i l. g .clean k i v d l;
             })
             (λ v. record {
@@ -218,18 +219,18 @@ module _ (b : Hierarchy) (g : Good b) (s w : ℕ) (s-in : s < b .sets) (w-in : w
             });
         apart = λ j l.
             apart-is (tag b s j) (tag b s w)
-            (λ e. let z = g .ages s s-in .same (s * b .ways + j) k (omega arith) (omega arith) (omega arith) (omega arith) e in omega arith)
-            (λ u v e. let z = g .lines .once (s * b .ways + j) k u v e in omega arith);
+            (λ e. let z = g .ages s s-in .same (s * b .figures .ways + j) k (omega arith) (omega arith) (omega arith) (omega arith) e in omega arith)
+            (λ u v e. let z = g .lines .once (s * b .figures .ways + j) k u v e in omega arith);
       }
 
 -- a table that passes is well formed
 module _ (b : Hierarchy) (fit : Fits b) (table : length (b .tags) ≡ 256) (unused : every zeroTag (drop (slots b) (b .tags)) ≡ true)
-    (passes : (s w : ℕ) → s < b .sets → w < b .ways → Passed b s w) where
+    (passes : (s w : ℕ) → s < b .figures .sets → w < b .figures .ways → Passed b s w) where
   -- a fact of each slot in use, by its set and way
-  by-way : (P : ℕ → Type 0) → ((s w : ℕ) → s < b .sets → w < b .ways → P (s * b .ways + w)) → (k : ℕ) → k < slots b → P k
+  by-way : (P : ℕ → Type 0) → ((s w : ℕ) → s < b .figures .sets → w < b .figures .ways → P (s * b .figures .ways + w)) → (k : ℕ) → k < slots b → P k
   by-way P h k l =
-      subst P (div-add-mod' k (b .ways))
-      (h (k / b .ways) (k % b .ways) (div-lt-iff-lt-mul (fit .some-way) .1 l) (mod-lt k (fit .some-way)))
+      subst P (div-add-mod' k (b .figures .ways))
+      (h (k / b .figures .ways) (k % b .figures .ways) (div-lt-iff-lt-mul (fit .some-way) .1 l) (mod-lt k (fit .some-way)))
 
   past : (k : ℕ) → slots b ≤ k → tagAt (b .tags) k ≡ noTag
   past k h =
@@ -243,48 +244,48 @@ module _ (b : Hierarchy) (fit : Fits b) (table : length (b .tags) ≡ 256) (unus
       elim (decLt k (slots b)) [ yes l ↦ l | no l ↦ wrong v (ap (λ (t : Tag). t .valid) (past k (omega arith))) ]
 
   valid-at :
-      (s w : ℕ) → s < b .sets → w < b .ways → tag b s w .valid ≡ true
-      → Valid (b .sets) (b .ways) (b .size) (b .cache) (b .memory) s (s * b .ways + w) (tag b s w)
-  valid-at s w p q v = valid-tells _ _ _ _ _ s _ _ (passes s w p q .alone) v
+      (s w : ℕ) → s < b .figures .sets → w < b .figures .ways → tag b s w .valid ≡ true
+      → Valid (b .figures) (b .size) (b .cache) (b .memory) s (s * b .figures .ways + w) (tag b s w)
+  valid-at s w p q v = valid-tells _ _ _ _ s _ _ (passes s w p q .alone) v
 
   invalid-at :
-      (s w : ℕ) → s < b .sets → w < b .ways → tag b s w .valid ≡ false
-      → Invalid (b .sets) (b .ways) (b .size) (b .cache) (b .memory) s (s * b .ways + w) (tag b s w)
-  invalid-at s w p q v = invalid-tells _ _ _ _ _ s _ _ (passes s w p q .alone) v
+      (s w : ℕ) → s < b .figures .sets → w < b .figures .ways → tag b s w .valid ≡ false
+      → Invalid (b .figures) (b .size) (b .cache) (b .memory) s (s * b .figures .ways + w) (tag b s w)
+  invalid-at s w p q v = invalid-tells _ _ _ _ s _ _ (passes s w p q .alone) v
 
   -- two ways of a set that may not stand together are the same
   one-way :
-      (s v w : ℕ) → s < b .sets → v < b .ways → w < b .ways → sameAgeOrLine (tag b s v) (tag b s w) ≡ true
+      (s v w : ℕ) → s < b .figures .sets → v < b .figures .ways → w < b .figures .ways → sameAgeOrLine (tag b s v) (tag b s w) ≡ true
       → sameAgeOrLine (tag b s w) (tag b s v) ≡ true → v ≡ w
   one-way s v w p q r e f =
       level v w (λ l. wrong e (passes s w p r .apart v l)) (λ l. wrong f (passes s v p q .apart w l))
 
-  ages : (s : ℕ) → s < b .sets → Ages (b .tags) (b .ways) (s * b .ways)
+  ages : (s : ℕ) → s < b .figures .sets → Ages (b .tags) (b .figures .ways) (s * b .figures .ways)
   ages s h =
       record {
-        small = λ k p q. in-set (λ k. tagAt (b .tags) k .age < b .ways) (λ w l. age-tells _ _ _ _ _ s _ _ (passes s w h l .alone)) k p q;
+        small = λ k p q. in-set (λ k. tagAt (b .tags) k .age < b .figures .ways) (λ w l. age-tells _ _ _ _ s _ _ (passes s w h l .alone)) k p q;
         same = λ j k p q r t. in-set (λ j. tagAt (b .tags) j .age ≡ tagAt (b .tags) k .age → j ≡ k)
-            (λ v m. in-set (λ k. tag b s v .age ≡ tagAt (b .tags) k .age → s * b .ways + v ≡ k)
+            (λ v m. in-set (λ k. tag b s v .age ≡ tagAt (b .tags) k .age → s * b .figures .ways + v ≡ k)
             (λ w n e. let z = one-way s v w h m n (same-age _ _ e) (same-age _ _ (sym e)) in omega arith) k r t)
             j p q;
       }
     where
       in-set :
-          (P : ℕ → Type 0) → ((w : ℕ) → w < b .ways → P (s * b .ways + w)) → (k : ℕ) → s * b .ways ≤ k
-          → k < s * b .ways + b .ways → P k
+          (P : ℕ → Type 0) → ((w : ℕ) → w < b .figures .ways → P (s * b .figures .ways + w)) → (k : ℕ) → s * b .figures .ways ≤ k
+          → k < s * b .figures .ways + b .figures .ways → P k
       in-set P f k p q =
-          let e : s * b .ways + (k - s * b .ways) ≡ k = omega arith in
-          subst P e (f (k - s * b .ways) (omega arith))
+          let e : s * b .figures .ways + (k - s * b .figures .ways) ≡ k = omega arith in
+          subst P e (f (k - s * b .figures .ways) (omega arith))
 
   once-in :
-      (r v s w : ℕ) → r < b .sets → v < b .ways → s < b .sets → w < b .ways → tag b r v .valid ≡ true → tag b s w .valid ≡ true
-      → tag b r v .line ≡ tag b s w .line → r * b .ways + v ≡ s * b .ways + w
+      (r v s w : ℕ) → r < b .figures .sets → v < b .figures .ways → s < b .figures .sets → w < b .figures .ways → tag b r v .valid ≡ true → tag b s w .valid ≡ true
+      → tag b r v .line ≡ tag b s w .line → r * b .figures .ways + v ≡ s * b .figures .ways + w
   once-in r v s w p q m n x y e =
-      let same : r ≡ s = sym (valid-at r v p q x .own) ∙ (ap (λ (l : ℕ). l % b .sets) e ∙ valid-at s w m n y .own) in
+      let same : r ≡ s = sym (valid-at r v p q x .own) ∙ (ap (λ (l : ℕ). l % b .figures .sets) e ∙ valid-at s w m n y .own) in
       let x′ : tag b s v .valid ≡ true = subst (λ (r : ℕ). tag b r v .valid ≡ true) same x in
       let e′ : tag b s v .line ≡ tag b s w .line = subst (λ (r : ℕ). tag b r v .line ≡ tag b s w .line) same e in
       let z = one-way s v w m q n (same-line _ _ x′ y e′) (same-line _ _ y x′ (sym e′)) in
-      ap (λ (r : ℕ). r * b .ways + v) same ∙ omega arith
+      ap (λ (r : ℕ). r * b .figures .ways + v) same ∙ omega arith
 
   pub passes-good : Good b
   passes-good =
@@ -295,11 +296,11 @@ module _ (b : Hierarchy) (fit : Fits b) (table : length (b .tags) ≡ 256) (unus
         lines = record {
           inside = λ k v. by-way (λ k. tagAt (b .tags) k .valid ≡ true → 16 * tagAt (b .tags) k .line < b .size) (λ s w p q v. valid-at s w p q v .inside) k (here k v) v;
           own = λ k v.
-              by-way (λ k. tagAt (b .tags) k .valid ≡ true → (firstSlot b (tagAt (b .tags) k .line) ≤ k) × (k < firstSlot b (tagAt (b .tags) k .line) + b .ways))
+              by-way (λ k. tagAt (b .tags) k .valid ≡ true → (firstSlot b (tagAt (b .tags) k .line) ≤ k) × (k < firstSlot b (tagAt (b .tags) k .line) + b .figures .ways))
               (λ s w p q v. rw (valid-at s w p q v .own) (omega arith, omega arith)) k (here k v) v;
           once = λ j k u v e.
               by-way (λ j. tagAt (b .tags) j .valid ≡ true → tagAt (b .tags) j .line ≡ tagAt (b .tags) k .line → j ≡ k)
-              (λ r x p q u. by-way (λ k. tagAt (b .tags) k .valid ≡ true → tag b r x .line ≡ tagAt (b .tags) k .line → r * b .ways + x ≡ k)
+              (λ r x p q u. by-way (λ k. tagAt (b .tags) k .valid ≡ true → tag b r x .line ≡ tagAt (b .tags) k .line → r * b .figures .ways + x ≡ k)
               (λ s w m n v e. once-in r x s w p q m n u v e) k (here k v) v)
               j (here j u) u e;
         };
@@ -321,10 +322,10 @@ module _ (b : Hierarchy) (fit : Fits b) (table : length (b .tags) ≡ 256) (unus
 module _ (b : Hierarchy) where
   pub all-passed :
       Fits b → length (b .tags) ≡ 256 → every zeroTag (drop (slots b) (b .tags)) ≡ true
-      → ((s w : ℕ) → s < b .sets → w < b .ways → Passed b s w) → linesFormed b ≡ true
+      → ((s w : ℕ) → s < b .figures .sets → w < b .figures .ways → Passed b s w) → linesFormed b ≡ true
   all-passed fit table unused passes = good-is b (passes-good b fit table unused passes)
 
-  one-failed : (s w : ℕ) → s < b .sets → w < b .ways → (Passed b s w → ⊥) → linesFormed b ≡ false
+  one-failed : (s w : ℕ) → s < b .figures .sets → w < b .figures .ways → (Passed b s w → ⊥) → linesFormed b ≡ false
   one-failed s w p q fails = cases (linesFormed b) (λ e. absurd (fails (good-passes b (good-tells b e) s w p q))) (λ e. e)
 
   pub unused-failed : every zeroTag (drop (slots b) (b .tags)) ≡ false → linesFormed b ≡ false
@@ -361,11 +362,11 @@ module _ (t1 t2 t3 : Tag) (w : ℕ) (t : Tag) where
 
 module _ (b : Hierarchy) where
   pub record Scanned (s w k : ℕ) : Type 0 where
-    pub at : k ≡ s * b .ways + w
-    pub way : w < b .ways
-    pub passed : (r v : ℕ) → v < b .ways → r * b .ways + v < k → Passed b r v
+    pub at : k ≡ s * b .figures .ways + w
+    pub way : w < b .figures .ways
+    pub passed : (r v : ℕ) → v < b .figures .ways → r * b .figures .ways + v < k → Passed b r v
 
-  pub scan-start : 0 < b .ways → Scanned 0 0 0
+  pub scan-start : 0 < b .figures .ways → Scanned 0 0 0
   scan-start h =
       record {
         at = omega arith;
@@ -374,15 +375,15 @@ module _ (b : Hierarchy) where
       }
 
 module _ {b : Hierarchy} {s w k : ℕ} (h : Scanned b s w k) where
-  pub scan-end : slots b ≤ k → (r v : ℕ) → r < b .sets → v < b .ways → Passed b r v
-  scan-end l r v p q = let m = set-room r (b .sets) (b .ways) p in h .passed r v q (omega arith)
+  pub scan-end : slots b ≤ k → (r v : ℕ) → r < b .figures .sets → v < b .figures .ways → Passed b r v
+  scan-end l r v p q = let m = set-room r (b .figures .sets) (b .figures .ways) p in h .passed r v q (omega arith)
 
-  pub scan-set : k < slots b → s < b .sets
+  pub scan-set : k < slots b → s < b .figures .sets
   scan-set l =
-      elim (decLt s (b .sets)) [
+      elim (decLt s (b .figures .sets)) [
         | yes p ↦ p
         | no p ↦
-            let m : b .sets * b .ways ≤ s * b .ways = mul-le-mul-right (b .ways) (omega arith) in
+            let m : b .figures .sets * b .figures .ways ≤ s * b .figures .ways = mul-le-mul-right (b .figures .ways) (omega arith) in
             let e = h .at in
             let no : ⊥ = omega arith in
             absurd no
@@ -393,7 +394,7 @@ module _ {b : Hierarchy} {s w k : ℕ} (h : Scanned b s w k) where
   before i m e l pos inside =
       let at = h .at in
       let f : k + m ≡ (k - i) + 256 = omega arith in
-      let z : k - i ≡ s * b .ways + (w - i) = omega arith in
+      let z : k - i ≡ s * b .figures .ways + (w - i) = omega arith in
       ap (tagAt (b .tags)) (ap (λ (n : ℕ). n % 256) f ∙ (add-mod-right (k - i) 256 ∙ (mod-eq-of-lt (omega arith) ∙ z)))
 
   -- so it may stand with the record of slot k if and only if way w - i may
@@ -403,11 +404,11 @@ module _ {b : Hierarchy} {s w k : ℕ} (h : Scanned b s w k) where
   beside i m e l pos inside = ap₂ sameAgeOrLine (before i m e l pos inside) (ap (tagAt (b .tags)) (h .at))
 
   -- r is the answer of the test of slot k by itself, q that of the test against the records before it
-  module _ {r : Bool} (tested : r ≡ slotGood (b .sets) (b .ways) (b .size) (b .cache) (b .memory) s k (tagAt (b .tags) k)) where
+  module _ {r : Bool} (tested : r ≡ slotGood (b .figures) (b .size) (b .cache) (b .memory) s k (tagAt (b .tags) k)) where
     pub scan-alone-fails : k < slots b → r ≡ false → linesFormed b ≡ false
     scan-alone-fails l e =
         one-failed b s w (scan-set l) (h .way) λ p.
-        wrong (subst (λ (k : ℕ). slotGood (b .sets) (b .ways) (b .size) (b .cache) (b .memory) s k (tagAt (b .tags) k) ≡ true) (sym (h .at)) (p .alone)) (sym tested ∙ e)
+        wrong (subst (λ (k : ℕ). slotGood (b .figures) (b .size) (b .cache) (b .memory) s k (tagAt (b .tags) k) ≡ true) (sym (h .at)) (p .alone)) (sym tested ∙ e)
 
     module _ (inside : k < 256) {q : Bool}
         (compared : q ≡ apartFrom (tagAt (b .tags) ((k + 255) % 256)) (tagAt (b .tags) ((k + 254) % 256)) (tagAt (b .tags) ((k + 253) % 256)) w (tagAt (b .tags) k)) where
@@ -421,7 +422,7 @@ module _ {b : Hierarchy} {s w k : ℕ} (h : Scanned b s w k) where
           (λ m. beside 3 253 refl m (omega arith) inside ∙ p .apart (w - 3) (omega arith)))
           (sym compared ∙ e)
 
-      module _ (few : b .ways ≤ 4) (alone : r ≡ true) (apart : q ≡ true) where
+      module _ (few : b .figures .ways ≤ 4) (alone : r ≡ true) (apart : q ≡ true) where
         -- way j, which stands i places before way w
         apart-at : (i m j : ℕ) → i + m ≡ 256 → 0 < i → j + i ≡ w → Clear (tagAt (b .tags) ((k + 255) % 256)) (tagAt (b .tags) ((k + 254) % 256)) (tagAt (b .tags) ((k + 253) % 256)) w (tagAt (b .tags) k) i (tagAt (b .tags) ((k + m) % 256)) → sameAgeOrLine (tag b s j) (tag b s w) ≡ false
         apart-at i m j e pos f g =
@@ -434,7 +435,7 @@ module _ {b : Hierarchy} {s w k : ℕ} (h : Scanned b s w k) where
             let clear = apart-tells _ _ _ w _ (sym compared ∙ apart) in
             let way = h .way in
             record {
-              alone = subst (λ (k : ℕ). slotGood (b .sets) (b .ways) (b .size) (b .cache) (b .memory) s k (tagAt (b .tags) k) ≡ true) (h .at) (sym tested ∙ alone);
+              alone = subst (λ (k : ℕ). slotGood (b .figures) (b .size) (b .cache) (b .memory) s k (tagAt (b .tags) k) ≡ true) (h .at) (sym tested ∙ alone);
               apart = λ j l.
                   elim (ℕ-discrete (j + 1) w) [
                     | yes e ↦ apart-at 1 255 j refl (omega arith) e (clear .0)
@@ -445,21 +446,21 @@ module _ {b : Hierarchy} {s w k : ℕ} (h : Scanned b s w k) where
                   ];
             }
 
-        below-next : (r v : ℕ) → v < b .ways → r * b .ways + v < k + 1 → Passed b r v
+        below-next : (r v : ℕ) → v < b .figures .ways → r * b .figures .ways + v < k + 1 → Passed b r v
         below-next r v p l =
-            elim (decLt (r * b .ways + v) k) [
+            elim (decLt (r * b .figures .ways + v) k) [
               | yes m ↦ h .passed r v p m
               | no m ↦
                   let e = h .at in
                   let way = h .way in
-                  let q : r ≡ s = same-set r s w (b .ways) way (omega arith) (omega arith) in
-                  let f : r * b .ways ≡ s * b .ways = ap (λ (r : ℕ). r * b .ways) q in
+                  let q : r ≡ s = same-set r s w (b .figures .ways) way (omega arith) (omega arith) in
+                  let f : r * b .figures .ways ≡ s * b .figures .ways = ap (λ (r : ℕ). r * b .figures .ways) q in
                   let z : v ≡ w = omega arith in
                   subst (λ (r : ℕ). Passed b r v) (sym q) (subst (λ (v : ℕ). Passed b s v) (sym z) passes-here)
             ]
 
         -- the set goes on
-        pub scan-on : (w + 1 ≡ b .ways → ⊥) → Scanned b s (w + 1) (k + 1)
+        pub scan-on : (w + 1 ≡ b .figures .ways → ⊥) → Scanned b s (w + 1) (k + 1)
         scan-on more =
             let e = h .at in
             let way = h .way in
@@ -470,10 +471,10 @@ module _ {b : Hierarchy} {s w k : ℕ} (h : Scanned b s w k) where
             }
 
         -- the set ends
-        pub scan-wrap : w + 1 ≡ b .ways → Scanned b (s + 1) 0 (k + 1)
+        pub scan-wrap : w + 1 ≡ b .figures .ways → Scanned b (s + 1) 0 (k + 1)
         scan-wrap last =
             let e = h .at in
-            let f : (s + 1) * b .ways ≡ s * b .ways + b .ways = ap (λ (n : ℕ). n * b .ways) (add-one s) ∙ suc-mul s (b .ways) in
+            let f : (s + 1) * b .figures .ways ≡ s * b .figures .ways + b .figures .ways = ap (λ (n : ℕ). n * b .figures .ways) (add-one s) ∙ suc-mul s (b .figures .ways) in
             record {
               at = omega arith;
               way = omega arith;

@@ -2,14 +2,15 @@
 use Prim.Native.Nat.{ℕ}
 use mathlib.Core.Bool.{cond}
 use mathlib.Core.List.{List}
+use Rattle.rules.specs.declared.Figures.{Figures}
 use Rattle.rules.specs.declared.Tag.{Tag}
 use Rattle.rules.specs.Shape.{Hierarchy, fits}
 use Rattle.rules.specs.WellFormed.{linesFormed}
 
 -- the hierarchy of these figures, records and bytes
-abbrev pub hierarchy : ℕ → ℕ → ℕ → List Tag → List ℕ → List ℕ → Hierarchy
-hierarchy sets ways size tags cache memory =
-    record { sets = sets; ways = ways; size = size; tags = tags; cache = cache; memory = memory }
+abbrev pub hierarchy : Figures → ℕ → List Tag → List ℕ → List ℕ → Hierarchy
+hierarchy f size tags cache memory =
+    record { figures = f; size = size; tags = tags; cache = cache; memory = memory }
 
 -- the refusal's number, or 0
 unfoldable pub linesRefusal : Hierarchy → ℕ

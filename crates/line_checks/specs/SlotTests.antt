@@ -5,6 +5,7 @@ use mathlib.Core.List.{List}
 use lib.Dec.{ltb, eqb}
 use lib.ListN.{getD}
 use Rattle.lists.specs.Counted.{allFrom}
+use Rattle.rules.specs.declared.Figures.{Figures}
 use Rattle.rules.specs.declared.Tag.{Tag}
 use Rattle.rules.specs.Lines.{holdsLine}
 
@@ -26,9 +27,9 @@ unfoldable pub invalidGood : List ℕ → ℕ → Tag → Bool
 invalidGood cache k t = not (t .dirty) && (eqb (t .line) 0 && zeroBytes cache (16 * k))
 
 -- a record in slot k of set s
-unfoldable pub slotGood : ℕ → ℕ → ℕ → List ℕ → List ℕ → ℕ → ℕ → Tag → Bool
-slotGood sets ways size cache memory s k t =
-    ltb (t .age) ways && cond (t .valid) (validGood sets size cache memory s k t) (invalidGood cache k t)
+unfoldable pub slotGood : Figures → ℕ → List ℕ → List ℕ → ℕ → ℕ → Tag → Bool
+slotGood f size cache memory s k t =
+    ltb (t .age) (f .ways) && cond (t .valid) (validGood (f .sets) size cache memory s k t) (invalidGood cache k t)
 
 -- two records of a set that may not stand together
 unfoldable pub sameAgeOrLine : Tag → Tag → Bool

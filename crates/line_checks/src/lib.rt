@@ -11,6 +11,16 @@ ghost use Rattle.rules.specs.Shape.{setsAllowed, figuresAllowed, fits};
 ghost use Rattle.rules.specs.WellFormed.{zeroTag, linesFormed};
 ghost use Rattle.line_checks.specs.Refusal.{hierarchy, linesRefusal};
 ghost use Rattle.line_checks.specs.SlotTests.{sameBytes, zeroBytes, validGood, invalidGood, slotGood, sameAgeOrLine, apartFrom};
+use rules::BAD_FIGURES;
+use rules::Figures;
+use rules::LINE_BYTES;
+use rules::LINE_LENGTH;
+use rules::MAX_MEMORY;
+use rules::MAX_SETS;
+use rules::MAX_WAYS;
+use rules::MIN_MEMORY;
+use rules::NOT_WELL_FORMED;
+use rules::TAG_RECORDS;
 use rules::Tag;
 
 // ---- figures and lengths
@@ -37,42 +47,43 @@ fn sets_allowed(n: u32) -> bool
     if n == 32 {
         return true;
     }
-    n == 64
+    n == MAX_SETS
 }
 
 // The figures are allowed.
-pub fn figures_allowed(sets: u32, ways: u32, size: usize) -> bool
-    ensures { λ r. ⌜ r ≡ figuresAllowed sets ways size ⌝ }
+pub fn figures_allowed(figures: Figures, size: usize) -> bool
+    ensures { λ r. ⌜ r ≡ figuresAllowed figures size ⌝ }
 {
-    if sets_allowed(sets) {
+    let ways = figures.ways;
+    if sets_allowed(figures.sets) {
         if ways < 1 {
             return false;
         }
-        if 4 < ways {
+        if MAX_WAYS < ways {
             return false;
         }
-        if size % 16 != 0 {
+        if size % LINE_LENGTH != 0 {
             return false;
         }
-        if size < 16 {
+        if size < MIN_MEMORY {
             return false;
         }
-        size <= 65536
+        size <= MAX_MEMORY
     } else {
         false
     }
 }
 
 // The figures are allowed, and the lent lengths agree with them.
-fn is_fit(sets: u32, ways: u32, size: u32, cache: &[u8], memory: &[u8]) -> bool
-    ensures { λ r. ⌜ r ≡ fits (hierarchy sets ways size [] (now (cache .entry)) (now (memory .entry))) ⌝ }
+pub fn is_fit(figures: Figures, size: u32, cache: &[u8], memory: &[u8]) -> bool
+    ensures { λ r. ⌜ r ≡ fits (hierarchy figures size [] (now (cache .entry)) (now (memory .entry))) ⌝ }
 {
     let bytes = size as usize;
-    if figures_allowed(sets, ways, bytes) {
+    if figures_allowed(figures, bytes) {
         if memory.len() != bytes {
             return false;
         }
-        cache.len() == ((sets * ways) as usize) * 16
+        cache.len() == ((figures.sets * figures.ways) as usize) * LINE_LENGTH
     } else {
         false
     }
@@ -88,7 +99,7 @@ fn same_bytes(cache: &[u8], at: usize, memory: &[u8], from: usize) -> bool
 {
     let mut same = true;
     let mut i: usize = 0;
-    while i < 16 {
+    while i < LINE_LENGTH {
         if cache[at + i] != memory[from + i] {
             same = false;
         }
@@ -104,7 +115,7 @@ fn zero_bytes(cache: &[u8], at: usize) -> bool
 {
     let mut zero = true;
     let mut i: usize = 0;
-    while i < 16 {
+    while i < LINE_LENGTH {
         if cache[at + i] != 0 {
             zero = false;
         }
@@ -119,7 +130,7 @@ fn valid_good(t: Tag, s: u32, k: usize, sets: u32, size: u32, cache: &[u8], memo
     ensures { λ r. ⌜ r ≡ validGood sets size (now (cache .entry)) (now (memory .entry)) s k t ⌝ }
 {
     let line = t.line as u32;
-    if size <= 16 * line {
+    if size <= LINE_BYTES * line {
         return false;
     }
     if line % sets != s {
@@ -128,7 +139,12 @@ fn valid_good(t: Tag, s: u32, k: usize, sets: u32, size: u32, cache: &[u8], memo
     if t.dirty {
         return true;
     }
-    same_bytes(cache, 16 * k, memory, 16 * (line as usize))
+    same_bytes(
+        cache,
+        LINE_LENGTH * k,
+        memory,
+        LINE_LENGTH * (line as usize),
+    )
 }
 
 // An invalid record t, in slot k: "an invalid record is zero but for its age, with zero cache bytes".
@@ -142,7 +158,7 @@ fn invalid_good(t: Tag, k: usize, cache: &[u8]) -> bool
     if t.line != 0 {
         return false;
     }
-    zero_bytes(cache, 16 * k)
+    zero_bytes(cache, LINE_LENGTH * k)
 }
 
 // The record t of slot k, in set s, is well formed by itself.
@@ -150,20 +166,19 @@ fn slot_good(
     t: Tag,
     s: u32,
     k: usize,
-    sets: u32,
-    ways: u32,
+    figures: Figures,
     size: u32,
     cache: &[u8],
     memory: &[u8],
 ) -> bool
-    requires { ⌜ (0 < sets) × (16 * k + 16 ≤ length (now cache)) × (size % 16 ≡ 0) × (size ≤ length (now memory)) ⌝ }
-    ensures { λ r. ⌜ r ≡ slotGood sets ways size (now (cache .entry)) (now (memory .entry)) s k t ⌝ }
+    requires { ⌜ (0 < figures .sets) × (16 * k + 16 ≤ length (now cache)) × (size % 16 ≡ 0) × (size ≤ length (now memory)) ⌝ }
+    ensures { λ r. ⌜ r ≡ slotGood figures size (now (cache .entry)) (now (memory .entry)) s k t ⌝ }
 {
-    if ways <= t.age as u32 {
+    if figures.ways <= t.age as u32 {
         return false;
     }
     if t.valid {
-        return valid_good(t, s, k, sets, size, cache, memory);
+        return valid_good(t, s, k, figures.sets, size, cache, memory);
     }
     invalid_good(t, k, cache)
 }
@@ -229,14 +244,14 @@ fn weight(t: Tag) -> u32
 }
 
 // "unused records are all zero": those from slot count on. (The loop has no early exit, like that of `same_bytes`.)
-fn unused_zero(tags: [Tag; 256], count: usize) -> bool
+fn unused_zero(tags: [Tag; TAG_RECORDS], count: usize) -> bool
     requires { ⌜ count ≤ 256 ⌝ }
     ensures { λ r. ⌜ r ≡ every zeroTag (drop count tags) ⌝ }
 {
     let mut some = false;
     let mut sum: u32 = 0;
     let mut k = count;
-    while k < 256 {
+    while k < TAG_RECORDS {
         let t = tags[k];
         some = flagged(some, t);
         sum += weight(t);
@@ -250,24 +265,23 @@ fn unused_zero(tags: [Tag; 256], count: usize) -> bool
 
 // The records of the slots in use, set by set, when the unused ones are zero.
 fn slots_good(
-    tags: [Tag; 256],
-    sets: u32,
-    ways: u32,
+    tags: [Tag; TAG_RECORDS],
+    figures: Figures,
     size: u32,
     cache: &[u8],
     memory: &[u8],
 ) -> bool
-    requires { ⌜ (fits (hierarchy sets ways size tags (now cache) (now memory)) ≡ true) × (every zeroTag (drop (sets * ways) tags) ≡ true) ⌝ }
-    ensures { λ r. ⌜ r ≡ linesFormed (hierarchy sets ways size tags (now (cache .entry)) (now (memory .entry))) ⌝ }
+    requires { ⌜ (fits (hierarchy figures size tags (now cache) (now memory)) ≡ true) × (every zeroTag (drop (figures .sets * figures .ways) tags) ≡ true) ⌝ }
+    ensures { λ r. ⌜ r ≡ linesFormed (hierarchy figures size tags (now (cache .entry)) (now (memory .entry))) ⌝ }
 {
-    let count = (sets * ways) as usize;
-    let n = ways as usize;
+    let count = (figures.sets * figures.ways) as usize;
+    let n = figures.ways as usize;
     let mut s: u32 = 0;
     let mut w: usize = 0;
     let mut k: usize = 0;
     while k < count {
         let t = tags[k];
-        if slot_good(t, s, k, sets, ways, size, cache, memory) {
+        if slot_good(t, s, k, figures, size, cache, memory) {
             let t1 = tags[(k + 255) % 256];
             let t2 = tags[(k + 254) % 256];
             let t3 = tags[(k + 253) % 256];
@@ -290,39 +304,37 @@ fn slots_good(
 
 // The clauses of the lines: all that well-formed asks of the records, the cache and memory.
 fn lines_good(
-    tags: [Tag; 256],
-    sets: u32,
-    ways: u32,
+    tags: [Tag; TAG_RECORDS],
+    figures: Figures,
     size: u32,
     cache: &[u8],
     memory: &[u8],
 ) -> bool
-    requires { ⌜ fits (hierarchy sets ways size tags (now cache) (now memory)) ≡ true ⌝ }
-    ensures { λ r. ⌜ r ≡ linesFormed (hierarchy sets ways size tags (now (cache .entry)) (now (memory .entry))) ⌝ }
+    requires { ⌜ fits (hierarchy figures size tags (now cache) (now memory)) ≡ true ⌝ }
+    ensures { λ r. ⌜ r ≡ linesFormed (hierarchy figures size tags (now (cache .entry)) (now (memory .entry))) ⌝ }
 {
-    let count = (sets * ways) as usize;
+    let count = (figures.sets * figures.ways) as usize;
     if unused_zero(tags, count) {
-        return slots_good(tags, sets, ways, size, cache, memory);
+        return slots_good(tags, figures, size, cache, memory);
     }
     false
 }
 
 // 1 where the figures or the lent lengths are refused, 10 where a clause of the lines is broken, else 0.
 pub fn lines_refusal(
-    tags: [Tag; 256],
-    sets: u32,
-    ways: u32,
+    tags: [Tag; TAG_RECORDS],
+    figures: Figures,
     size: u32,
     cache: &[u8],
     memory: &[u8],
 ) -> u32
-    ensures { λ r. ⌜ r ≡ linesRefusal (hierarchy sets ways size tags (now (cache .entry)) (now (memory .entry))) ⌝ }
+    ensures { λ r. ⌜ r ≡ linesRefusal (hierarchy figures size tags (now (cache .entry)) (now (memory .entry))) ⌝ }
 {
-    if is_fit(sets, ways, size, cache, memory) {
-        if lines_good(tags, sets, ways, size, cache, memory) {
+    if is_fit(figures, size, cache, memory) {
+        if lines_good(tags, figures, size, cache, memory) {
             return 0;
         }
-        return 10;
+        return NOT_WELL_FORMED;
     }
-    1
+    BAD_FIGURES
 }

@@ -1,1 +1,14 @@
-// Lists with free places, loops that count, and bytes of numbers: definitions (specs/) and laws (proofs/), no code.
+// Lists with free places, loops that count, and bytes of numbers: definitions (specs/) and laws (proofs/). Its code makes bytes zero.
+ghost use mathlib.Core.Path.{_≡_};
+ghost use lib.ListN.{length, replicate};
+
+// Makes every byte zero.
+pub fn zero_bytes(bytes: &mut [u8])
+    ensures { λ _. ⌜ now (bytes .exit) ≡ replicate (length (now (bytes .entry))) 0 ⌝ }
+{
+    let mut i: usize = 0;
+    while i < bytes.len() {
+        bytes[i] = 0;
+        i += 1;
+    }
+}

@@ -15,6 +15,7 @@ use Rattle.lists.specs.Bytes.{byteOf, among, overlaid}
 use Rattle.lists.proofs.Cond.{either, and-left, and-right, and-both}
 use Rattle.lists.proofs.Counting.{first-low, greatest-in}
 use Rattle.lists.proofs.CountedLoops.{change, changes-each, each-id, each-ext}
+use Rattle.rules.specs.declared.Figures.{Figures}
 use Rattle.rules.specs.declared.Tag.{Tag}
 use Rattle.rules.specs.Shape.{Hierarchy, holding, noTag, tagAt, withAge, withDirty, lineOf, firstSlot}
 use Rattle.rules.specs.Lines.{holdsLine, slotOf, present, agedAt, useSlot, useLine, writtenBackAt, writeBackSlot, victim, copiedAt}
@@ -25,11 +26,8 @@ use Rattle.model.specs.Tables.{tabled, usedTags, victimIn, held, flushed
 -- ---- the first slot of a set
 
 -- the slots of a line's set lie among the slots in use
-pub slots-room : (sets ways line : ℕ) → 0 < sets → (line % sets) * ways + ways ≤ sets * ways
-slots-room sets ways line h = set-room (line % sets) sets ways (mod-lt line h)
-
-pub table-room : (sets ways : ℕ) → sets ≤ 64 → ways ≤ 4 → sets * ways ≤ 256
-table-room sets ways p q = mul-le-mul p q
+pub slots-room : (g : Figures) (line : ℕ) → 0 < g .sets → (line % g .sets) * g .ways + g .ways ≤ g .sets * g .ways
+slots-room g line h = set-room (line % g .sets) (g .sets) (g .ways) (mod-lt line h)
 
 -- ---- use
 
@@ -61,49 +59,49 @@ use-each f ways v a tags p q = changes-each (agedAt f ways v a) noTag f ways tag
 
 -- the use of a line changes the records only, as the code has it
 pub used-line :
-    (l : ℕ) (b : Hierarchy) → useLine l b ≡ holding b (usedTags (b .sets) (b .ways) l (b .tags)) (b .cache) (b .memory)
+    (l : ℕ) (b : Hierarchy) → useLine l b ≡ holding b (usedTags (b .figures) l (b .tags)) (b .cache) (b .memory)
 unfolding usedTags useLine present slotOf useSlot
 used-line l b = go (present b l)
   where
     go :
         (t : Bool)
         → cond t (useSlot (firstSlot b l) (slotOf b l) b) b
-        ≡ holding b (cond t (useSlot (firstSlot b l) (slotOf b l) (tabled (b .sets) (b .ways) (b .tags))) (tabled (b .sets) (b .ways) (b .tags)) .tags) (b .cache) (b .memory)
+        ≡ holding b (cond t (useSlot (firstSlot b l) (slotOf b l) (tabled (b .figures) (b .tags))) (tabled (b .figures) (b .tags)) .tags) (b .cache) (b .memory)
     go true = refl
     go false = refl
 
 -- what `find` answers: the line's slot, and whether the line is present
 module _ (b : Hierarchy) (l f v : ℕ) (at-first : f ≡ firstSlot b l)
-    (found : v ≡ firstFrom (λ k. holdsLine l (tagAt (b .tags) k)) f (b .ways)) where
+    (found : v ≡ firstFrom (λ k. holdsLine l (tagAt (b .tags) k)) f (b .figures .ways)) where
   pub found-slot : v ≡ slotOf b l
   unfolding slotOf
-  found-slot = found ∙ ap (λ (f : ℕ). firstFrom (λ k. holdsLine l (tagAt (b .tags) k)) f (b .ways)) at-first
+  found-slot = found ∙ ap (λ (f : ℕ). firstFrom (λ k. holdsLine l (tagAt (b .tags) k)) f (b .figures .ways)) at-first
 
-  pub found-present : ltb v (f + b .ways) ≡ present b l
+  pub found-present : ltb v (f + b .figures .ways) ≡ present b l
   unfolding present
-  found-present = ap₂ (λ (v f : ℕ). ltb v (f + b .ways)) found-slot at-first
+  found-present = ap₂ (λ (v f : ℕ). ltb v (f + b .figures .ways)) found-slot at-first
 
 -- the slot of a present line is in the set
 pub found-inside :
-    (sets ways l : ℕ) (tags : List Tag) (f v : ℕ) → f ≡ (l % sets) * ways
-    → v ≡ firstFrom (λ k. holdsLine l (tagAt tags k)) f ways → present (tabled sets ways tags) l ≡ true → v < f + ways
-found-inside sets ways l tags f v at-first found here = ltb-true v (f + ways) (found-present (tabled sets ways tags) l f v at-first found ∙ here)
+    (g : Figures) (l : ℕ) (tags : List Tag) (f v : ℕ) → f ≡ (l % g .sets) * g .ways
+    → v ≡ firstFrom (λ k. holdsLine l (tagAt tags k)) f (g .ways) → present (tabled g tags) l ≡ true → v < f + g .ways
+found-inside g l tags f v at-first found here = ltb-true v (f + g .ways) (found-present (tabled g tags) l f v at-first found ∙ here)
 
-module _ (sets ways l : ℕ) (tags : List Tag) (f v : ℕ) (at-first : f ≡ (l % sets) * ways)
-    (found : v ≡ firstFrom (λ k. holdsLine l (tagAt tags k)) f ways) where
+module _ (g : Figures) (l : ℕ) (tags : List Tag) (f v : ℕ) (at-first : f ≡ (l % g .sets) * g .ways)
+    (found : v ≡ firstFrom (λ k. holdsLine l (tagAt tags k)) f (g .ways)) where
   abbrev b : Hierarchy
-  b = tabled sets ways tags
+  b = tabled g tags
 
-  used : (t : Bool) → present b l ≡ t → usedTags sets ways l tags ≡ cond t (useSlot (firstSlot b l) (slotOf b l) b) b .tags
+  used : (t : Bool) → present b l ≡ t → usedTags g l tags ≡ cond t (useSlot (firstSlot b l) (slotOf b l) b) b .tags
   unfolding usedTags useLine
   used t e = ap (λ (t : Bool). cond t (useSlot (firstSlot b l) (slotOf b l) b) b .tags) e
 
-  pub use-hit : v < f + ways → eachFrom (agedAt f ways v (tagAt tags v .age)) 0 tags ≡ usedTags sets ways l tags
+  pub use-hit : v < f + g .ways → eachFrom (agedAt f (g .ways) v (tagAt tags v .age)) 0 tags ≡ usedTags g l tags
   unfolding useSlot slotOf
-  use-hit h = rw (found, at-first) (sym (used true (sym (found-present b l f v at-first found) ∙ lt-ltb v (f + ways) h)))
+  use-hit h = rw (found, at-first) (sym (used true (sym (found-present b l f v at-first found) ∙ lt-ltb v (f + g .ways) h)))
 
-  pub use-miss : f + ways ≤ v → tags ≡ usedTags sets ways l tags
-  use-miss h = sym (used false (sym (found-present b l f v at-first found) ∙ le-ltb v (f + ways) h))
+  pub use-miss : f + g .ways ≤ v → tags ≡ usedTags g l tags
+  use-miss h = sym (used false (sym (found-present b l f v at-first found) ∙ le-ltb v (f + g .ways) h))
 
 -- ---- the victim
 
@@ -122,9 +120,9 @@ module _ (tags : List Tag) (f ways k : ℕ) (found : k ≡ firstFrom (λ k. not 
       (rw (← found, le-ltb k (f + ways) h) e, omega (arith, g .0), omega (arith, g .1))
 
 -- what `victim` answers: the victim of the line's set
-pub victim-slot : (b : Hierarchy) (l f r : ℕ) → f ≡ firstSlot b l → r ≡ victimIn (b .tags) f (b .ways) → r ≡ victim b l
+pub victim-slot : (b : Hierarchy) (l f r : ℕ) → f ≡ firstSlot b l → r ≡ victimIn (b .tags) f (b .figures .ways) → r ≡ victim b l
 unfolding victim victimIn
-victim-slot b l f r e h = h ∙ ap (λ (f : ℕ). victimIn (b .tags) f (b .ways)) e
+victim-slot b l f r e h = h ∙ ap (λ (f : ℕ). victimIn (b .tags) f (b .figures .ways)) e
 
 -- ---- a line of 16 bytes
 

@@ -89,7 +89,7 @@ module _ (s : State) (cache memory : List ℕ) where
 
   pub request-at :
       (r : Request)
-      → (requestAbsent r (tabled (s .sets) (s .ways) (s .tags)) && (requestInside r (sized (s .size)) && requestWanted r (queuesOf s)))
+      → (requestAbsent r (tabled (s .figures) (s .tags)) && (requestInside r (sized (s .size)) && requestWanted r (queuesOf s)))
       ≡ (requestAbsent r (hierarchyOf s cache memory) && (requestInside r (hierarchyOf s cache memory) && requestWanted r (queuesOf s)))
   unfolding requestAbsent requestInside present slotOf
   request-at Free = refl
@@ -104,10 +104,10 @@ module _ (s : State) (cache memory : List ℕ) where
   unfolding storeReady
   ready-at = refl
 
-  pub present-at : (l : ℕ) → present (tabled (s .sets) (s .ways) (s .tags)) l ≡ present (hierarchyOf s cache memory) l
+  pub present-at : (l : ℕ) → present (tabled (s .figures) (s .tags)) l ≡ present (hierarchyOf s cache memory) l
   unfolding present slotOf
   present-at l = refl
 
   -- the records of a used line
-  pub used-at : (l : ℕ) → useLine l (hierarchyOf s cache memory) ≡ record { sets = s .sets; ways = s .ways; size = s .size; tags = usedTags (s .sets) (s .ways) l (s .tags); cache = cache; memory = memory }
+  pub used-at : (l : ℕ) → useLine l (hierarchyOf s cache memory) ≡ record { figures = s .figures; size = s .size; tags = usedTags (s .figures) l (s .tags); cache = cache; memory = memory }
   used-at l = used-line l (hierarchyOf s cache memory)

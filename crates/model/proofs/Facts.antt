@@ -61,28 +61,28 @@ access-fine b a w small p =
 -- ---- figures
 
 module _ (s : State) (cache memory : List ℕ) (f : fits (hierarchyOf s cache memory) ≡ true) where
-  pub fit-figures : Figured (s .sets) (s .ways) (s .size)
+  pub fit-figures : Figured (s .figures) (s .size)
   unfolding fits
-  fit-figures = figures-tell (s .sets) (s .ways) (s .size) (and-left _ _ f)
+  fit-figures = figures-tell (s .figures) (s .size) (and-left _ _ f)
 
-  pub fit-cache : length cache ≡ s .sets * s .ways * 16
+  pub fit-cache : length cache ≡ s .figures .sets * s .figures .ways * 16
   unfolding fits
   fit-cache =
-      eqb-true _ _ (and-right (eqb (length memory) (s .size)) _ (and-right (figuresAllowed (s .sets) (s .ways) (s .size)) _ f))
+      eqb-true _ _ (and-right (eqb (length memory) (s .size)) _ (and-right (figuresAllowed (s .figures) (s .size)) _ f))
 
   pub fit-memory : length memory ≡ s .size
   unfolding fits
-  fit-memory = eqb-true _ _ (and-left _ _ (and-right (figuresAllowed (s .sets) (s .ways) (s .size)) _ f))
+  fit-memory = eqb-true _ _ (and-left _ _ (and-right (figuresAllowed (s .figures) (s .size)) _ f))
 
   pub fit-shaped : Shaped s (length cache)
   fit-shaped =
       let g = fit-figures in
-      record { some-set = g .some-set; most-sets = g .most-sets; some-way = g .some-way; most-ways = g .most-ways; cache-long = fit-cache }
+      record { some-set = g .some-set; some-way = g .some-way; room = g .room; cache-long = fit-cache }
 
 -- the same, with no cache at hand
-pub shaped-self : (s : State) (n : ℕ) → Shaped s n → Shaped s (s .sets * s .ways * 16)
+pub shaped-self : (s : State) (n : ℕ) → Shaped s n → Shaped s (s .figures .sets * s .figures .ways * 16)
 shaped-self s n h =
-    record { some-set = h .some-set; most-sets = h .most-sets; some-way = h .some-way; most-ways = h .most-ways; cache-long = refl }
+    record { some-set = h .some-set; some-way = h .some-way; room = h .room; cache-long = refl }
 
 -- ---- an array in a struct
 
@@ -140,11 +140,10 @@ module _ (q : Queues) (b : Hierarchy) (small : b .size ≤ 65536) (p : Parts q b
 
 -- what a well-formed state that requests line l leaves to the fill
 pub record Filling (s : State) (l cacheLength memoryLength : ℕ) : Type 0 where
-  pub some-set : 0 < s .sets
-  pub most-sets : s .sets ≤ 64
-  pub some-way : 0 < s .ways
-  pub most-ways : s .ways ≤ 4
-  pub cache-long : cacheLength ≡ s .sets * s .ways * 16
+  pub some-set : 0 < s .figures .sets
+  pub some-way : 0 < s .figures .ways
+  pub room : s .figures .sets * s .figures .ways ≤ 256
+  pub cache-long : cacheLength ≡ s .figures .sets * s .figures .ways * 16
   pub inside : 16 * l + 16 ≤ memoryLength
   pub small : memoryLength ≤ 65536
   pub dirty-lines : DirtyInside (s .tags) 256 memoryLength
@@ -157,9 +156,8 @@ filling s cache memory l g e =
     let f = fit-figures s cache memory (p .fit) in
     record {
       some-set = f .some-set;
-      most-sets = f .most-sets;
       some-way = f .some-way;
-      most-ways = f .most-ways;
+      room = f .room;
       cache-long = fit-cache s cache memory (p .fit);
       inside = omega (arith, request-inside (queuesOf s) (hierarchyOf s cache memory) (f .most-size) p l e, f .whole-lines, fit-memory s cache memory (p .fit));
       small = omega (arith, f .most-size, fit-memory s cache memory (p .fit));

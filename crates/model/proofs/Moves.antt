@@ -5,14 +5,16 @@ use mathlib.Core.Bool.{Bool, true, false, cond, _&&_}
 use mathlib.Core.List.{List, [], _∷_}
 use native.Mathlib.Omega.{arith}
 use lib.Dec.{ltb}
-use lib.ListN.{length, set, take, drop, length-take, length-drop}
-use lib.Seq.{set-set}
+use lib.ListN.{length, set, take, drop, replicate, length-take, length-drop, length-replicate}
+use lib.Seq.{set-set, ext-getD, getD-take, getD-drop}
 use borrow.Author.Tests.{lt-ltb, le-ltb, eq-eqb, ne-eqb, not-true}
 use Rattle.lists.specs.Padded.{any, first, filter, shifted}
 use Rattle.lists.specs.Bytes.{overlaid}
 use Rattle.lists.specs.Counted.{firstFrom, eachFrom}
 use Rattle.lists.proofs.Cond.{cases, and-left, wrong, or-left, or-right}
+use Rattle.lists.proofs.Counting.{each-length, each-at}
 use Rattle.lists.proofs.Some.{any-first}
+use Rattle.rules.specs.declared.Figures.{Figures}
 use Rattle.rules.specs.declared.Tag.{Tag}
 use Rattle.rules.specs.declared.LoadEntry.{LoadEntry}
 use Rattle.rules.specs.declared.StoreEntry.{StoreEntry}
@@ -26,35 +28,36 @@ use Rattle.rules.proofs.Checks.{outcome-by}
 use Rattle.line_checks.specs.Refusal.{hierarchy}
 use Rattle.model.specs.Tables.{tabled, usedTags, victimIn, installedIn, flushedTags, flushedMemory}
 use Rattle.model.proofs.CacheLoops.{used-line, flushed-all, filledAt, fill-copies, victim-slot}
-use Rattle.model.specs.State.{queuesOf, hierarchyOf, worldOf, outcomeOf, idleRequest}
+use Rattle.model.specs.State.{bytesFrom, queuesOf, hierarchyOf, worldOf, outcomeOf, idleRequest}
 use Rattle.model.specs.Shows.{partIn, shownPart}
 use Rattle.model.specs.declared.State.{State}
+use Rattle.model.specs.declared.show_line.Part.{Part}
 use Rattle.model.specs.declared.Answer.the-variants.{Filled, Drained}
 
 -- ---- commit
 
 each-used :
-    (sets ways size : ℕ) (cache memory : List ℕ) (ls : List LoadEntry) (tags : List Tag)
-    → useEach ls (hierarchy sets ways size tags cache memory) ≡ hierarchy sets ways size (useEach ls (tabled sets ways tags) .tags) cache memory
+    (g : Figures) (size : ℕ) (cache memory : List ℕ) (ls : List LoadEntry) (tags : List Tag)
+    → useEach ls (hierarchy g size tags cache memory) ≡ hierarchy g size (useEach ls (tabled g tags) .tags) cache memory
 unfolding useEach
-each-used sets ways size cache memory [] tags = refl
-each-used sets ways size cache memory (l ∷ ls) tags =
-    ap (useEach ls) (used-line (lineOf (l .address)) (hierarchy sets ways size tags cache memory))
-    ∙ each-used sets ways size cache memory ls (usedTags sets ways (lineOf (l .address)) tags)
-    ∙ ap (λ (b : Hierarchy). hierarchy sets ways size (useEach ls b .tags) cache memory) (sym (used-line (lineOf (l .address)) (tabled sets ways tags)))
+each-used g size cache memory [] tags = refl
+each-used g size cache memory (l ∷ ls) tags =
+    ap (useEach ls) (used-line (lineOf (l .address)) (hierarchy g size tags cache memory))
+    ∙ each-used g size cache memory ls (usedTags g (lineOf (l .address)) tags)
+    ∙ ap (λ (b : Hierarchy). hierarchy g size (useEach ls b .tags) cache memory) (sym (used-line (lineOf (l .address)) (tabled g tags)))
 
 -- the lines of the answered loads, one load further: it uses its line, or it is not answered
-module _ (sets ways k : ℕ) (l : LoadEntry) (ls : List LoadEntry) (tags : List Tag) where
+module _ (g : Figures) (k : ℕ) (l : LoadEntry) (ls : List LoadEntry) (tags : List Tag) where
   pub answered-step :
       answeredBy k l ≡ true
-      → useEach (filter (answeredBy k) (l ∷ ls)) (tabled sets ways tags) .tags
-      ≡ useEach (filter (answeredBy k) ls) (tabled sets ways (usedTags sets ways (lineOf (l .address)) tags)) .tags
+      → useEach (filter (answeredBy k) (l ∷ ls)) (tabled g tags) .tags
+      ≡ useEach (filter (answeredBy k) ls) (tabled g (usedTags g (lineOf (l .address)) tags)) .tags
   unfolding filter useEach
-  answered-step t = rw t (ap (λ (b : Hierarchy). useEach (filter (answeredBy k) ls) b .tags) (used-line (lineOf (l .address)) (tabled sets ways tags)))
+  answered-step t = rw t (ap (λ (b : Hierarchy). useEach (filter (answeredBy k) ls) b .tags) (used-line (lineOf (l .address)) (tabled g tags)))
 
   pub other-step :
       answeredBy k l ≡ false
-      → useEach (filter (answeredBy k) (l ∷ ls)) (tabled sets ways tags) .tags ≡ useEach (filter (answeredBy k) ls) (tabled sets ways tags) .tags
+      → useEach (filter (answeredBy k) (l ∷ ls)) (tabled g tags) .tags ≡ useEach (filter (answeredBy k) ls) (tabled g tags) .tags
   unfolding filter
   other-step t = rw t
 
@@ -77,8 +80,8 @@ wanting-none b h ls e = cases (any (wantsLine b h) ls)
 
 module _ (s : State) (cache memory : List ℕ) where
   -- the records once each load of a list has used its line
-  pub used-each : (ls : List LoadEntry) → useEach ls (hierarchyOf s cache memory) ≡ record { sets = s .sets; ways = s .ways; size = s .size; tags = useEach ls (tabled (s .sets) (s .ways) (s .tags)) .tags; cache = cache; memory = memory }
-  used-each ls = each-used (s .sets) (s .ways) (s .size) cache memory ls (s .tags)
+  pub used-each : (ls : List LoadEntry) → useEach ls (hierarchyOf s cache memory) ≡ record { figures = s .figures; size = s .size; tags = useEach ls (tabled (s .figures) (s .tags)) .tags; cache = cache; memory = memory }
+  used-each ls = each-used (s .figures) (s .size) cache memory ls (s .tags)
 
   abbrev q : Queues
   q = queuesOf s
@@ -87,7 +90,7 @@ module _ (s : State) (cache memory : List ℕ) where
   b = hierarchyOf s cache memory
 
   abbrev table : Hierarchy
-  table = tabled (s .sets) (s .ways) (s .tags)
+  table = tabled (s .figures) (s .tags)
 
   pub idle-drains : storeReady q ≡ true → present table (lineOf (oldestStore q .address)) ≡ true → idleRule q b ≡ drainOldest q b
   unfolding idleRule present slotOf
@@ -140,7 +143,7 @@ set-age (t ∷ tags) (suc v) = set-age tags v
 pub fill-parts :
     (b : Hierarchy) (l v : ℕ) → v ≡ victim b l
     → fillLine l b
-    ≡ hierarchy (b .sets) (b .ways) (b .size) (installedIn (firstSlot b l) (b .ways) v l (b .tags))
+    ≡ hierarchy (b .figures) (b .size) (installedIn (firstSlot b l) (b .figures .ways) v l (b .tags))
     (eachFrom (copiedAt (eachFrom (writtenBackAt (tagAt (b .tags) v) (b .cache) v) 0 (b .memory)) v l) 0 (b .cache))
     (eachFrom (writtenBackAt (tagAt (b .tags) v) (b .cache) v) 0 (b .memory))
 unfolding fillLine install writeBackSlot useSlot installedIn
@@ -151,14 +154,14 @@ fill-parts b l v e =
 
 -- the fill, from what each function made
 pub filled-whole :
-    (sets ways : ℕ) (tags : List Tag) (cache memory : List ℕ) (l f v n : ℕ) (tags′ : List Tag) (cache′ memory′ : List ℕ)
-    → f ≡ (l % sets) * ways → v ≡ victimIn tags f ways
+    (g : Figures) (tags : List Tag) (cache memory : List ℕ) (l f v n : ℕ) (tags′ : List Tag) (cache′ memory′ : List ℕ)
+    → f ≡ (l % g .sets) * g .ways → v ≡ victimIn tags f (g .ways)
     → memory′ ≡ eachFrom (writtenBackAt (tagAt tags v) cache v) 0 memory
     → n ≡ 16 → cache′ ≡ eachFrom (filledAt v (take n (drop (16 * l) memory′))) 0 cache
-    → tags′ ≡ installedIn f ways v l tags
-    → hierarchy sets ways 0 tags′ cache′ memory′ ≡ fillLine l (hierarchy sets ways 0 tags cache memory)
-filled-whole sets ways tags cache memory l f v n tags′ cache′ memory′ at-first found m e c t =
-    let b : Hierarchy = hierarchy sets ways 0 tags cache memory in
+    → tags′ ≡ installedIn f (g .ways) v l tags
+    → hierarchy g 0 tags′ cache′ memory′ ≡ fillLine l (hierarchy g 0 tags cache memory)
+filled-whole g tags cache memory l f v n tags′ cache′ memory′ at-first found m e c t =
+    let b : Hierarchy = hierarchy g 0 tags cache memory in
     let whole = fill-parts b l v (victim-slot b l f v at-first found) in
     let copied : cache′ ≡ eachFrom (copiedAt memory′ v l) 0 cache = c ∙ rw e (fill-copies memory′ v l cache) in
     rw (whole, t, copied, m, ← at-first)
@@ -166,7 +169,7 @@ filled-whole sets ways tags cache memory l f v n tags′ cache′ memory′ at-f
 -- the memory length plays no part in it
 fill-sized :
     (l : ℕ) (b : Hierarchy)
-    → (let f : Hierarchy = fillLine l (hierarchy (b .sets) (b .ways) 0 (b .tags) (b .cache) (b .memory)) in holding b (f .tags) (f .cache) (f .memory))
+    → (let f : Hierarchy = fillLine l (hierarchy (b .figures) 0 (b .tags) (b .cache) (b .memory)) in holding b (f .tags) (f .cache) (f .memory))
     ≡ fillLine l b
 unfolding fillLine install writeBackSlot useSlot victim
 fill-sized l b = refl
@@ -175,13 +178,13 @@ fill-sized l b = refl
 pub filled-state :
     (s : State) (cache memory : List ℕ) (l : ℕ) (tags : List Tag) (cache′ memory′ : List ℕ)
     → s .request ≡ Line l
-    → hierarchy (s .sets) (s .ways) 0 tags cache′ memory′ ≡ fillLine l (hierarchy (s .sets) (s .ways) 0 (s .tags) cache memory)
-    → outcomeOf (record { answer = Filled (l * 16); next = record { sets = s .sets; ways = s .ways; size = s .size; last = s .last; committed = s .committed; request = Free; stores = s .stores; loads = s .loads; tags = tags } }) cache′ memory′
+    → hierarchy (s .figures) 0 tags cache′ memory′ ≡ fillLine l (hierarchy (s .figures) 0 (s .tags) cache memory)
+    → outcomeOf (record { answer = Filled (l * 16); next = record { figures = s .figures; size = s .size; last = s .last; committed = s .committed; request = Free; stores = s .stores; loads = s .loads; tags = tags } }) cache′ memory′
     ≡ replyRule (queuesOf s) (hierarchyOf s cache memory)
 unfolding replyRule
 filled-state s cache memory l tags cache′ memory′ r e =
-    let whole : hierarchy (s .sets) (s .ways) (s .size) tags cache′ memory′ ≡ fillLine l (hierarchyOf s cache memory) =
-    ap (λ (f : Hierarchy). hierarchy (s .sets) (s .ways) (s .size) (f .tags) (f .cache) (f .memory)) e ∙ fill-sized l (hierarchyOf s cache memory) in
+    let whole : hierarchy (s .figures) (s .size) tags cache′ memory′ ≡ fillLine l (hierarchyOf s cache memory) =
+    ap (λ (f : Hierarchy). hierarchy (s .figures) (s .size) (f .tags) (f .cache) (f .memory)) e ∙ fill-sized l (hierarchyOf s cache memory) in
     rw (r, ← whole)
 
 -- ---- drain
@@ -189,7 +192,7 @@ filled-state s cache memory l tags cache′ memory′ r e =
 -- the memory length and the bytes of memory play no part in a store that is written
 write-sized :
     (e : StoreEntry) (b : Hierarchy)
-    → (let f : Hierarchy = writeStore e (hierarchy (b .sets) (b .ways) 0 (b .tags) (b .cache) []) in holding b (f .tags) (f .cache) (b .memory))
+    → (let f : Hierarchy = writeStore e (hierarchy (b .figures) 0 (b .tags) (b .cache) []) in holding b (f .tags) (f .cache) (b .memory))
     ≡ writeStore e b
 unfolding writeStore putStore useSlot slotOf
 write-sized e b = refl
@@ -198,36 +201,51 @@ write-sized e b = refl
 pub drained-state :
     (s : State) (cache memory : List ℕ) (e : StoreEntry) (tags : List Tag) (cache′ : List ℕ) (stores : List StoreEntry)
     → e ≡ oldestStore (queuesOf s)
-    → hierarchy (s .sets) (s .ways) 0 tags cache′ [] ≡ writeStore e (hierarchy (s .sets) (s .ways) 0 (s .tags) cache [])
+    → hierarchy (s .figures) 0 tags cache′ [] ≡ writeStore e (hierarchy (s .figures) 0 (s .tags) cache [])
     → stores ≡ shifted noStore (s .stores)
-    → outcomeOf (record { answer = Drained (e .number); next = record { sets = s .sets; ways = s .ways; size = s .size; last = s .last; committed = s .committed; request = s .request; stores = stores; loads = s .loads; tags = tags } }) cache′ memory
+    → outcomeOf (record { answer = Drained (e .number); next = record { figures = s .figures; size = s .size; last = s .last; committed = s .committed; request = s .request; stores = stores; loads = s .loads; tags = tags } }) cache′ memory
     ≡ drainOldest (queuesOf s) (hierarchyOf s cache memory)
 drained-state s cache memory e tags cache′ stores o w p =
-    let whole : hierarchy (s .sets) (s .ways) (s .size) tags cache′ memory ≡ writeStore e (hierarchyOf s cache memory) =
-    ap (λ (f : Hierarchy). hierarchy (s .sets) (s .ways) (s .size) (f .tags) (f .cache) memory) w ∙ write-sized e (hierarchyOf s cache memory) in
+    let whole : hierarchy (s .figures) (s .size) tags cache′ memory ≡ writeStore e (hierarchyOf s cache memory) =
+    ap (λ (f : Hierarchy). hierarchy (s .figures) (s .size) (f .tags) (f .cache) memory) w ∙ write-sized e (hierarchyOf s cache memory) in
     rw (← o, ← whole, p)
 
 -- the bytes and the records of a store that is written, from what each function made
 pub written-whole :
-    (sets ways : ℕ) (tags : List Tag) (cache : List ℕ) (e : StoreEntry) (f v : ℕ) (dirty used : List Tag) (cache′ : List ℕ)
-    → f ≡ (lineOf (e .address) % sets) * ways → v ≡ firstFrom (λ k. holdsLine (lineOf (e .address)) (tagAt tags k)) f ways
+    (g : Figures) (tags : List Tag) (cache : List ℕ) (e : StoreEntry) (f v : ℕ) (dirty used : List Tag) (cache′ : List ℕ)
+    → f ≡ (lineOf (e .address) % g .sets) * g .ways → v ≡ firstFrom (λ k. holdsLine (lineOf (e .address)) (tagAt tags k)) f (g .ways)
     → cache′ ≡ eachFrom (overlaid (16 * v + e .address % 16) (e .width) (e .value)) 0 cache
     → dirty ≡ set tags v (withDirty true (tagAt tags v))
-    → used ≡ eachFrom (agedAt f ways v (tagAt dirty v .age)) 0 dirty
-    → hierarchy sets ways 0 used cache′ [] ≡ writeStore e (hierarchy sets ways 0 tags cache [])
+    → used ≡ eachFrom (agedAt f (g .ways) v (tagAt dirty v .age)) 0 dirty
+    → hierarchy g 0 used cache′ [] ≡ writeStore e (hierarchy g 0 tags cache [])
 unfolding writeStore putStore useSlot slotOf
-written-whole sets ways tags cache e f v dirty used cache′ at-first found c d u = rw (u, d, c, found, at-first)
+written-whole g tags cache e f v dirty used cache′ at-first found c d u = rw (u, d, c, found, at-first)
 
 -- ---- flush
 
 pub flush-parts :
     (b : Hierarchy)
     → writeBackAll b
-    ≡ hierarchy (b .sets) (b .ways) (b .size) (flushedTags (slots b) (b .tags)) (b .cache) (flushedMemory (slots b) (b .tags) (b .cache) (b .memory))
+    ≡ hierarchy (b .figures) (b .size) (flushedTags (slots b) (b .tags)) (b .cache) (flushedMemory (slots b) (b .tags) (b .cache) (b .memory))
 unfolding writeBackAll
 flush-parts b = flushed-all (slots b) b
 
 -- ---- show line
+
+-- so many bytes, where there are so many
+pub bytes-long : (p n : ℕ) (cache : List ℕ) → length (bytesFrom p n cache) ≡ n
+unfolding bytesFrom
+bytes-long p n cache = each-length _ 0 (replicate n 0) ∙ length-replicate n 0
+
+pub bytes-from : (p n : ℕ) (cache : List ℕ) → p + n ≤ length cache → bytesFrom p n cache ≡ take n (drop p cache)
+unfolding bytesFrom
+bytes-from p n cache h =
+    ext-getD 0 _ _ (bytes-long p n cache ∙ sym taken) λ i b.
+    let small : i < n = omega (arith, bytes-long p n cache) in
+    each-at _ (replicate n 0) 0 i (omega (arith, length-replicate n (zero))) ∙ sym (rw (getD-take, getD-drop))
+  where
+    taken : length (take n (drop p cache)) ≡ n
+    taken = omega (arith, length-take n (drop p cache), length-drop p cache)
 
 take-again : (n : ℕ) (l : List ℕ) → take (length (take n l)) l ≡ take n l
 take-again zero l = refl
@@ -259,6 +277,14 @@ module _ (a : ℕ) (s : State) (cache memory : List ℕ) where
           → Whole (unchanged (cond t (shown p (take 16 (drop p cache))) emptyPart) (queuesOf s) (hierarchyOf s cache memory))
       go true = ap (λ (bs : List ℕ). unchanged (shown p bs) (queuesOf s) (hierarchyOf s cache memory)) (sym (take-again 16 (drop p cache)))
       go false = refl
+
+  pub show-answers :
+      (p : Part) → p ≡ shownPart a (worldOf s cache memory) → p .start + p .length ≤ length cache
+      → unchanged (shown (p .start) (bytesFrom (p .start) (p .length) cache)) (queuesOf s) (hierarchyOf s cache memory)
+      ≡ outcome (rules.show a) (queuesOf s) (hierarchyOf s cache memory)
+  show-answers p e h =
+      ap (λ (bs : List ℕ). unchanged (shown (p .start) bs) (queuesOf s) (hierarchyOf s cache memory)) (bytes-from (p .start) (p .length) cache h)
+      ∙ rw e (sym show-step)
 
   pub show-refused : (k : ℕ) → outcome (rules.show a) (queuesOf s) (hierarchyOf s cache memory) ≡ unchanged emptyPart (queuesOf s) (hierarchyOf s cache memory) → record { start = 0; length = 0 } ≡ shownPart a (worldOf s cache memory)
   unfolding shownPart answer

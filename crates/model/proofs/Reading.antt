@@ -104,7 +104,7 @@ module _ (i a w : ℕ) (ss : List StoreEntry) (b : Hierarchy) (f : Fine a w) whe
   place = 16 * slotOf b (lineOf a) + a % 16
 
   abbrev pub there : Bool
-  there = ltb (slotOf b (lineOf a)) (firstSlot b (lineOf a) + b .ways)
+  there = ltb (slotOf b (lineOf a)) (firstSlot b (lineOf a) + b .figures .ways)
 
   -- all bytes of the access stand in one line
   one-byte : (x : ℕ) → a ≤ x → x < a + w → byteFrom i a ss (b .cache) place there x ≡ loadByte i ss b x

@@ -3,11 +3,15 @@ use Prim.Native.Nat.{ℕ, _+_, _*_, _%_, _<_, _≤_}
 use mathlib.Core.Path.{_≡_}
 use mathlib.Core.Bool.{cond, not}
 use mathlib.Core.List.{List, [], _∷_}
-use lib.ListN.{take, drop}
+use lib.ListN.{getD, replicate}
+use Rattle.lists.specs.Counted.{eachFrom}
 use Rattle.lists.specs.Padded.{any}
-use Rattle.rules.specs.Shape.{Queues, Hierarchy, World, world, isFreeStore}
+use Rattle.rules.specs.declared.Request.{Request}
+use Rattle.rules.specs.declared.Request.the-variants.{Free}
+use Rattle.rules.specs.Shape.{Queues, Hierarchy, World, world, tableSize, storePlaces, loadPlaces, noStore, noLoad, noTag, noFigures, isFreeStore}
 use Rattle.rules.specs.Calls.{Outcome, guarded, accessChecks}
 use Rattle.rules.specs.Calls as rules
+use Rattle.rules.specs.Runs.{outcome}
 use Rattle.queue_checks.specs.Good.{sized}
 use Rattle.model.specs.declared.State.{State}
 use Rattle.model.specs.declared.Step.{Step}
@@ -31,8 +35,7 @@ queuesOf s = record {
 
 abbrev pub hierarchyOf : State → List ℕ → List ℕ → Hierarchy
 hierarchyOf s cache memory = record {
-  sets = s .sets;
-  ways = s .ways;
+  figures = s .figures;
   size = s .size;
   tags = s .tags;
   cache = cache;
@@ -42,7 +45,37 @@ hierarchyOf s cache memory = record {
 abbrev pub worldOf : State → List ℕ → List ℕ → World
 worldOf s cache memory = world (queuesOf s) (hierarchyOf s cache memory)
 
+-- the state that is all zero
+abbrev pub noState : State
+noState = record {
+  figures = noFigures;
+  size = 0;
+  last = 0;
+  committed = 0;
+  request = Free;
+  stores = replicate storePlaces noStore;
+  loads = replicate loadPlaces noLoad;
+  tags = replicate tableSize noTag;
+}
+
+-- the same state with another register
+abbrev pub withRegister : Request → State → State
+withRegister r s = record {
+  figures = s .figures;
+  size = s .size;
+  last = s .last;
+  committed = s .committed;
+  request = r;
+  stores = s .stores;
+  loads = s .loads;
+  tags = s .tags;
+}
+
 -- ---- answers, with 01's numbers and values for each case
+
+-- n bytes of the cache from place p on. (Behind its end there are none: 0 stands for each, so that the bytes tell the length.)
+unfoldable pub bytesFrom : ℕ → ℕ → List ℕ → List ℕ
+bytesFrom p n cache = eachFrom (λ i x. getD cache (p + i) 0) 0 (replicate n 0)
 
 -- the part of the lent cache that show line gives stands beside its place
 abbrev pub answerOf : Answer → List ℕ → rules.Answer
@@ -57,7 +90,7 @@ answerOf (Requested a) cache = rules.requested a
 answerOf Idled cache = rules.idled
 answerOf (Filled a) cache = rules.filled a
 answerOf (Flushed k) cache = rules.flushed k
-answerOf (Shown p n) cache = rules.shown p (take n (drop p cache))
+answerOf (Shown p n) cache = rules.shown p (bytesFrom p n cache)
 
 -- what a call hands back, with the cache and the memory that it leaves
 abbrev pub outcomeOf : Step → List ℕ → List ℕ → Outcome
@@ -65,6 +98,10 @@ outcomeOf r cache memory =
     record { answer = answerOf (r .answer) cache; queues = queuesOf (r .next); hierarchy = hierarchyOf (r .next) cache memory }
 
 -- ---- calls
+
+-- the call c of the rules, made on w: it handed back r and left this cache and this memory
+abbrev pub Does : rules.Call → World → Step → List ℕ → List ℕ → Type 0
+Does c w r cache memory = outcomeOf r cache memory ≡ outcome c (w .queues) (w .hierarchy)
 
 abbrev pub callOf : Call → rules.Call
 callOf (Load a w) = rules.load a w
@@ -91,11 +128,10 @@ failureOf (Failed k) = k
 -- ---- what check 1 and the access checks leave to the functions behind them
 
 pub record Shaped (s : State) (cacheLength : ℕ) : Type 0 where
-  pub some-set : 0 < s .sets
-  pub most-sets : s .sets ≤ 64
-  pub some-way : 0 < s .ways
-  pub most-ways : s .ways ≤ 4
-  pub cache-long : cacheLength ≡ s .sets * s .ways * 16
+  pub some-set : 0 < s .figures .sets
+  pub some-way : 0 < s .figures .ways
+  pub room : s .figures .sets * s .figures .ways ≤ 256
+  pub cache-long : cacheLength ≡ s .figures .sets * s .figures .ways * 16
 
 -- an access lies in one line of memory
 pub record Fine (a w : ℕ) : Type 0 where

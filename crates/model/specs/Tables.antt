@@ -6,19 +6,20 @@ use lib.Dec.{ltb}
 use mathlib.Core.List.{List, []}
 use lib.ListN.{set}
 use Rattle.lists.specs.Counted.{firstFrom, greatestFrom, stepsFrom, eachFrom}
+use Rattle.rules.specs.declared.Figures.{Figures}
 use Rattle.rules.specs.declared.Tag.{Tag}
-use Rattle.rules.specs.Shape.{Hierarchy, tagAt, lineOf}
+use Rattle.rules.specs.Shape.{Hierarchy, noFigures, tagAt, lineOf}
 use Rattle.rules.specs.declared.StoreEntry.{StoreEntry}
 use Rattle.line_checks.specs.Refusal.{hierarchy}
 use Rattle.rules.specs.Lines.{present, agedAt, useLine, writeBackSlot}
 
 -- with no bytes
-abbrev pub tabled : ℕ → ℕ → List Tag → Hierarchy
-tabled sets ways tags = hierarchy sets ways 0 tags [] []
+abbrev pub tabled : Figures → List Tag → Hierarchy
+tabled g tags = hierarchy g 0 tags [] []
 
 -- the records once the line is used, if it is present
-unfoldable pub usedTags : ℕ → ℕ → ℕ → List Tag → List Tag
-usedTags sets ways l tags = useLine l (tabled sets ways tags) .tags
+unfoldable pub usedTags : Figures → ℕ → List Tag → List Tag
+usedTags g l tags = useLine l (tabled g tags) .tags
 
 -- "the lowest invalid way of the set, else the way of greatest age", as a slot, of the set from slot f on
 unfoldable pub victimIn : List Tag → ℕ → ℕ → ℕ
@@ -30,7 +31,7 @@ victimIn tags f ways =
 
 -- with no figures, which a flush does not look at
 abbrev pub held : List Tag → List ℕ → List ℕ → Hierarchy
-held = hierarchy 0 0 0
+held = hierarchy noFigures 0
 
 -- memory, and the records, once the first n slots are written back, slot by slot
 unfoldable pub flushedMemory : ℕ → List Tag → List ℕ → List ℕ → List ℕ
@@ -54,11 +55,10 @@ installedIn f ways v l tags =
 -- ---- drain
 
 -- what is left to the writing of a store whose line is present
-pub record Writable (sets ways : ℕ) (tags : List Tag) (s : StoreEntry) (cacheLength : ℕ) : Type 0 where
-  pub some-set : 0 < sets
-  pub most-sets : sets ≤ 64
-  pub most-ways : ways ≤ 4
-  pub cache-long : cacheLength ≡ sets * ways * 16
+pub record Writable (g : Figures) (tags : List Tag) (s : StoreEntry) (cacheLength : ℕ) : Type 0 where
+  pub some-set : 0 < g .sets
+  pub room : g .sets * g .ways ≤ 256
+  pub cache-long : cacheLength ≡ g .sets * g .ways * 16
   pub narrow : s .width ≤ 4
   pub one-line : s .address % 16 + s .width ≤ 16
-  pub here : present (tabled sets ways tags) (lineOf (s .address)) ≡ true
+  pub here : present (tabled g tags) (lineOf (s .address)) ≡ true

@@ -1,19 +1,14 @@
 // Abort.
 ghost use mathlib.Core.Path.{_≡_};
 ghost use mathlib.Core.List.{List};
-ghost use Prim.Native.Nat.{ℕ, _*_, _<_, _≤_};
-ghost use Rattle.lists.specs.Padded.{filter};
-ghost use Rattle.rules.specs.Calls.{answeredBy, useEach, commitRule, abortRule};
+ghost use Prim.Native.Nat.{ℕ, _<_};
+ghost use Rattle.rules.specs.Calls.{abortRule};
 ghost use Rattle.rules.specs.Calls as rules;
-ghost use Rattle.rules.specs.Runs.{outcome};
-ghost use Rattle.model.specs.Tables.{tabled};
-ghost use Rattle.model.specs.State.{queuesOf, hierarchyOf, outcomeOf, Shaped};
+ghost use Rattle.model.specs.State.{queuesOf, hierarchyOf, outcomeOf, Does, worldOf};
 use crate::Answer;
 use crate::State;
 use crate::Step;
-use crate::cache;
-use rules::LoadEntry;
-use rules::Tag;
+use rules::BAD_ABORT;
 
 impl State {
     // "removes every store and load numbered n or more and sets last to n − 1"
@@ -36,17 +31,17 @@ impl State {
     }
 
     pub fn abort(self, cache: &[u8], memory: &[u8], n: u32) -> Step
-        ensures { λ r. ⌜ outcomeOf r (now (cache .entry)) (now (memory .entry)) ≡ outcome (rules.abort n) (queuesOf self) (hierarchyOf self (now (cache .entry)) (now (memory .entry))) ⌝ }
+        ensures { λ r. ⌜ Does (rules.abort n) (worldOf self (now (cache .entry)) (now (memory .entry))) r (now (cache .entry)) (now (memory .entry)) ⌝ }
     {
         let k = self.state_refusal(cache, memory);
         if k != 0 {
             return self.refused(k);
         }
         if n <= self.committed {
-            return self.refused(16);
+            return self.refused(BAD_ABORT);
         }
         if self.last < n - 1 {
-            return self.refused(16);
+            return self.refused(BAD_ABORT);
         }
         self.abort_accepted(n)
     }

@@ -12,14 +12,18 @@ ghost use Rattle.rules.specs.Shape.{tagAt};
 ghost use Rattle.rules.specs.Lines.{holdsLine, agedAt, writtenBackAt};
 ghost use Rattle.rules.specs.Runs.{startTags};
 ghost use Rattle.model.specs.Tables.{usedTags, victimIn, flushedMemory, flushedTags, DirtyInside};
+use rules::Figures;
+use rules::LINE_LENGTH;
+use rules::NO_TAG;
+use rules::TAG_RECORDS;
 use rules::Tag;
 
 // The first slot of the line's set: "Set = line number modulo sets."
-pub(crate) fn first_slot(sets: u32, ways: u32, line: u32) -> usize
-    requires { ⌜ (0 < sets) × (sets ≤ 64) × (ways ≤ 4) ⌝ }
-    ensures { λ r. ⌜ (r ≡ (line % sets) * ways) × (r + ways ≤ sets * ways) × (sets * ways ≤ 256) ⌝ }
+pub(crate) fn first_slot(figures: Figures, line: u32) -> usize
+    requires { ⌜ (0 < figures .sets) × (figures .sets * figures .ways ≤ 256) ⌝ }
+    ensures { λ r. ⌜ (r ≡ (line % figures .sets) * figures .ways) × (r + figures .ways ≤ figures .sets * figures .ways) ⌝ }
 {
-    ((line % sets) * ways) as usize
+    ((line % figures.sets) * figures.ways) as usize
 }
 
 // A valid record that names the line.
@@ -34,7 +38,7 @@ pub(crate) fn holds_line(t: Tag, line: u32) -> bool
 }
 
 // The slot of the set that has the line; where none has it, the first slot after the set.
-pub(crate) fn find(tags: [Tag; 256], first: usize, ways: usize, line: u32) -> usize
+pub(crate) fn find(tags: [Tag; TAG_RECORDS], first: usize, ways: usize, line: u32) -> usize
     requires { ⌜ first + ways ≤ 256 ⌝ }
     ensures { λ r. ⌜ r ≡ firstFrom (λ k. holdsLine line (tagAt tags k)) first ways ⌝ }
 {
@@ -75,7 +79,12 @@ fn aged(t: Tag, first: usize, ways: usize, v: usize, age: u8, k: usize) -> Tag
 }
 
 // "Use gives a line age 0 and adds 1 to each smaller age in its set": slot v is used.
-pub(crate) fn use_slot(tags: [Tag; 256], first: usize, ways: usize, v: usize) -> [Tag; 256]
+pub(crate) fn use_slot(
+    tags: [Tag; TAG_RECORDS],
+    first: usize,
+    ways: usize,
+    v: usize,
+) -> [Tag; TAG_RECORDS]
     requires { ⌜ (first + ways ≤ 256) × (first ≤ v) × (v < first + ways) ⌝ }
     ensures { λ r. ⌜ r ≡ eachFrom (agedAt first ways v (tagAt tags v .age)) 0 tags ⌝ }
 {
@@ -94,12 +103,12 @@ pub(crate) fn use_slot(tags: [Tag; 256], first: usize, ways: usize, v: usize) ->
 }
 
 // The line is used, if it is present.
-pub(crate) fn use_line(tags: [Tag; 256], sets: u32, ways: u32, line: u32) -> [Tag; 256]
-    requires { ⌜ (0 < sets) × (sets ≤ 64) × (ways ≤ 4) ⌝ }
-    ensures { λ r. ⌜ r ≡ usedTags sets ways line tags ⌝ }
+pub(crate) fn use_line(tags: [Tag; TAG_RECORDS], figures: Figures, line: u32) -> [Tag; TAG_RECORDS]
+    requires { ⌜ (0 < figures .sets) × (figures .sets * figures .ways ≤ 256) ⌝ }
+    ensures { λ r. ⌜ r ≡ usedTags figures line tags ⌝ }
 {
-    let first = first_slot(sets, ways, line);
-    let n = ways as usize;
+    let first = first_slot(figures, line);
+    let n = figures.ways as usize;
     let v = find(tags, first, n, line);
     if v < first + n {
         return use_slot(tags, first, n, v);
@@ -108,7 +117,7 @@ pub(crate) fn use_line(tags: [Tag; 256], sets: u32, ways: u32, line: u32) -> [Ta
 }
 
 // The lowest invalid way of the set; where none is, the first slot after the set.
-fn first_invalid(tags: [Tag; 256], first: usize, ways: usize) -> usize
+fn first_invalid(tags: [Tag; TAG_RECORDS], first: usize, ways: usize) -> usize
     requires { ⌜ first + ways ≤ 256 ⌝ }
     ensures { λ r. ⌜ r ≡ firstFrom (λ k. not (tagAt tags k .valid)) first ways ⌝ }
 {
@@ -126,7 +135,7 @@ fn first_invalid(tags: [Tag; 256], first: usize, ways: usize) -> usize
 }
 
 // The way of greatest age, the lowest of several.
-fn oldest(tags: [Tag; 256], first: usize, ways: usize) -> usize
+fn oldest(tags: [Tag; TAG_RECORDS], first: usize, ways: usize) -> usize
     requires { ⌜ (0 < ways) × (first + ways ≤ 256) ⌝ }
     ensures { λ r. ⌜ r ≡ greatestFrom (λ k. tagAt tags k .age) first first ways ⌝ }
 {
@@ -145,7 +154,7 @@ fn oldest(tags: [Tag; 256], first: usize, ways: usize) -> usize
 }
 
 // "the lowest invalid way of the set, else the way of greatest age"
-pub(crate) fn victim(tags: [Tag; 256], first: usize, ways: usize) -> usize
+pub(crate) fn victim(tags: [Tag; TAG_RECORDS], first: usize, ways: usize) -> usize
     requires { ⌜ (0 < ways) × (first + ways ≤ 256) ⌝ }
     ensures { λ r. ⌜ (r ≡ victimIn tags first ways) × (first ≤ r) × (r < first + ways) ⌝ }
 {
@@ -161,9 +170,9 @@ pub(crate) fn fill_slot(cache: &mut [u8], v: usize, src: &[u8])
     requires { ⌜ (length (now src) ≡ 16) × (16 * v + 16 ≤ length (now cache)) ⌝ }
     ensures { λ _. ⌜ now (cache .exit) ≡ eachFrom (λ j x. cond (eqb (j / 16) v) (getD (now (src .entry)) (j % 16) 0) x) 0 (now (cache .entry)) ⌝ }
 {
-    let at = 16 * v;
+    let at = LINE_LENGTH * v;
     let mut i: usize = 0;
-    while i < 16 {
+    while i < LINE_LENGTH {
         cache[at + i] = src[i];
         i += 1;
     }
@@ -176,8 +185,8 @@ pub(crate) fn write_back(t: Tag, v: usize, cache: &[u8], memory: &mut [u8])
 {
     if t.dirty {
         let line = t.line as usize;
-        let from = 16 * v;
-        let end = from + 16;
+        let from = LINE_LENGTH * v;
+        let end = from + LINE_LENGTH;
         fill_slot(memory, line, &cache[from..end]);
     }
 }
@@ -198,7 +207,12 @@ pub(crate) fn put_store(cache: &mut [u8], at: usize, width: u32, value: u32)
 }
 
 // "writes every dirty line to memory": the lines of the first count slots, slot by slot.
-pub(crate) fn write_back_all(tags: [Tag; 256], count: usize, cache: &[u8], memory: &mut [u8])
+pub(crate) fn write_back_all(
+    tags: [Tag; TAG_RECORDS],
+    count: usize,
+    cache: &[u8],
+    memory: &mut [u8],
+)
     requires { ⌜ (count ≤ 256) × (16 * count ≤ length (now cache)) × DirtyInside tags count (length (now memory)) ⌝ }
     ensures { λ _. ⌜ now (memory .exit) ≡ flushedMemory count tags (now (cache .entry)) (now (memory .entry)) ⌝ }
 {
@@ -211,7 +225,7 @@ pub(crate) fn write_back_all(tags: [Tag; 256], count: usize, cache: &[u8], memor
 }
 
 // ".. marks it clean": the records of the first count slots.
-pub(crate) fn clean_all(tags: [Tag; 256], count: usize) -> [Tag; 256]
+pub(crate) fn clean_all(tags: [Tag; TAG_RECORDS], count: usize) -> [Tag; TAG_RECORDS]
     requires { ⌜ count ≤ 256 ⌝ }
     ensures { λ r. ⌜ r ≡ flushedTags count tags ⌝ }
 {
@@ -238,12 +252,12 @@ fn dirty_one(t: Tag) -> u32
 }
 
 // The number of dirty records.
-pub(crate) fn dirty_count(tags: [Tag; 256]) -> u32
+pub(crate) fn dirty_count(tags: [Tag; TAG_RECORDS]) -> u32
     ensures { λ r. ⌜ r ≡ length (filter (λ t. t .dirty) tags) ⌝ }
 {
     let mut n: u32 = 0;
     let mut k: usize = 0;
-    while k < 256 {
+    while k < TAG_RECORDS {
         let t = tags[k];
         n += dirty_one(t);
         k += 1;
@@ -252,19 +266,13 @@ pub(crate) fn dirty_count(tags: [Tag; 256]) -> u32
 }
 
 // "gives way w age w, invalidates every record": slot s × ways + w has age w; the other records are zero.
-pub(crate) fn start_tags(sets: u32, ways: u32) -> [Tag; 256]
-    requires { ⌜ (sets * ways ≤ 256) × (0 < ways) × (ways ≤ 4) ⌝ }
-    ensures { λ r. ⌜ r ≡ startTags sets ways ⌝ }
+pub(crate) fn start_tags(figures: Figures) -> [Tag; TAG_RECORDS]
+    requires { ⌜ (figures .sets * figures .ways ≤ 256) × (0 < figures .ways) ⌝ }
+    ensures { λ r. ⌜ r ≡ startTags (figures .sets) (figures .ways) ⌝ }
 {
-    let zero = Tag {
-        valid: false,
-        dirty: false,
-        line: 0,
-        age: 0,
-    };
-    let mut out = [zero; 256];
-    let count = (sets * ways) as usize;
-    let n = ways as usize;
+    let mut out = [NO_TAG; TAG_RECORDS];
+    let count = (figures.sets * figures.ways) as usize;
+    let n = figures.ways as usize;
     let mut k: usize = 0;
     while k < count {
         let t = out[k];

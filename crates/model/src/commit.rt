@@ -3,36 +3,39 @@ ghost use mathlib.Core.Path.{_≡_};
 ghost use mathlib.Core.List.{List};
 ghost use Prim.Native.Nat.{ℕ, _*_, _<_, _≤_};
 ghost use Rattle.lists.specs.Padded.{filter};
-ghost use Rattle.rules.specs.Calls.{answeredBy, useEach, commitRule, abortRule};
+ghost use Rattle.rules.specs.Calls.{answeredBy, useEach, commitRule};
 ghost use Rattle.rules.specs.Calls as rules;
-ghost use Rattle.rules.specs.Runs.{outcome};
 ghost use Rattle.model.specs.Tables.{tabled};
-ghost use Rattle.model.specs.State.{queuesOf, hierarchyOf, outcomeOf, Shaped};
+ghost use Rattle.model.specs.State.{queuesOf, hierarchyOf, outcomeOf, Shaped, Does, worldOf};
 use crate::Answer;
 use crate::State;
 use crate::Step;
 use crate::cache;
+use rules::BAD_COMMIT;
+use rules::Figures;
+use rules::LINE_BYTES;
+use rules::LOAD_PLACES;
 use rules::LoadEntry;
+use rules::TAG_RECORDS;
 use rules::Tag;
 
 // The lines of the answered loads numbered k or less are used, in number order.
 fn use_all_answered(
-    tags: [Tag; 256],
-    sets: u32,
-    ways: u32,
-    loads: [LoadEntry; 8],
+    tags: [Tag; TAG_RECORDS],
+    figures: Figures,
+    loads: [LoadEntry; LOAD_PLACES],
     k: u32,
-) -> [Tag; 256]
-    requires { ⌜ (0 < sets) × (sets ≤ 64) × (ways ≤ 4) ⌝ }
-    ensures { λ r. ⌜ r ≡ useEach (filter (answeredBy k) loads) (tabled sets ways tags) .tags ⌝ }
+) -> [Tag; TAG_RECORDS]
+    requires { ⌜ (0 < figures .sets) × (figures .sets * figures .ways ≤ 256) ⌝ }
+    ensures { λ r. ⌜ r ≡ useEach (filter (answeredBy k) loads) (tabled figures tags) .tags ⌝ }
 {
     let mut out = tags;
     let mut j: usize = 0;
-    while j < 8 {
+    while j < LOAD_PLACES {
         let l = loads[j];
         j += 1;
         if load_queue::is_answered_by(l, k) {
-            let used = cache::use_line(out, sets, ways, l.address / 16);
+            let used = cache::use_line(out, figures, l.address / LINE_BYTES);
             out = used;
         }
     }
@@ -42,12 +45,13 @@ fn use_all_answered(
 impl State {
     // "Commit k sets h to k. Answered loads numbered k or less leave the list in number order, each using its line if the line is present."
     fn commit_accepted(mut self, k: u32) -> Step
-        requires { ⌜ Shaped self (self .sets * self .ways * 16) ⌝ }
+        requires { ⌜ Shaped self (self .figures .sets * self .figures .ways * 16) ⌝ }
         ensures { λ r. ⌜ ((c m : List ℕ) → outcomeOf r c m ≡ commitRule k (queuesOf self) (hierarchyOf self c m)) ⌝ }
     {
         let loads = self.loads;
         let tags = self.tags;
-        let used = use_all_answered(tags, self.sets, self.ways, loads, k);
+        let figures = self.figures;
+        let used = use_all_answered(tags, figures, loads, k);
         let rest = load_queue::remove_answered(loads, k);
         self.committed = k;
         self.loads = rest;
@@ -59,17 +63,17 @@ impl State {
     }
 
     pub fn commit(self, cache: &[u8], memory: &[u8], k: u32) -> Step
-        ensures { λ r. ⌜ outcomeOf r (now (cache .entry)) (now (memory .entry)) ≡ outcome (rules.commit k) (queuesOf self) (hierarchyOf self (now (cache .entry)) (now (memory .entry))) ⌝ }
+        ensures { λ r. ⌜ Does (rules.commit k) (worldOf self (now (cache .entry)) (now (memory .entry))) r (now (cache .entry)) (now (memory .entry)) ⌝ }
     {
         let n = self.state_refusal(cache, memory);
         if n != 0 {
             return self.refused(n);
         }
         if k < self.committed {
-            return self.refused(15);
+            return self.refused(BAD_COMMIT);
         }
         if self.last < k {
-            return self.refused(15);
+            return self.refused(BAD_COMMIT);
         }
         self.commit_accepted(k)
     }

@@ -1,19 +1,16 @@
 // Flush.
 ghost use mathlib.Core.Path.{_≡_};
 ghost use mathlib.Core.Bool.{true};
-ghost use Prim.Native.Nat.{_+_, _*_, _<_, _≤_};
-ghost use Rattle.rules.specs.Calls.{replyRule, flushRule};
+ghost use Prim.Native.Nat.{_*_};
+ghost use Rattle.rules.specs.Calls.{flushRule};
 ghost use Rattle.rules.specs.Calls as rules;
 ghost use Rattle.rules.specs.WellFormed.{wellFormed};
-ghost use Rattle.rules.specs.Runs.{outcome};
-ghost use Rattle.model.specs.Tables.{installedIn};
-ghost use Rattle.model.specs.State.{queuesOf, hierarchyOf, outcomeOf};
+ghost use Rattle.model.specs.State.{queuesOf, hierarchyOf, outcomeOf, Does, worldOf};
 use crate::Answer;
 use crate::State;
 use crate::Step;
 use crate::cache;
-use rules::Request;
-use rules::Tag;
+use rules::COMMITTED_STORE_HELD;
 
 impl State {
     // "Flush writes every dirty line to memory, marks it clean and answers the number of lines written. Ages stay."
@@ -22,7 +19,8 @@ impl State {
         ensures { λ r. ⌜ outcomeOf r (now (cache .entry)) (now (memory .exit)) ≡ flushRule (queuesOf self) (hierarchyOf self (now (cache .entry)) (now (memory .entry))) ⌝ }
     {
         let tags = self.tags;
-        let count = (self.sets * self.ways) as usize;
+        let figures = self.figures;
+        let count = (figures.sets * figures.ways) as usize;
         let written = cache::dirty_count(tags);
         cache::write_back_all(tags, count, cache, memory);
         let clean = cache::clean_all(tags, count);
@@ -34,7 +32,7 @@ impl State {
     }
 
     pub fn flush(self, cache: &[u8], memory: &mut [u8]) -> Step
-        ensures { λ r. ⌜ outcomeOf r (now (cache .entry)) (now (memory .exit)) ≡ outcome rules.flush (queuesOf self) (hierarchyOf self (now (cache .entry)) (now (memory .entry))) ⌝ }
+        ensures { λ r. ⌜ Does rules.flush (worldOf self (now (cache .entry)) (now (memory .entry))) r (now (cache .entry)) (now (memory .exit)) ⌝ }
     {
         let k = self.state_refusal(cache, memory);
         if k != 0 {
@@ -42,7 +40,7 @@ impl State {
         }
         let stores = self.stores;
         if store_queue::has_committed_store(stores, self.committed) {
-            return self.refused(18);
+            return self.refused(COMMITTED_STORE_HELD);
         }
         self.flush_accepted(cache, memory)
     }

@@ -10,20 +10,25 @@ ghost use Rattle.rules.specs.Lines.{present, writeStore};
 ghost use Rattle.line_checks.specs.Refusal.{hierarchy};
 ghost use Rattle.rules.specs.Calls.{wantsLine, oldestStore, storeReady, drainOldest, requestLine};
 ghost use Rattle.rules.specs.Calls as rules;
-ghost use Rattle.rules.specs.Runs.{outcome};
 ghost use Rattle.model.specs.Tables.{tabled, Writable};
-ghost use Rattle.model.specs.State.{queuesOf, hierarchyOf, outcomeOf, Shaped, Fine, idleRequest};
+ghost use Rattle.model.specs.State.{queuesOf, hierarchyOf, outcomeOf, Shaped, Fine, idleRequest, Does, worldOf};
 use crate::Answer;
 use crate::State;
 use crate::Step;
 use crate::cache;
+use rules::Figures;
+use rules::LINE_BYTES;
+use rules::LINE_LENGTH;
+use rules::LOAD_PLACES;
 use rules::LoadEntry;
+use rules::NO_LOAD;
 use rules::Request;
 use rules::StoreEntry;
+use rules::TAG_RECORDS;
 use rules::Tag;
 
 // Slot v is marked dirty.
-fn marked_dirty(tags: [Tag; 256], v: usize) -> [Tag; 256]
+fn marked_dirty(tags: [Tag; TAG_RECORDS], v: usize) -> [Tag; TAG_RECORDS]
     requires { ⌜ v < 256 ⌝ }
     ensures { λ r. ⌜ r ≡ set tags v (withDirty true (tagAt tags v)) ⌝ }
 {
@@ -40,20 +45,19 @@ fn marked_dirty(tags: [Tag; 256], v: usize) -> [Tag; 256]
 
 // "write it, mark the line dirty, use the line": of a store whose line is present.
 fn write_store(
-    tags: [Tag; 256],
-    sets: u32,
-    ways: u32,
+    tags: [Tag; TAG_RECORDS],
+    figures: Figures,
     s: StoreEntry,
     cache: &mut [u8],
-) -> [Tag; 256]
-    requires { ⌜ Writable sets ways tags s (length (now cache)) ⌝ }
-    ensures { λ r. ⌜ hierarchy sets ways 0 r (now (cache .exit)) [] ≡ writeStore s (hierarchy sets ways 0 tags (now (cache .entry)) []) ⌝ }
+) -> [Tag; TAG_RECORDS]
+    requires { ⌜ Writable figures tags s (length (now cache)) ⌝ }
+    ensures { λ r. ⌜ hierarchy figures 0 r (now (cache .exit)) [] ≡ writeStore s (hierarchy figures 0 tags (now (cache .entry)) []) ⌝ }
 {
-    let n = ways as usize;
-    let line = s.address / 16;
-    let first = cache::first_slot(sets, ways, line);
+    let n = figures.ways as usize;
+    let line = s.address / LINE_BYTES;
+    let first = cache::first_slot(figures, line);
     let slot = cache::find(tags, first, n, line);
-    let at = 16 * slot + (s.address % 16) as usize;
+    let at = LINE_LENGTH * slot + (s.address % LINE_BYTES) as usize;
     cache::put_store(cache, at, s.width, s.value);
     let dirty = marked_dirty(tags, slot);
     let used = cache::use_slot(dirty, first, n, slot);
@@ -63,12 +67,13 @@ fn write_store(
 impl State {
     // (a) ".. remove the store": s is the oldest store, and its line is present.
     fn drain_oldest(mut self, cache: &mut [u8], s: StoreEntry) -> Step
-        requires { ⌜ Shaped self (length (now cache)) × Fine (s .address) (s .width) × (s ≡ oldestStore (queuesOf self)) × (present (tabled (self .sets) (self .ways) (self .tags)) (lineOf (s .address)) ≡ true) ⌝ }
+        requires { ⌜ Shaped self (length (now cache)) × Fine (s .address) (s .width) × (s ≡ oldestStore (queuesOf self)) × (present (tabled (self .figures) (self .tags)) (lineOf (s .address)) ≡ true) ⌝ }
         ensures { λ r. ⌜ ((m : List ℕ) → outcomeOf r (now (cache .exit)) m ≡ drainOldest (queuesOf self) (hierarchyOf self (now (cache .entry)) m)) ⌝ }
     {
         let tags = self.tags;
         let stores = self.stores;
-        let used = write_store(tags, self.sets, self.ways, s, cache);
+        let figures = self.figures;
+        let used = write_store(tags, figures, s, cache);
         let rest = store_queue::pop_store(stores);
         self.stores = rest;
         self.tags = used;
@@ -82,30 +87,17 @@ impl State {
     fn request_line(self, address: u32) -> Step
         ensures { λ r. ⌜ ((c m : List ℕ) → outcomeOf r c m ≡ requestLine address (queuesOf self) (hierarchyOf self c m)) ⌝ }
     {
-        let line = address / 16;
-        let stores = self.stores;
-        let loads = self.loads;
-        let tags = self.tags;
+        let line = address / LINE_BYTES;
         Step {
-            answer: Answer::Requested(line * 16),
-            next: State {
-                sets: self.sets,
-                ways: self.ways,
-                size: self.size,
-                last: self.last,
-                committed: self.committed,
-                request: Request::Line(line),
-                stores,
-                loads,
-                tags,
-            },
+            answer: Answer::Requested(line * LINE_BYTES),
+            next: self.with_request(Request::Line(line)),
         }
     }
 
     // A committed waiting load whose line is absent.
     fn wants_line(self, l: LoadEntry) -> bool
-        requires { ⌜ Shaped self (self .sets * self .ways * 16) ⌝ }
-        ensures { λ r. ⌜ r ≡ wantsLine (tabled (self .sets) (self .ways) (self .tags)) (self .committed) l ⌝ }
+        requires { ⌜ Shaped self (self .figures .sets * self .figures .ways * 16) ⌝ }
+        ensures { λ r. ⌜ r ≡ wantsLine (tabled (self .figures) (self .tags)) (self .committed) l ⌝ }
     {
         if l.number == 0 {
             return false;
@@ -114,7 +106,7 @@ impl State {
             return false;
         }
         if l.waiting {
-            if self.is_present(l.address / 16) {
+            if self.is_present(l.address / LINE_BYTES) {
                 return false;
             }
             return true;
@@ -124,29 +116,24 @@ impl State {
 
     // The lowest such load, or a free place.
     fn lowest_wanting(self) -> LoadEntry
-        requires { ⌜ Shaped self (self .sets * self .ways * 16) ⌝ }
-        ensures { λ r. ⌜ r ≡ first (wantsLine (tabled (self .sets) (self .ways) (self .tags)) (self .committed)) noLoad (self .loads) ⌝ }
+        requires { ⌜ Shaped self (self .figures .sets * self .figures .ways * 16) ⌝ }
+        ensures { λ r. ⌜ r ≡ first (wantsLine (tabled (self .figures) (self .tags)) (self .committed)) noLoad (self .loads) ⌝ }
     {
         let loads = self.loads;
         let mut j: usize = 0;
-        while j < 8 {
+        while j < LOAD_PLACES {
             let l = loads[j];
             if self.wants_line(l) {
                 return l;
             }
             j += 1;
         }
-        LoadEntry {
-            number: 0,
-            address: 0,
-            width: 0,
-            waiting: false,
-        }
+        NO_LOAD
     }
 
     // (b), (c) and (d): what follows where nothing drains. The oldest store is ready, its line is here, as told.
     fn idle_request(self, ready: bool, here: bool, s: StoreEntry) -> Step
-        requires { ⌜ Shaped self (self .sets * self .ways * 16) × (ready ≡ storeReady (queuesOf self)) × (s ≡ oldestStore (queuesOf self)) × (here ≡ present (tabled (self .sets) (self .ways) (self .tags)) (lineOf (s .address))) ⌝ }
+        requires { ⌜ Shaped self (self .figures .sets * self .figures .ways * 16) × (ready ≡ storeReady (queuesOf self)) × (s ≡ oldestStore (queuesOf self)) × (here ≡ present (tabled (self .figures) (self .tags)) (lineOf (s .address))) ⌝ }
         ensures { λ r. ⌜ ((c m : List ℕ) → outcomeOf r c m ≡ idleRequest (queuesOf self) (hierarchyOf self c m)) ⌝ }
     {
         let request = self.request;
@@ -179,7 +166,7 @@ impl State {
 
     // "Idle does the first that applies."
     pub fn idle(self, cache: &mut [u8], memory: &mut [u8]) -> Step
-        ensures { λ r. ⌜ outcomeOf r (now (cache .exit)) (now (memory .exit)) ≡ outcome rules.idle (queuesOf self) (hierarchyOf self (now (cache .entry)) (now (memory .entry))) ⌝ }
+        ensures { λ r. ⌜ Does rules.idle (worldOf self (now (cache .entry)) (now (memory .entry))) r (now (cache .exit)) (now (memory .exit)) ⌝ }
     {
         let k = self.state_refusal(cache, memory);
         if k != 0 {
@@ -189,7 +176,7 @@ impl State {
         let loads = self.loads;
         let s = stores[0];
         let ready = queue_checks::store_ready(stores, loads, self.committed);
-        let here = self.is_present(s.address / 16);
+        let here = self.is_present(s.address / LINE_BYTES);
         if ready {
             if here {
                 return self.drain_oldest(cache, s);

@@ -1,9 +1,13 @@
 // The load/store unit: its state by value, and the ten calls as methods.
 // Each call takes any state, buffers of any length and numbers of any size, refuses what is bad by the paper's number and then
 // changes nothing. `answerOf` in specs/State.antt gives the paper's number and values for each answer.
+use rules::Figures;
+use rules::LOAD_PLACES;
 use rules::LoadEntry;
 use rules::Request;
+use rules::STORE_PLACES;
 use rules::StoreEntry;
+use rules::TAG_RECORDS;
 use rules::Tag;
 
 mod abort;
@@ -24,8 +28,8 @@ mod store;
 
 // The state. A free place of a queue and an unused record are all zero.
 pub struct State {
-    pub sets: u32,
-    pub ways: u32,
+    // sets and ways
+    pub figures: Figures,
     // the memory length
     pub size: u32,
     // the last number given
@@ -35,16 +39,10 @@ pub struct State {
     // the miss register (01: the request register)
     pub request: Request,
     // the store queue (01: the held stores)
-    pub stores: [StoreEntry; 16],
+    pub stores: [StoreEntry; STORE_PLACES],
     // the load queue (01: the list of loads)
-    pub loads: [LoadEntry; 8],
-    pub tags: [Tag; 256],
-}
-
-// The figures of a start.
-pub struct Figures {
-    pub sets: u32,
-    pub ways: u32,
+    pub loads: [LoadEntry; LOAD_PLACES],
+    pub tags: [Tag; TAG_RECORDS],
 }
 
 // What a start answers: ready, or the refusal's number.

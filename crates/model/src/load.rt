@@ -1,24 +1,22 @@
 // Load.
 ghost use mathlib.Core.Path.{_≡_};
 ghost use mathlib.Core.List.{List};
-ghost use Prim.Native.Nat.{ℕ, _*_, _<_};
+ghost use Prim.Native.Nat.{ℕ, _<_};
 ghost use lib.ListN.{length};
-ghost use Rattle.lists.specs.Padded.{first};
-ghost use Rattle.rules.specs.Shape.{topNumber, noLoad};
-ghost use Rattle.rules.specs.Calls.{loadRule, waitingAt, answerLoad, retryRule};
+ghost use Rattle.rules.specs.Shape.{topNumber};
+ghost use Rattle.rules.specs.Calls.{loadRule};
 ghost use Rattle.rules.specs.Calls as rules;
-ghost use Rattle.rules.specs.Runs.{outcome};
-ghost use Rattle.model.specs.State.{queuesOf, hierarchyOf, outcomeOf, Shaped, Fine};
-use crate::Answer;
+ghost use Rattle.model.specs.State.{queuesOf, hierarchyOf, outcomeOf, Shaped, Fine, Does, worldOf};
 use crate::State;
 use crate::Step;
 use crate::access;
 use crate::access::Access;
 use crate::access::Checked;
-use crate::cache;
 use crate::read;
-use crate::read::Read;
+use rules::LOAD_QUEUE_FULL;
 use rules::LoadEntry;
+use rules::NUMBERS_USED_UP;
+use rules::TOP_NUMBER;
 
 impl State {
     // "Load takes last + 1 and joins the loads."
@@ -43,7 +41,7 @@ impl State {
     }
 
     pub fn load(self, cache: &[u8], memory: &[u8], address: u32, width: u32) -> Step
-        ensures { λ r. ⌜ outcomeOf r (now (cache .entry)) (now (memory .entry)) ≡ outcome (rules.load address width) (queuesOf self) (hierarchyOf self (now (cache .entry)) (now (memory .entry))) ⌝ }
+        ensures { λ r. ⌜ Does (rules.load address width) (worldOf self (now (cache .entry)) (now (memory .entry))) r (now (cache .entry)) (now (memory .entry)) ⌝ }
     {
         let k = self.state_refusal(cache, memory);
         if k != 0 {
@@ -53,14 +51,14 @@ impl State {
         let Checked::Passed(a) = checked else {
             return self.refused(access::failure(checked));
         };
-        if self.last == 4294967295 {
-            return self.refused(13);
+        if self.last == TOP_NUMBER {
+            return self.refused(NUMBERS_USED_UP);
         }
         let loads = self.loads;
         if load_queue::has_free_load(loads) {
             self.load_accepted(cache, a)
         } else {
-            self.refused(12)
+            self.refused(LOAD_QUEUE_FULL)
         }
     }
 }

@@ -11,6 +11,9 @@ ghost use Rattle.model.specs.Reads.{byteOrLine, joinedTo, byteFrom, read
 use crate::Answer;
 use crate::State;
 use crate::cache;
+use rules::LINE_BYTES;
+use rules::LINE_LENGTH;
+use rules::STORE_PLACES;
 use rules::StoreEntry;
 use store_queue::Byte;
 
@@ -21,7 +24,14 @@ pub enum Read {
 }
 
 // The byte at address a for load i: from the held stores, else from place p of the cache, if its line is there.
-fn byte_at(stores: [StoreEntry; 16], i: u32, a: u32, cache: &[u8], p: usize, here: bool) -> Byte
+fn byte_at(
+    stores: [StoreEntry; STORE_PLACES],
+    i: u32,
+    a: u32,
+    cache: &[u8],
+    p: usize,
+    here: bool,
+) -> Byte
     requires { ⌜ (here ≡ true → p < length (now cache)) ⌝ }
     ensures { λ r. ⌜ r ≡ byteOrLine i a stores (now (cache .entry)) p here ⌝ }
 {
@@ -53,7 +63,7 @@ fn joined(b: Byte, r: Read) -> Read
 
 // The width bytes from address a on, lowest first; the first of them stands at place p of the cache, if the line is there.
 fn read_bytes(
-    stores: [StoreEntry; 16],
+    stores: [StoreEntry; STORE_PLACES],
     i: u32,
     a: u32,
     width: u32,
@@ -100,13 +110,14 @@ impl State {
         requires { ⌜ Shaped self (length (now cache)) × Fine address width ⌝ }
         ensures { λ r. ⌜ ((m : List ℕ) → r ≡ readOf (loadValue i address width (self .stores) (hierarchyOf self (now (cache .entry)) m))) ⌝ }
     {
-        let line = address / 16;
+        let line = address / LINE_BYTES;
         let tags = self.tags;
         let stores = self.stores;
-        let ways = self.ways as usize;
-        let first = cache::first_slot(self.sets, self.ways, line);
+        let figures = self.figures;
+        let ways = figures.ways as usize;
+        let first = cache::first_slot(figures, line);
         let slot = cache::find(tags, first, ways, line);
-        let place = 16 * slot + (address % 16) as usize;
+        let place = LINE_LENGTH * slot + (address % LINE_BYTES) as usize;
         read_bytes(stores, i, address, width, cache, place, slot < first + ways)
     }
 }

@@ -2,21 +2,30 @@
 ghost use mathlib.Core.Path.{_≡_};
 ghost use mathlib.Core.Bool.{true};
 ghost use Prim.Native.Nat.{_+_, _*_, _<_, _≤_};
-ghost use Rattle.rules.specs.Calls.{replyRule, flushRule};
+ghost use Rattle.rules.specs.Calls.{replyRule};
 ghost use Rattle.rules.specs.Calls as rules;
 ghost use Rattle.rules.specs.WellFormed.{wellFormed};
-ghost use Rattle.rules.specs.Runs.{outcome};
 ghost use Rattle.model.specs.Tables.{installedIn};
-ghost use Rattle.model.specs.State.{queuesOf, hierarchyOf, outcomeOf};
+ghost use Rattle.model.specs.State.{queuesOf, hierarchyOf, outcomeOf, Does, worldOf};
 use crate::Answer;
 use crate::State;
 use crate::Step;
 use crate::cache;
+use rules::LINE_BYTES;
+use rules::LINE_LENGTH;
+use rules::NOTHING_REQUESTED;
 use rules::Request;
+use rules::TAG_RECORDS;
 use rules::Tag;
 
 // "the record becomes valid and clean, is used": line in slot v, whose age stays until it is used.
-fn installed(tags: [Tag; 256], first: usize, ways: usize, v: usize, line: u32) -> [Tag; 256]
+fn installed(
+    tags: [Tag; TAG_RECORDS],
+    first: usize,
+    ways: usize,
+    v: usize,
+    line: u32,
+) -> [Tag; TAG_RECORDS]
     requires { ⌜ (first + ways ≤ 256) × (first ≤ v) × (v < first + ways) × (line < 4096) ⌝ }
     ensures { λ r. ⌜ r ≡ installedIn first ways v line tags ⌝ }
 {
@@ -38,35 +47,30 @@ impl State {
         ensures { λ r. ⌜ outcomeOf r (now (cache .exit)) (now (memory .exit)) ≡ replyRule (queuesOf self) (hierarchyOf self (now (cache .entry)) (now (memory .entry))) ⌝ }
     {
         let tags = self.tags;
-        let stores = self.stores;
-        let loads = self.loads;
-        let ways = self.ways as usize;
-        let first = cache::first_slot(self.sets, self.ways, line);
+        let figures = self.figures;
+        let ways = figures.ways as usize;
+        let first = cache::first_slot(figures, line);
         let v = cache::victim(tags, first, ways);
         let old = tags[v];
         cache::write_back(old, v, cache, memory);
         let l = line as usize;
-        cache::fill_slot(cache, v, &memory[16 * l..16 * l + 16]);
+        cache::fill_slot(
+            cache,
+            v,
+            &memory[LINE_LENGTH * l..LINE_LENGTH * l + LINE_LENGTH],
+        );
         let table = installed(tags, first, ways, v, line);
+        let mut next = self.with_request(Request::Free);
+        next.tags = table;
         Step {
-            answer: Answer::Filled(line * 16),
-            next: State {
-                sets: self.sets,
-                ways: self.ways,
-                size: self.size,
-                last: self.last,
-                committed: self.committed,
-                request: Request::Free,
-                stores,
-                loads,
-                tags: table,
-            },
+            answer: Answer::Filled(line * LINE_BYTES),
+            next,
         }
     }
 
     // The memory reply.
     pub fn reply(self, cache: &mut [u8], memory: &mut [u8]) -> Step
-        ensures { λ r. ⌜ outcomeOf r (now (cache .exit)) (now (memory .exit)) ≡ outcome rules.reply (queuesOf self) (hierarchyOf self (now (cache .entry)) (now (memory .entry))) ⌝ }
+        ensures { λ r. ⌜ Does rules.reply (worldOf self (now (cache .entry)) (now (memory .entry))) r (now (cache .exit)) (now (memory .exit)) ⌝ }
     {
         let k = self.state_refusal(cache, memory);
         if k != 0 {
@@ -74,7 +78,7 @@ impl State {
         }
         let request = self.request;
         match request {
-            Request::Free => self.refused(17),
+            Request::Free => self.refused(NOTHING_REQUESTED),
             Request::Line(line) => self.fill_line(line, cache, memory),
         }
     }

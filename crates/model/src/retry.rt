@@ -4,33 +4,32 @@ ghost use mathlib.Core.List.{List};
 ghost use Prim.Native.Nat.{ℕ, _*_, _<_};
 ghost use lib.ListN.{length};
 ghost use Rattle.lists.specs.Padded.{first};
-ghost use Rattle.rules.specs.Shape.{topNumber, noLoad};
-ghost use Rattle.rules.specs.Calls.{loadRule, waitingAt, answerLoad, retryRule};
+ghost use Rattle.rules.specs.Shape.{noLoad};
+ghost use Rattle.rules.specs.Calls.{waitingAt, answerLoad, retryRule};
 ghost use Rattle.rules.specs.Calls as rules;
-ghost use Rattle.rules.specs.Runs.{outcome};
-ghost use Rattle.model.specs.State.{queuesOf, hierarchyOf, outcomeOf, Shaped, Fine};
+ghost use Rattle.model.specs.State.{queuesOf, hierarchyOf, outcomeOf, Shaped, Fine, Does, worldOf};
 use crate::Answer;
 use crate::State;
 use crate::Step;
-use crate::access;
-use crate::access::Access;
-use crate::access::Checked;
 use crate::cache;
 use crate::read;
 use crate::read::Read;
+use rules::LINE_BYTES;
 use rules::LoadEntry;
+use rules::NO_WAITING_LOAD;
 
 impl State {
     // "Once answered, a committed load leaves the list and uses its line if present; an uncommitted one is marked answered."
     fn answer_load(mut self, i: u32, v: u32, l: LoadEntry) -> Step
-        requires { ⌜ Shaped self (self .sets * self .ways * 16) ⌝ }
+        requires { ⌜ Shaped self (self .figures .sets * self .figures .ways * 16) ⌝ }
         ensures { λ r. ⌜ ((c m : List ℕ) → outcomeOf r c m ≡ answerLoad i v l (queuesOf self) (hierarchyOf self c m)) ⌝ }
     {
         let loads = self.loads;
         let tags = self.tags;
+        let figures = self.figures;
         if i <= self.committed {
             let rest = load_queue::remove_waiting(loads, i);
-            let used = cache::use_line(tags, self.sets, self.ways, l.address / 16);
+            let used = cache::use_line(tags, figures, l.address / LINE_BYTES);
             self.loads = rest;
             self.tags = used;
             return Step {
@@ -63,7 +62,7 @@ impl State {
 
     // Inquiry about number i.
     pub fn retry(self, cache: &[u8], memory: &[u8], i: u32) -> Step
-        ensures { λ r. ⌜ outcomeOf r (now (cache .entry)) (now (memory .entry)) ≡ outcome (rules.retry i) (queuesOf self) (hierarchyOf self (now (cache .entry)) (now (memory .entry))) ⌝ }
+        ensures { λ r. ⌜ Does (rules.retry i) (worldOf self (now (cache .entry)) (now (memory .entry))) r (now (cache .entry)) (now (memory .entry)) ⌝ }
     {
         let k = self.state_refusal(cache, memory);
         if k != 0 {
@@ -74,7 +73,7 @@ impl State {
             let l = load_queue::waiting_load(loads, i);
             self.retry_accepted(cache, i, l)
         } else {
-            self.refused(14)
+            self.refused(NO_WAITING_LOAD)
         }
     }
 }

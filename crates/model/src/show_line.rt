@@ -6,6 +6,8 @@ ghost use Rattle.model.specs.State.{worldOf};
 ghost use Rattle.model.specs.Shows.{shownPart, PartOf};
 use crate::State;
 use crate::cache;
+use rules::LINE_BYTES;
+use rules::LINE_LENGTH;
 
 // A part of the cache: where it begins, and its length, 16 or 0.
 pub struct Part {
@@ -31,14 +33,15 @@ impl State {
             };
         }
         let tags = self.tags;
-        let ways = self.ways as usize;
-        let line = address / 16;
-        let first = cache::first_slot(self.sets, self.ways, line);
+        let figures = self.figures;
+        let ways = figures.ways as usize;
+        let line = address / LINE_BYTES;
+        let first = cache::first_slot(figures, line);
         let slot = cache::find(tags, first, ways, line);
         if slot < first + ways {
             return Part {
-                start: 16 * slot,
-                length: 16,
+                start: LINE_LENGTH * slot,
+                length: LINE_LENGTH,
             };
         }
         Part {

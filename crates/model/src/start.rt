@@ -1,83 +1,75 @@
 // Start.
 ghost use mathlib.Core.Path.{_≡_};
-ghost use Prim.Native.Nat.{_*_};
 ghost use lib.ListN.{replicate};
-ghost use Rattle.rules.specs.Shape.{noStore, noLoad, noTag};
-ghost use Rattle.rules.specs.Runs.{startAnswer, startWorld};
-ghost use Rattle.model.specs.State.{worldOf};
-ghost use Rattle.model.specs.Starts.{startAnswerOf};
-use crate::Figures;
+ghost use Rattle.rules.specs.Shape.{noStore, noLoad};
+ghost use Rattle.model.specs.State.{noState};
+ghost use Rattle.model.specs.Starts.{Starts};
 use crate::StartAnswer;
 use crate::Started;
 use crate::State;
 use crate::cache;
-use rules::LoadEntry;
+use rules::BAD_FIGURES;
+use rules::Figures;
+use rules::LINE_LENGTH;
+use rules::LOAD_PLACES;
+use rules::NO_FIGURES;
+use rules::NO_LOAD;
+use rules::NO_STORE;
+use rules::NO_TAG;
 use rules::Request;
-use rules::StoreEntry;
+use rules::STORE_PLACES;
+use rules::TAG_RECORDS;
 use rules::Tag;
 
 // A state with these figures and records, and every place of the queues free.
-fn empty_state(sets: u32, ways: u32, size: u32, tags: [Tag; 256]) -> State
-    ensures { λ r. ⌜ r ≡ record { sets = sets; ways = ways; size = size; last = 0; committed = 0; request = Request.Free; stores = replicate 16 noStore; loads = replicate 8 noLoad; tags = tags } ⌝ }
+fn empty_state(figures: Figures, size: u32, tags: [Tag; TAG_RECORDS]) -> State
+    ensures { λ r. ⌜ r ≡ record { figures = figures; size = size; last = 0; committed = 0; request = Request.Free; stores = replicate 16 noStore; loads = replicate 8 noLoad; tags = tags } ⌝ }
 {
-    let store = StoreEntry {
-        number: 0,
-        address: 0,
-        width: 0,
-        value: 0,
-    };
-    let load = LoadEntry {
-        number: 0,
-        address: 0,
-        width: 0,
-        waiting: false,
-    };
     State {
-        sets,
-        ways,
+        figures,
         size,
         last: 0,
         committed: 0,
         request: Request::Free,
-        stores: [store; 16],
-        loads: [load; 8],
+        stores: [NO_STORE; STORE_PLACES],
+        loads: [NO_LOAD; LOAD_PLACES],
         tags,
     }
 }
 
 impl State {
+    // The state that is all zero: a refused start hands it back, and every call on it is refused with 1.
+    pub fn unstarted() -> State
+        ensures { λ r. ⌜ r ≡ noState ⌝ }
+    {
+        empty_state(NO_FIGURES, 0, [NO_TAG; TAG_RECORDS])
+    }
+
     // A start that is refused.
     fn not_started() -> Started
-        ensures { λ r. ⌜ r ≡ record { answer = StartAnswer.NotAllowed 1; state = record { sets = 0; ways = 0; size = 0; last = 0; committed = 0; request = Request.Free; stores = replicate 16 noStore; loads = replicate 8 noLoad; tags = replicate 256 noTag } } ⌝ }
+        ensures { λ r. ⌜ r ≡ record { answer = StartAnswer.NotAllowed 1; state = noState } ⌝ }
     {
-        let zero = Tag {
-            valid: false,
-            dirty: false,
-            line: 0,
-            age: 0,
-        };
         Started {
-            answer: StartAnswer::NotAllowed(1),
-            state: empty_state(0, 0, 0, [zero; 256]),
+            answer: StartAnswer::NotAllowed(BAD_FIGURES),
+            state: State::unstarted(),
         }
     }
 
-    // "Start zeroes the cache bytes, gives way w age w, invalidates every record and leaves memory as found."
+    // "Start zeroes the cache bytes, gives way w age w, invalidates every record and leaves memory as found." A refused start leaves
+    // the cache as it was.
     pub fn start(figures: Figures, cache: &mut [u8], memory: &[u8]) -> Started
-        ensures { λ r. ⌜ (startAnswerOf (r .answer) ≡ startAnswer (figures .sets) (figures .ways) (now (cache .entry)) (now (memory .entry))) × (worldOf (r .state) (now (cache .exit)) (now (memory .entry)) ≡ startWorld (figures .sets) (figures .ways) (now (cache .entry)) (now (memory .entry))) ⌝ }
+        ensures { λ r. ⌜ Starts figures (now (cache .entry)) (now (memory .entry)) r (now (cache .exit)) ⌝ }
     {
-        let sets = figures.sets;
-        let ways = figures.ways;
         let size = memory.len();
-        if line_checks::figures_allowed(sets, ways, size) {
-            if cache.len() != ((sets * ways) as usize) * 16 {
+        if line_checks::figures_allowed(figures, size) {
+            if cache.len() != ((figures.sets * figures.ways) as usize) * LINE_LENGTH {
                 return State::not_started();
             }
             cache::zero_cache(cache);
-            let tags = cache::start_tags(sets, ways);
+            let tags = cache::start_tags(figures);
             return Started {
                 answer: StartAnswer::Ready,
-                state: empty_state(sets, ways, size as u32, tags),
+                state: empty_state(figures, size as u32, tags),
             };
         }
         State::not_started()

@@ -1,8 +1,6 @@
 // One step over an enum of calls.
-ghost use mathlib.Core.Path.{_≡_};
 ghost use Rattle.rules.specs.Calls as rules;
-ghost use Rattle.rules.specs.Runs.{outcome};
-ghost use Rattle.model.specs.State.{queuesOf, hierarchyOf, outcomeOf, callOf};
+ghost use Rattle.model.specs.State.{callOf, Does, worldOf};
 use crate::Answer;
 use crate::Call;
 use crate::State;
@@ -10,7 +8,7 @@ use crate::Step;
 
 impl State {
     pub fn step(self, call: Call, cache: &mut [u8], memory: &mut [u8]) -> Step
-        ensures { λ r. ⌜ outcomeOf r (now (cache .exit)) (now (memory .exit)) ≡ outcome (callOf call) (queuesOf self) (hierarchyOf self (now (cache .entry)) (now (memory .entry))) ⌝ }
+        ensures { λ r. ⌜ Does (callOf call) (worldOf self (now (cache .entry)) (now (memory .entry))) r (now (cache .exit)) (now (memory .exit)) ⌝ }
     {
         match call {
             Call::Load(address, width) => self.load(cache, memory, address, width),
@@ -27,7 +25,7 @@ impl State {
 
     // Show line as a step: the place and the length of the part.
     fn show(self, cache: &[u8], memory: &[u8], address: u32) -> Step
-        ensures { λ r. ⌜ outcomeOf r (now (cache .entry)) (now (memory .entry)) ≡ outcome (rules.show address) (queuesOf self) (hierarchyOf self (now (cache .entry)) (now (memory .entry))) ⌝ }
+        ensures { λ r. ⌜ Does (rules.show address) (worldOf self (now (cache .entry)) (now (memory .entry))) r (now (cache .entry)) (now (memory .entry)) ⌝ }
     {
         let p = self.show_part(cache, memory, address);
         Step {

@@ -6,15 +6,18 @@ ghost use Rattle.rules.specs.Shape.{topNumber};
 ghost use Rattle.rules.specs.Calls.{widthAllowed, storeRule};
 ghost use mathlib.Core.Bool.{true};
 ghost use Rattle.rules.specs.Calls as rules;
-ghost use Rattle.rules.specs.Runs.{outcome};
-ghost use Rattle.model.specs.State.{queuesOf, hierarchyOf, outcomeOf, storeRest};
+ghost use Rattle.model.specs.State.{queuesOf, hierarchyOf, outcomeOf, storeRest, Does, worldOf};
 use crate::Answer;
 use crate::State;
 use crate::Step;
 use crate::access;
 use crate::access::Access;
 use crate::access::Checked;
+use rules::NUMBERS_USED_UP;
+use rules::STORE_QUEUE_FULL;
 use rules::StoreEntry;
+use rules::TOP_NUMBER;
+use rules::VALUE_TOO_LARGE;
 
 impl State {
     // "Store takes last + 1 as its number and joins the held stores, uncommitted."
@@ -43,20 +46,20 @@ impl State {
         ensures { λ r. ⌜ ((c m : List ℕ) → outcomeOf r c m ≡ storeRest (a .address) (a .width) value (queuesOf self) (hierarchyOf self c m)) ⌝ }
     {
         if access::value_fits(value, a.width) {
-            if self.last == 4294967295 {
-                return self.refused(13);
+            if self.last == TOP_NUMBER {
+                return self.refused(NUMBERS_USED_UP);
             }
             let stores = self.stores;
             if store_queue::has_free_store(stores) {
                 return self.store_accepted(a, value);
             }
-            return self.refused(11);
+            return self.refused(STORE_QUEUE_FULL);
         }
-        self.refused(5)
+        self.refused(VALUE_TOO_LARGE)
     }
 
     pub fn store(self, cache: &[u8], memory: &[u8], address: u32, width: u32, value: u32) -> Step
-        ensures { λ r. ⌜ outcomeOf r (now (cache .entry)) (now (memory .entry)) ≡ outcome (rules.store address width value) (queuesOf self) (hierarchyOf self (now (cache .entry)) (now (memory .entry))) ⌝ }
+        ensures { λ r. ⌜ Does (rules.store address width value) (worldOf self (now (cache .entry)) (now (memory .entry))) r (now (cache .entry)) (now (memory .entry)) ⌝ }
     {
         let k = self.state_refusal(cache, memory);
         if k != 0 {

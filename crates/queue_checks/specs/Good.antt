@@ -9,7 +9,7 @@ use Rattle.lists.specs.Padded.{every, rising}
 use Rattle.rules.specs.declared.StoreEntry.{StoreEntry}
 use Rattle.rules.specs.declared.LoadEntry.{LoadEntry}
 use Rattle.rules.specs.declared.Request.the-variants.{Free}
-use Rattle.rules.specs.Shape.{Queues, Hierarchy, isFreeStore, isFreeLoad}
+use Rattle.rules.specs.Shape.{Queues, Hierarchy, noFigures, isFreeStore, isFreeLoad}
 use Rattle.rules.specs.WellFormed.{freeZero, freePlacesLast, committedUpToLast, numbersRise, numbersUpToLast, numbersApart, accessesPass, committedWait, waitingUncovered, freeStoreZero, freeLoadZero, storePasses, loadPasses, committedWaitAt, waitingUncoveredAt}
 
 -- ---- records from their fields
@@ -24,7 +24,7 @@ queuesWith h ss ls = queuesOf 0 h ss ls
 
 -- the memory length
 abbrev pub sized : ℕ → Hierarchy
-sized n = record { sets = 0; ways = 0; size = n; tags = []; cache = []; memory = [] }
+sized n = record { figures = noFigures; size = n; tags = []; cache = []; memory = [] }
 
 -- ---- the clauses
 

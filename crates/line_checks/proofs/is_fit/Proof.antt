@@ -3,7 +3,6 @@ use borrow.Author.Needs.{needs}
 use mathlib.Core.Path.{sym, _∙_}
 use native.Mathlib.Omega.{arith}
 use borrow.Author.Tests.{eq-eqb, ne-eqb}
-use native.Mathlib.Nat.{mul-le-mul}
 use Rattle.rules.specs.Shape.{fits}
 use Rattle.line_checks.proofs.Figures.{figures-tell}
 use Rattle.line_checks.proofs.is_fit.Statement.{statement}
@@ -21,28 +20,28 @@ returns c =
 
 mul-result : tie.Need-mul-result
 mul-result c =
-    let figures-allowed = c .before .before .figures-allowed in
-    let if1 = c .before .if1 in
-    let f = figures-tell _ _ _ (sym (figures-allowed .ensures) ∙ if1 .taken) in omega (arith, mul-le-mul (f .most-sets) (f .most-ways))
+    let figures-allowed = c .before .before .before .figures-allowed in
+    let if1 = c .before .before .if1 in
+    let f = figures-tell _ _ (sym (figures-allowed .ensures) ∙ if1 .taken) in omega (arith, f .room)
 
 cast-result : tie.Need-cast-result
 cast-result c =
-    let figures-allowed = c .before .before .figures-allowed in
-    let if1 = c .before .if1 in
-    let f = figures-tell _ _ _ (sym (figures-allowed .ensures) ∙ if1 .taken) in omega (arith, mul-le-mul (f .most-sets) (f .most-ways))
+    let figures-allowed = c .before .before .before .figures-allowed in
+    let if1 = c .before .before .if1 in
+    let f = figures-tell _ _ (sym (figures-allowed .ensures) ∙ if1 .taken) in omega (arith, f .room)
 
 mul-result-2 : tie.Need-mul-result-2
 mul-result-2 c =
-    let figures-allowed = c .before .before .figures-allowed in
-    let if1 = c .before .if1 in
-    let f = figures-tell _ _ _ (sym (figures-allowed .ensures) ∙ if1 .taken) in omega (arith, mul-le-mul (f .most-sets) (f .most-ways))
+    let figures-allowed = c .before .before .before .figures-allowed in
+    let if1 = c .before .before .if1 in
+    let f = figures-tell _ _ (sym (figures-allowed .ensures) ∙ if1 .taken) in omega (arith, f .room)
 
 returns-2 : tie.Need-returns-2
 unfolding fits
 returns-2 c =
-    let figures-allowed = c .before .before .figures-allowed in
-    let if1 = c .before .if1 in
-    rw (sym (figures-allowed .ensures) ∙ if1 .taken, eq-eqb _ _ (c .if2 .left))
+    let figures-allowed = c .before .before .before .figures-allowed in
+    let if1 = c .before .before .if1 in
+    rw (sym (figures-allowed .ensures) ∙ if1 .taken, eq-eqb _ _ (c .before .if2 .left))
 
 returns-3 : tie.Need-returns-3
 unfolding fits

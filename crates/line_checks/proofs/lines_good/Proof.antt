@@ -9,22 +9,22 @@ use Rattle.line_checks.proofs.lines_good.Tie as tie
 
 mul-count : tie.Need-mul-count
 mul-count c =
-    let pre = c .before .before .pre in
+    let pre = c .before .before .before .pre in
     let fit = fits-tells _ (pre) in omega arith
 
 cast-count : tie.Need-cast-count
 cast-count c =
-    let pre = c .before .before .pre in
+    let pre = c .before .before .before .pre in
     let fit = fits-tells _ (pre) in omega arith
 
 unused-zero-requires : tie.Need-unused-zero-requires
 unused-zero-requires c κs =
-    let pre = c .before .before .pre in
+    let pre = c .before .before .before .pre in
     fits-tells _ (pre) .room
 
 slots-good-requires : tie.Need-slots-good-requires
 slots-good-requires c κs =
-    let pre = c .before .before .before .before .pre in
+    let pre = c .before .before .before .before .before .pre in
     let unused-zero = c .before .unused-zero in
     (pre, sym (unused-zero .ensures) ∙ c .if1 .taken)
 

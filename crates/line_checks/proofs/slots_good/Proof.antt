@@ -12,45 +12,48 @@ use Rattle.line_checks.proofs.slots_good.Statement.{statement}
 use Rattle.line_checks.proofs.slots_good.Tie as tie
 
 abbrev Inv-loop : tie.InvT-loop
-Inv-loop sets ways size cache memory tags count n s₀ w₀ k₀ s w k =
-    (k ≤ count) × Scanned (hierarchy sets ways size tags cache memory) s w k
+Inv-loop figures size cache memory tags count n s₀ w₀ k₀ s w k =
+    (k ≤ count) × Scanned (hierarchy figures size tags cache memory) s w k
 
 abbrev μ-loop : tie.MeasureT-loop
-μ-loop sets ways size cache memory tags count n s₀ w₀ k₀ s w k = count - k
+μ-loop figures size cache memory tags count n s₀ w₀ k₀ s w k = count - k
 
 mul-count : tie.Need-mul-count Inv-loop μ-loop
 mul-count c =
-    let pre = c .before .before .pre in
+    let pre = c .before .before .before .pre in
     let fit = fits-tells _ (pre .0) in omega arith
 
 cast-count : tie.Need-cast-count Inv-loop μ-loop
 cast-count c =
-    let pre = c .before .before .pre in
+    let pre = c .before .before .before .pre in
     let fit = fits-tells _ (pre .0) in omega arith
+
+cast-n : tie.Need-cast-n Inv-loop μ-loop
+cast-n c = search needs
 
 loop-holds : tie.Need-loop-holds Inv-loop μ-loop
 loop-holds c =
-    let pre = c .before .before .pre in
+    let pre = c .before .before .before .before .pre in
     (omega arith, scan-start _ (fits-tells _ (pre .0) .some-way))
 
 mul-t : tie.Need-mul-t Inv-loop μ-loop
 mul-t c =
-    let pre = c .before .before .before .before .pre in
+    let pre = c .before .before .before .before .before .before .pre in
     let fit = fits-tells _ (pre .0) in omega arith
 
 array-copy-out-t : tie.Need-array-copy-out-t Inv-loop μ-loop
 array-copy-out-t c =
-    let pre = c .before .before .before .before .pre in
+    let pre = c .before .before .before .before .before .before .pre in
     let fit = fits-tells _ (pre .0) in omega arith
 
 slot-good-requires : tie.Need-slot-good-requires Inv-loop μ-loop
 slot-good-requires c κs =
-    let pre = c .before .before .before .before .before .pre in
+    let pre = c .before .before .before .before .before .before .before .pre in
     let fit = fits-tells _ (pre .0) in (fit .some-set, omega arith, fit .by-lines, omega arith)
 
 add-t1 : tie.Need-add-t1 Inv-loop μ-loop
 add-t1 c =
-    let pre = c .before .before .before .before .before .before .before .pre in
+    let pre = c .before .before .before .before .before .before .before .before .before .pre in
     let fit = fits-tells _ (pre .0) in omega arith
 
 mul-t1 : tie.Need-mul-t1 Inv-loop μ-loop
@@ -61,7 +64,7 @@ array-copy-out-t1 c = search needs
 
 add-t2 : tie.Need-add-t2 Inv-loop μ-loop
 add-t2 c =
-    let pre = c .before .before .before .before .before .before .before .before .pre in
+    let pre = c .before .before .before .before .before .before .before .before .before .before .pre in
     let fit = fits-tells _ (pre .0) in omega arith
 
 mul-t2 : tie.Need-mul-t2 Inv-loop μ-loop
@@ -72,7 +75,7 @@ array-copy-out-t2 c = search needs
 
 add-t3 : tie.Need-add-t3 Inv-loop μ-loop
 add-t3 c =
-    let pre = c .before .before .before .before .before .before .before .before .before .pre in
+    let pre = c .before .before .before .before .before .before .before .before .before .before .before .pre in
     let fit = fits-tells _ (pre .0) in omega arith
 
 mul-t3 : tie.Need-mul-t3 Inv-loop μ-loop
@@ -86,12 +89,12 @@ apart-requires c κs = search needs
 
 add-k : tie.Need-add-k Inv-loop μ-loop
 add-k c =
-    let pre = c .before .before .before .before .before .before .before .before .before .before .before .before .pre in
+    let pre = c .before .before .before .before .before .before .before .before .before .before .before .before .before .before .pre in
     let fit = fits-tells _ (pre .0) in omega arith
 
 add-w : tie.Need-add-w Inv-loop μ-loop
 add-w c =
-    let pre = c .before .before .before .before .before .before .before .before .before .before .before .before .pre in
+    let pre = c .before .before .before .before .before .before .before .before .before .before .before .before .before .before .pre in
     let loop = c .before .before .before .before .before .before .before .before .before .loop in
     let fit = fits-tells _ (pre .0) in omega (arith, few-ways _ (pre .0), loop .inv .1 .way)
 
@@ -106,7 +109,7 @@ loop-less c = search needs
 
 loop-again : tie.Need-loop-again Inv-loop μ-loop
 loop-again c =
-    let pre = c .before .before .before .before .before .before .before .before .before .before .before .before .before .pre in
+    let pre = c .before .before .before .before .before .before .before .before .before .before .before .before .before .before .before .pre in
     let loop = c .before .before .before .before .before .before .before .before .before .before .loop in
     let slot-good = c .before .before .before .before .before .before .before .slot-good in
     let if1 = c .before .before .before .before .before .before .if1 in
@@ -119,7 +122,7 @@ loop-less-2 c = search needs
 
 loop-again-2 : tie.Need-loop-again-2 Inv-loop μ-loop
 loop-again-2 c =
-    let pre = c .before .before .before .before .before .before .before .before .before .before .before .before .before .pre in
+    let pre = c .before .before .before .before .before .before .before .before .before .before .before .before .before .before .before .pre in
     let loop = c .before .before .before .before .before .before .before .before .before .before .loop in
     let slot-good = c .before .before .before .before .before .before .before .slot-good in
     let if1 = c .before .before .before .before .before .before .if1 in
@@ -129,7 +132,7 @@ loop-again-2 c =
 
 returns : tie.Need-returns Inv-loop μ-loop
 returns c =
-    let pre = c .before .before .before .before .before .before .before .before .before .before .before .before .pre in
+    let pre = c .before .before .before .before .before .before .before .before .before .before .before .before .before .before .pre in
     let loop = c .before .before .before .before .before .before .before .before .before .loop in
     let loop-test = c .before .before .before .before .before .before .before .before .loop-test in
     let slot-good = c .before .before .before .before .before .before .slot-good in
@@ -145,8 +148,8 @@ returns-2 c =
 
 returns-3 : tie.Need-returns-3 Inv-loop μ-loop
 returns-3 c =
-    let args = c .before .before .before .before .args in
-    let pre = c .before .before .before .before .pre in
+    let args = c .before .before .before .before .before .before .args in
+    let pre = c .before .before .before .before .before .before .pre in
     let loop = c .before .loop in
     let long : length (args .t1) ≡ 256 = omega arith in
     let fit = fits-tells _ (pre .0) in
@@ -160,6 +163,7 @@ slots-good-spec =
     μ-loop
     mul-count
     cast-count
+    cast-n
     loop-holds
     mul-t
     array-copy-out-t

@@ -7,11 +7,10 @@ use Rattle.model.proofs.State.drain_oldest.Tie as tie
 
 write-store-requires : tie.Need-write-store-requires
 write-store-requires c κs =
-    let p = c .before .before .before .before .pre in
+    let p = c .before .before .before .before .before .pre in
     record {
       some-set = p .0 .some-set;
-      most-sets = p .0 .most-sets;
-      most-ways = p .0 .most-ways;
+      room = p .0 .room;
       cache-long = p .0 .cache-long;
       narrow = p .1 .narrow;
       one-line = p .1 .one-line;

@@ -14,16 +14,18 @@ cast-ways c = search needs
 
 first-slot-requires : tie.Need-first-slot-requires
 first-slot-requires c κs =
-    let b = c .before .before .before .before .before .before in
-    let g = filling (b .args .self) (now (b .args .cache)) (now (b .args .memory)) (b .args .line) (b .pre .0) (b .pre .1) in
-    (g .some-set, g .most-sets, g .most-ways)
+    let args = c .before .args in
+    let pre = c .before .pre in
+    let g = filling (args .self) (now (args .cache)) (now (args .memory)) (args .line) (pre .0) (pre .1) in
+    (g .some-set, g .room)
 
 victim-requires : tie.Need-victim-requires
 victim-requires c κs =
-    let b = c .before .before .before .before .before .before .before in
-    let g = filling (b .args .self) (now (b .args .cache)) (now (b .args .memory)) (b .args .line) (b .pre .0) (b .pre .1) in
+    let args = c .before .args in
+    let pre = c .before .pre in
+    let g = filling (args .self) (now (args .cache)) (now (args .memory)) (args .line) (pre .0) (pre .1) in
     let f = c .first-slot .ensures in
-    (g .some-way, slot-low _ _ _ (f .1) (f .2))
+    (g .some-way, slot-low _ _ _ (f .1) (g .room))
 
 mul-old : tie.Need-mul-old
 mul-old c = search needs
@@ -33,10 +35,11 @@ array-copy-out-old c = search needs
 
 write-back-requires : tie.Need-write-back-requires
 write-back-requires c κs =
-    let b = c .before .before .before .before .before .before .before .before .before .before .before in
+    let args = c .before .args in
+    let pre = c .before .pre in
     let first-slot = c .before .before .before .before .first-slot in
     let victim = c .before .before .before .victim in
-    let g = filling (b .args .self) (now (b .args .cache)) (now (b .args .memory)) (b .args .line) (b .pre .0) (b .pre .1) in
+    let g = filling (args .self) (now (args .cache)) (now (args .memory)) (args .line) (pre .0) (pre .1) in
     let f = first-slot .ensures in
     let v = victim .ensures .2 in
     (slot-bytes _ _ _ _ _ v (f .1) (g .cache-long), g .dirty-lines _ (omega arith))
@@ -58,35 +61,42 @@ part-fill-slot-start c = search needs
 
 part-fill-slot-end : tie.Need-part-fill-slot-end
 part-fill-slot-end c =
-    let b = c .before .before .before .before .before .before .before .before .before .before .before .before .before .before .before .before in
+    let args = c .before .args in
+    let pre = c .before .pre in
     let write-back = c .before .before .before .before .write-back in
-    let g = filling (b .args .self) (now (b .args .cache)) (now (b .args .memory)) (b .args .line) (b .pre .0) (b .pre .1) in
+    let g = filling (args .self) (now (args .cache)) (now (args .memory)) (args .line) (pre .0) (pre .1) in
     rw (write-back .ensures, each-length) (g .inside)
 
 fill-slot-requires : tie.Need-fill-slot-requires
 fill-slot-requires c κs =
-    let b = c .before .before .before .before .before .before .before .before .before .before .before .before .before .before .before .before .before in
+    let args = c .before .args in
+    let pre = c .before .pre in
     let first-slot = c .before .before .before .before .before .before .before .before .before .before .first-slot in
     let victim = c .before .before .before .before .before .before .before .before .before .victim in
-    let g = filling (b .args .self) (now (b .args .cache)) (now (b .args .memory)) (b .args .line) (b .pre .0) (b .pre .1) in
+    let g = filling (args .self) (now (args .cache)) (now (args .memory)) (args .line) (pre .0) (pre .1) in
     let f = first-slot .ensures in
     let v = victim .ensures .2 in
     (omega arith, slot-bytes _ _ _ _ _ v (f .1) (g .cache-long))
 
 installed-requires : tie.Need-installed-requires
 installed-requires c κs =
-    let b = c .before .before .before .before .before .before .before .before .before .before .before .before .before .before .before .before .before .before .before .before in
+    let args = c .before .args in
+    let pre = c .before .pre in
     let first-slot = c .before .before .before .before .before .before .before .before .before .before .before .before .before .first-slot in
     let victim = c .before .before .before .before .before .before .before .before .before .before .before .before .victim in
-    let g = filling (b .args .self) (now (b .args .cache)) (now (b .args .memory)) (b .args .line) (b .pre .0) (b .pre .1) in
+    let g = filling (args .self) (now (args .cache)) (now (args .memory)) (args .line) (pre .0) (pre .1) in
     let f = first-slot .ensures in
     let v = victim .ensures in
-    (slot-low _ _ _ (f .1) (f .2), v .1, v .2, line-low _ _ (g .inside) (g .small))
+    (slot-low _ _ _ (f .1) (g .room), v .1, v .2, line-low _ _ (g .inside) (g .small))
 
-mul-t32 : tie.Need-mul-t32
-mul-t32 c =
-    let b = c .before .before .before .before .before .before .before .before .before .before .before .before .before .before .before .before .before .before .before .before .before in
-    let g = filling (b .args .self) (now (b .args .cache)) (now (b .args .memory)) (b .args .line) (b .pre .0) (b .pre .1) in
+with-request-requires : tie.Need-with-request-requires
+with-request-requires c κs = search needs
+
+mul-t33 : tie.Need-mul-t33
+mul-t33 c =
+    let args = c .before .args in
+    let pre = c .before .pre in
+    let g = filling (args .self) (now (args .cache)) (now (args .memory)) (args .line) (pre .0) (pre .1) in
     omega (arith, line-low _ _ (g .inside) (g .small))
 
 same-length : tie.Need-same-length
@@ -99,15 +109,16 @@ returns : tie.Need-returns
 returns c =
     let a = c .before .before .before .before .before .before .before .before .before .before .before .before .before .before .before .before .before .before .before .before .before .args in
     let pre = c .before .before .before .before .before .before .before .before .before .before .before .before .before .before .before .before .before .before .before .before .before .pre in
-    let first-slot = c .before .before .before .before .before .before .before .before .before .before .before .before .before .before .first-slot in
-    let victim = c .before .before .before .before .before .before .before .before .before .before .before .before .before .victim in
-    let write-back = c .before .before .before .before .before .before .before .before .before .write-back in
-    let fill-slot = c .before .before .before .fill-slot in
-    filled-state (a .self) (now (a .cache)) (now (a .memory)) (a .line) _ _ _ (pre .1)
-    (filled-whole (a .self .sets) (a .self .ways) (a .self .tags) (now (a .cache)) (now (a .memory)) (a .line)
+    let first-slot = c .before .before .before .before .before .before .before .before .before .before .before .before .before .before .before .first-slot in
+    let victim = c .before .before .before .before .before .before .before .before .before .before .before .before .before .before .victim in
+    let write-back = c .before .before .before .before .before .before .before .before .before .before .write-back in
+    let fill-slot = c .before .before .before .before .fill-slot in
+    rw (with-request .ensures)
+    (filled-state (a .self) (now (a .cache)) (now (a .memory)) (a .line) _ _ _ (pre .1)
+    (filled-whole (a .self .figures) (a .self .tags) (now (a .cache)) (now (a .memory)) (a .line)
     (first-slot .result) (victim .result) (16 * a .line + 16 - 16 * a .line) _ _ _
     (first-slot .ensures .0) (victim .ensures .0) (write-back .ensures) (omega arith)
-    (fill-slot .ensures) (c .installed .ensures))
+    (fill-slot .ensures) (c .before .installed .ensures))
 
 pub fill-line-spec : {M : Type 1} → statement M
 fill-line-spec =
@@ -127,7 +138,8 @@ fill-line-spec =
     part-fill-slot-end
     fill-slot-requires
     installed-requires
-    mul-t32
+    with-request-requires
+    mul-t33
     same-length
     same-length-2
     returns)

@@ -17,38 +17,38 @@ use Rattle.model.proofs.State.flush_accepted.Tie as tie
 
 mul-count : tie.Need-mul-count
 mul-count c =
-    let pre = c .before .before .before .before .pre in
-    let args = c .before .before .before .before .args in
+    let pre = c .before .before .before .before .before .pre in
+    let args = c .before .before .before .before .before .args in
     let p = parts _ _ (pre) in
     let f = fit-figures (args .self) (now (args .cache)) (now (args .memory)) (p .fit) in
-    omega (arith, mul-le-mul (f .most-sets) (f .most-ways))
+    omega (arith, f .room)
 
 cast-count : tie.Need-cast-count
 cast-count c =
-    let pre = c .before .before .before .before .pre in
-    let args = c .before .before .before .before .args in
+    let pre = c .before .before .before .before .before .pre in
+    let args = c .before .before .before .before .before .args in
     let p = parts _ _ (pre) in
     let f = fit-figures (args .self) (now (args .cache)) (now (args .memory)) (p .fit) in
-    omega (arith, mul-le-mul (f .most-sets) (f .most-ways))
+    omega (arith, f .room)
 
 dirty-count-requires : tie.Need-dirty-count-requires
 dirty-count-requires c κs = search needs
 
 write-back-all-requires : tie.Need-write-back-all-requires
 write-back-all-requires c κs =
-    let pre = c .before .before .before .before .before .before .pre in
-    let args = c .before .before .before .before .before .before .args in
+    let pre = c .before .before .before .before .before .before .before .pre in
+    let args = c .before .before .before .before .before .before .before .args in
     let p = parts _ _ (pre) in
     let f = fit-figures (args .self) (now (args .cache)) (now (args .memory)) (p .fit) in
-    (omega (arith, mul-le-mul (f .most-sets) (f .most-ways)), omega (arith, fit-cache (args .self) (now (args .cache)) (now (args .memory)) (p .fit)), dirty-inside _ (fits-tells _ (p .fit)) (good-tells _ (p .lines)) _)
+    (omega (arith, f .room), omega (arith, fit-cache (args .self) (now (args .cache)) (now (args .memory)) (p .fit)), dirty-inside _ (fits-tells _ (p .fit)) (good-tells _ (p .lines)) _)
 
 clean-all-requires : tie.Need-clean-all-requires
 clean-all-requires c κs =
-    let pre = c .before .before .before .before .before .before .before .before .before .pre in
-    let args = c .before .before .before .before .before .before .before .before .before .args in
+    let pre = c .before .before .before .before .before .before .before .before .before .before .pre in
+    let args = c .before .before .before .before .before .before .before .before .before .before .args in
     let p = parts _ _ (pre) in
     let f = fit-figures (args .self) (now (args .cache)) (now (args .memory)) (p .fit) in
-    omega (arith, mul-le-mul (f .most-sets) (f .most-ways))
+    omega (arith, f .room)
 
 same-length : tie.Need-same-length
 same-length c = search needs

@@ -35,6 +35,9 @@ cast-if2 c = search needs
 cast-if2-2 : tie.Need-cast-if2-2
 cast-if2-2 c = search needs
 
+cast-if2-3 : tie.Need-cast-if2-3
+cast-if2-3 c = search needs
+
 mul-if2 : tie.Need-mul-if2
 mul-if2 c = search needs
 
@@ -62,7 +65,7 @@ returns-4 c =
     let if1 = c .before .before .before .before .before .if1 in
     let if2 = c .before .before .before .if2 in
     let s = args .self in
-    let x : requestAbsent (s .request) (tabled (s .sets) (s .ways) (s .tags)) ≡ true = rw (request .given .1, sym (is-present .ensures) ∙ if1 .left) in
+    let x : requestAbsent (s .request) (tabled (s .figures) (s .tags)) ≡ true = rw (request .given .1, sym (is-present .ensures) ∙ if1 .left) in
     let y : requestInside (s .request) (sized (s .size)) ≡ true = rw (request .given .1, lt-ltb _ _ (if2 .left)) in
     rw (x, y) (c .request-wanted .ensures ∙ wanted-at s [] [] _ ∙ ap (λ (r : Request). requestWanted r (queuesOf s)) (sym (request .given .1)))
 
@@ -76,6 +79,7 @@ is-request-good-spec =
     returns
     cast-if2
     cast-if2-2
+    cast-if2-3
     mul-if2
     returns-2
     request-wanted-requires

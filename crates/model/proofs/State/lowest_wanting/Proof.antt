@@ -14,7 +14,7 @@ use Rattle.model.proofs.State.lowest_wanting.Statement.{statement}
 use Rattle.model.proofs.State.lowest_wanting.Tie as tie
 
 abbrev Inv-loop : tie.InvT-loop
-Inv-loop self loads j₀ j = (j ≤ 8) × (first (wantsLine (tabled (self .sets) (self .ways) (self .tags)) (self .committed)) noLoad (self .loads) ≡ first (wantsLine (tabled (self .sets) (self .ways) (self .tags)) (self .committed)) noLoad (drop j loads))
+Inv-loop self loads j₀ j = (j ≤ 8) × (first (wantsLine (tabled (self .figures) (self .tags)) (self .committed)) noLoad (self .loads) ≡ first (wantsLine (tabled (self .figures) (self .tags)) (self .committed)) noLoad (drop j loads))
 
 abbrev μ-loop : tie.MeasureT-loop
 μ-loop self loads j₀ j = 8 - j
@@ -35,7 +35,7 @@ returns : tie.Need-returns Inv-loop μ-loop
 unfolding first
 returns c =
     let h : length (c .before .before .before .before .before .before .args .self .loads) ≡ 8 = search (needs, length-of) in
-    sym (c .before .before .before .before .loop .inv .1 ∙ rw (rest-cons (wantsLine (tabled (c .before .before .before .before .before .before .args .self .sets) (c .before .before .before .before .before .before .args .self .ways) (c .before .before .before .before .before .before .args .self .tags)) (c .before .before .before .before .before .before .args .self .committed)) noLoad (c .before .before .before .before .before .before .args .self .loads) (c .before .before .before .before .loop .j) (omega arith), sym (c .before .wants-line .ensures) ∙ c .if1 .taken))
+    sym (c .before .before .before .before .loop .inv .1 ∙ rw (rest-cons (wantsLine (tabled (c .before .before .before .before .before .before .args .self .figures) (c .before .before .before .before .before .before .args .self .tags)) (c .before .before .before .before .before .before .args .self .committed)) noLoad (c .before .before .before .before .before .before .args .self .loads) (c .before .before .before .before .loop .j) (omega arith), sym (c .before .wants-line .ensures) ∙ c .if1 .taken))
 
 add-j : tie.Need-add-j Inv-loop μ-loop
 add-j c = search needs
@@ -47,13 +47,13 @@ loop-again : tie.Need-loop-again Inv-loop μ-loop
 unfolding first
 loop-again c =
     let h : length (c .before .before .before .before .before .before .args .self .loads) ≡ 8 = search (needs, length-of) in
-    (search needs, c .before .before .before .before .loop .inv .1 ∙ rw (rest-cons (wantsLine (tabled (c .before .before .before .before .before .before .args .self .sets) (c .before .before .before .before .before .before .args .self .ways) (c .before .before .before .before .before .before .args .self .tags)) (c .before .before .before .before .before .before .args .self .committed)) noLoad (c .before .before .before .before .before .before .args .self .loads) (c .before .before .before .before .loop .j) (omega arith), sym (c .before .wants-line .ensures) ∙ c .if1 .left))
+    (search needs, c .before .before .before .before .loop .inv .1 ∙ rw (rest-cons (wantsLine (tabled (c .before .before .before .before .before .before .args .self .figures) (c .before .before .before .before .before .before .args .self .tags)) (c .before .before .before .before .before .before .args .self .committed)) noLoad (c .before .before .before .before .before .before .args .self .loads) (c .before .before .before .before .loop .j) (omega arith), sym (c .before .wants-line .ensures) ∙ c .if1 .left))
 
 returns-2 : tie.Need-returns-2 Inv-loop μ-loop
 unfolding first
 returns-2 c =
     let h : length (c .before .before .before .args .self .loads) ≡ 8 = search (needs, length-of) in
-    sym (c .before .loop .inv .1 ∙ rw (rest-none (wantsLine (tabled (c .before .before .before .args .self .sets) (c .before .before .before .args .self .ways) (c .before .before .before .args .self .tags)) (c .before .before .before .args .self .committed)) noLoad (c .before .before .before .args .self .loads) (c .before .loop .j) (omega arith)))
+    sym (c .before .loop .inv .1 ∙ rw (rest-none (wantsLine (tabled (c .before .before .before .args .self .figures) (c .before .before .before .args .self .tags)) (c .before .before .before .args .self .committed)) noLoad (c .before .before .before .args .self .loads) (c .before .loop .j) (omega arith)))
 
 pub lowest-wanting-spec : {M : Type 1} → statement M
 lowest-wanting-spec =

@@ -35,15 +35,15 @@ add-read-bytes c = search needs
 
 read-bytes-requires : tie.Need-read-bytes-requires
 read-bytes-requires c κs =
-    let pre = c .before .before .before .before .before .before .pre in
-    let args = c .before .before .before .before .before .before .args in
+    let pre = c .before .before .before .before .before .before .before .pre in
+    let args = c .before .before .before .before .before .before .before .args in
     let first-slot = c .before .first-slot in
-    (pre .1 .narrow, pre .1 .inside, omega (arith, found-low _ _ _ _ (c .find .ensures) .1), λ h. omega (arith, ltb-true (c .find .result) (first-slot .result + args .self .ways) h))
+    (pre .1 .narrow, pre .1 .inside, omega (arith, found-low _ _ _ _ (c .find .ensures) .1), λ h. omega (arith, ltb-true (c .find .result) (first-slot .result + args .self .figures .ways) h))
 
 returns : tie.Need-returns
 unfolding slotOf lineOf
 returns c =
-    let pre = c .before .before .before .before .before .before .before .pre in
+    let pre = c .before .before .before .before .before .before .before .before .pre in
     let first-slot = c .before .before .first-slot in
     let find = c .before .find in
     λ m. c .read-bytes .ensures ∙ rw (find .ensures, first-slot .ensures .0) (ap readOf (read-value _ _ _ _ _ (pre .1)))

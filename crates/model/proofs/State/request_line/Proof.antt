@@ -5,12 +5,15 @@ use Rattle.rules.specs.Shape.{lineOf}
 use Rattle.model.proofs.State.request_line.Statement.{statement}
 use Rattle.model.proofs.State.request_line.Tie as tie
 
-mul-t7 : tie.Need-mul-t7
-mul-t7 c = search needs
+mul-t4 : tie.Need-mul-t4
+mul-t4 c = search needs
+
+with-request-requires : tie.Need-with-request-requires
+with-request-requires c κs = search needs
 
 returns : tie.Need-returns
 unfolding lineOf
-returns c = λ k m. refl
+returns c = λ k m. rw (c .with-request .ensures)
 
 pub request-line-spec : {M : Type 1} → statement M
-request-line-spec = tie.close (tie.spec mul-t7 returns)
+request-line-spec = tie.close (tie.spec mul-t4 with-request-requires returns)

@@ -35,24 +35,15 @@ cast-ways c = search needs
 
 first-slot-requires : tie.Need-first-slot-requires
 first-slot-requires c κs =
-    let args = c .before .before .before .before .before .before .before .before .args in
-    let state-refusal = c .before .before .before .before .before .state-refusal in
-    let if1 = c .before .before .before .before .if1 in
-    let o = state-opens (rules.show (args .address)) _ _ _ (state-refusal .ensures) (if1 .left) in
-    let f = fit-shaped (args .self) (now (args .cache)) (now (args .memory)) (o .fit) in
-    (f .some-set, f .most-sets, f .most-ways)
-
-find-requires : tie.Need-find-requires
-find-requires c κs =
     let args = c .before .before .before .before .before .before .before .before .before .args in
     let state-refusal = c .before .before .before .before .before .before .state-refusal in
     let if1 = c .before .before .before .before .before .if1 in
     let o = state-opens (rules.show (args .address)) _ _ _ (state-refusal .ensures) (if1 .left) in
     let f = fit-shaped (args .self) (now (args .cache)) (now (args .memory)) (o .fit) in
-    omega arith
+    (f .some-set, f .room)
 
-add-if3 : tie.Need-add-if3
-add-if3 c =
+find-requires : tie.Need-find-requires
+find-requires c κs =
     let args = c .before .before .before .before .before .before .before .before .before .before .args in
     let state-refusal = c .before .before .before .before .before .before .before .state-refusal in
     let if1 = c .before .before .before .before .before .before .if1 in
@@ -60,8 +51,17 @@ add-if3 c =
     let f = fit-shaped (args .self) (now (args .cache)) (now (args .memory)) (o .fit) in
     omega arith
 
-mul-t13 : tie.Need-mul-t13
-mul-t13 c =
+add-if3 : tie.Need-add-if3
+add-if3 c =
+    let args = c .before .before .before .before .before .before .before .before .before .before .before .args in
+    let state-refusal = c .before .before .before .before .before .before .before .before .state-refusal in
+    let if1 = c .before .before .before .before .before .before .before .if1 in
+    let o = state-opens (rules.show (args .address)) _ _ _ (state-refusal .ensures) (if1 .left) in
+    let f = fit-shaped (args .self) (now (args .cache)) (now (args .memory)) (o .fit) in
+    omega arith
+
+mul-t14 : tie.Need-mul-t14
+mul-t14 c =
     let args = c .before .before .before .before .before .before .before .before .before .before .before .args in
     let state-refusal = c .before .before .before .before .before .before .before .before .state-refusal in
     let if1 = c .before .before .before .before .before .before .before .if1 in
@@ -72,10 +72,10 @@ mul-t13 c =
 returns-3 : tie.Need-returns-3
 unfolding lineOf
 returns-3 c =
-    let args = c .before .before .before .before .before .before .before .before .before .before .before .args in
-    let state-refusal = c .before .before .before .before .before .before .before .before .state-refusal in
-    let if1 = c .before .before .before .before .before .before .before .if1 in
-    let if2 = c .before .before .before .before .before .if2 in
+    let args = c .before .before .before .before .before .before .before .before .before .before .before .before .args in
+    let state-refusal = c .before .before .before .before .before .before .before .before .before .state-refusal in
+    let if1 = c .before .before .before .before .before .before .before .before .if1 in
+    let if2 = c .before .before .before .before .before .before .if2 in
     let first-slot = c .before .before .first-slot in
     let find = c .before .find in
     let o = state-opens (rules.show (args .address)) _ _ _ (state-refusal .ensures) (if1 .left) in
@@ -85,10 +85,10 @@ returns-3 c =
 returns-4 : tie.Need-returns-4
 unfolding lineOf
 returns-4 c =
-    let args = c .before .before .before .before .before .before .before .before .before .before .before .args in
-    let state-refusal = c .before .before .before .before .before .before .before .before .state-refusal in
-    let if1 = c .before .before .before .before .before .before .before .if1 in
-    let if2 = c .before .before .before .before .before .if2 in
+    let args = c .before .before .before .before .before .before .before .before .before .before .before .before .args in
+    let state-refusal = c .before .before .before .before .before .before .before .before .before .state-refusal in
+    let if1 = c .before .before .before .before .before .before .before .before .if1 in
+    let if2 = c .before .before .before .before .before .before .if2 in
     let first-slot = c .before .before .first-slot in
     let find = c .before .find in
     let o = state-opens (rules.show (args .address)) _ _ _ (state-refusal .ensures) (if1 .left) in
@@ -106,6 +106,6 @@ show-part-spec =
     first-slot-requires
     find-requires
     add-if3
-    mul-t13
+    mul-t14
     returns-3
     returns-4)

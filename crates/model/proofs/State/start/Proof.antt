@@ -14,21 +14,21 @@ figures-allowed-requires c κs = search needs
 
 mul-if2 : tie.Need-mul-if2
 mul-if2 c =
-    let figures-allowed = c .before .figures-allowed in
-    let f = figures-tell _ _ _ (sym (figures-allowed .ensures) ∙ c .if1 .taken) in
-    omega (arith, mul-le-mul (f .most-sets) (f .most-ways))
+    let figures-allowed = c .before .before .figures-allowed in
+    let f = figures-tell _ _ (sym (figures-allowed .ensures) ∙ c .before .if1 .taken) in
+    omega (arith, f .room)
 
 cast-if2 : tie.Need-cast-if2
 cast-if2 c =
-    let figures-allowed = c .before .figures-allowed in
-    let f = figures-tell _ _ _ (sym (figures-allowed .ensures) ∙ c .if1 .taken) in
-    omega (arith, mul-le-mul (f .most-sets) (f .most-ways))
+    let figures-allowed = c .before .before .figures-allowed in
+    let f = figures-tell _ _ (sym (figures-allowed .ensures) ∙ c .before .if1 .taken) in
+    omega (arith, f .room)
 
 mul-if2-2 : tie.Need-mul-if2-2
 mul-if2-2 c =
-    let figures-allowed = c .before .figures-allowed in
-    let f = figures-tell _ _ _ (sym (figures-allowed .ensures) ∙ c .if1 .taken) in
-    omega (arith, mul-le-mul (f .most-sets) (f .most-ways))
+    let figures-allowed = c .before .before .figures-allowed in
+    let f = figures-tell _ _ (sym (figures-allowed .ensures) ∙ c .before .if1 .taken) in
+    omega (arith, f .room)
 
 not-started-requires : tie.Need-not-started-requires
 not-started-requires c κs = search needs
@@ -36,8 +36,8 @@ not-started-requires c κs = search needs
 returns : tie.Need-returns
 unfolding startAllowed startAnswer startWorld unstarted
 returns c =
-    let figures-allowed = c .before .before .before .figures-allowed in
-    let if1 = c .before .before .if1 in
+    let figures-allowed = c .before .before .before .before .figures-allowed in
+    let if1 = c .before .before .before .if1 in
     let if2 = c .before .if2 in
     rw (c .not-started .ensures, sym (figures-allowed .ensures) ∙ if1 .taken, ne-eqb _ _ (if2 .taken)) (refl, refl)
 
@@ -46,16 +46,16 @@ zero-cache-requires c κs = search needs
 
 start-tags-requires : tie.Need-start-tags-requires
 start-tags-requires c κs =
-    let figures-allowed = c .before .before .before .before .before .before .figures-allowed in
-    let if1 = c .before .before .before .before .before .if1 in
-    let f = figures-tell _ _ _ (sym (figures-allowed .ensures) ∙ if1 .taken) in
-    (omega (arith, mul-le-mul (f .most-sets) (f .most-ways)), f .some-way, f .most-ways)
+    let figures-allowed = c .before .before .before .before .before .before .before .figures-allowed in
+    let if1 = c .before .before .before .before .before .before .if1 in
+    let f = figures-tell _ _ (sym (figures-allowed .ensures) ∙ if1 .taken) in
+    (omega (arith, f .room), f .some-way)
 
 cast-empty-state : tie.Need-cast-empty-state
 cast-empty-state c =
-    let figures-allowed = c .before .before .before .before .before .before .before .figures-allowed in
-    let if1 = c .before .before .before .before .before .before .if1 in
-    let f = figures-tell _ _ _ (sym (figures-allowed .ensures) ∙ if1 .taken) in
+    let figures-allowed = c .before .before .before .before .before .before .before .before .figures-allowed in
+    let if1 = c .before .before .before .before .before .before .before .if1 in
+    let f = figures-tell _ _ (sym (figures-allowed .ensures) ∙ if1 .taken) in
     omega (arith, f .most-size)
 
 empty-state-requires : tie.Need-empty-state-requires
@@ -67,8 +67,8 @@ same-length c = search needs
 returns-2 : tie.Need-returns-2
 unfolding startAllowed startAnswer startWorld started
 returns-2 c =
-    let figures-allowed = c .before .before .before .before .before .before .before .before .figures-allowed in
-    let if1 = c .before .before .before .before .before .before .before .if1 in
+    let figures-allowed = c .before .before .before .before .before .before .before .before .before .figures-allowed in
+    let if1 = c .before .before .before .before .before .before .before .before .if1 in
     let if2 = c .before .before .before .before .before .before .if2 in
     let zero-cache = c .before .before .before .before .zero-cache in
     let start-tags = c .before .start-tags in

@@ -18,9 +18,9 @@ lines-refusal-requires c κs = search needs
 
 returns : tie.Need-returns
 returns c =
-    let s : State = c .before .before .before .before .before .before .before .args .self in
-    let cache : List ℕ = now (c .before .before .before .before .before .before .before .args .cache) in
-    let memory : List ℕ = now (c .before .before .before .before .before .before .before .args .memory) in
+    let s : State = c .before .before .before .before .before .before .before .before .args .self in
+    let cache : List ℕ = now (c .before .before .before .before .before .before .before .before .args .cache) in
+    let memory : List ℕ = now (c .before .before .before .before .before .before .before .before .args .memory) in
     let h₁ : length (s .stores) ≡ 16 = search (needs, length-of) in
     let h₂ : length (s .loads) ≡ 8 = search (needs, length-of) in
     let h₃ : s .last ≤ topNumber = search needs in
@@ -37,9 +37,9 @@ is-request-good-requires c κs =
 
 returns-2 : tie.Need-returns-2
 returns-2 c =
-    let s : State = c .before .before .before .before .before .before .before .before .before .before .before .args .self in
-    let cache : List ℕ = now (c .before .before .before .before .before .before .before .before .before .before .before .args .cache) in
-    let memory : List ℕ = now (c .before .before .before .before .before .before .before .before .before .before .before .args .memory) in
+    let s : State = c .before .before .before .before .before .before .before .before .before .before .before .before .args .self in
+    let cache : List ℕ = now (c .before .before .before .before .before .before .before .before .before .before .before .before .args .cache) in
+    let memory : List ℕ = now (c .before .before .before .before .before .before .before .before .before .before .before .before .args .memory) in
     let h₁ : length (s .stores) ≡ 16 = search (needs, length-of) in
     let h₂ : length (s .loads) ≡ 8 = search (needs, length-of) in
     let h₃ : s .last ≤ topNumber = search needs in
@@ -51,9 +51,9 @@ returns-2 c =
 
 returns-3 : tie.Need-returns-3
 returns-3 c =
-    let s : State = c .before .before .before .before .before .before .before .before .before .before .before .args .self in
-    let cache : List ℕ = now (c .before .before .before .before .before .before .before .before .before .before .before .args .cache) in
-    let memory : List ℕ = now (c .before .before .before .before .before .before .before .before .before .before .before .args .memory) in
+    let s : State = c .before .before .before .before .before .before .before .before .before .before .before .before .args .self in
+    let cache : List ℕ = now (c .before .before .before .before .before .before .before .before .before .before .before .before .args .cache) in
+    let memory : List ℕ = now (c .before .before .before .before .before .before .before .before .before .before .before .before .args .memory) in
     let h₁ : length (s .stores) ≡ 16 = search (needs, length-of) in
     let h₂ : length (s .loads) ≡ 8 = search (needs, length-of) in
     let h₃ : s .last ≤ topNumber = search needs in
@@ -65,9 +65,9 @@ returns-3 c =
 
 returns-4 : tie.Need-returns-4
 returns-4 c =
-    let s : State = c .before .before .before .before .before .before .before .before .before .args .self in
-    let cache : List ℕ = now (c .before .before .before .before .before .before .before .before .before .args .cache) in
-    let memory : List ℕ = now (c .before .before .before .before .before .before .before .before .before .args .memory) in
+    let s : State = c .before .before .before .before .before .before .before .before .before .before .args .self in
+    let cache : List ℕ = now (c .before .before .before .before .before .before .before .before .before .before .args .cache) in
+    let memory : List ℕ = now (c .before .before .before .before .before .before .before .before .before .before .args .memory) in
     let h₁ : length (s .stores) ≡ 16 = search (needs, length-of) in
     let h₂ : length (s .loads) ≡ 8 = search (needs, length-of) in
     let h₃ : s .last ≤ topNumber = search needs in

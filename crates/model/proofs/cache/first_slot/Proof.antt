@@ -2,7 +2,7 @@
 use mathlib.Core.Path.{refl}
 use native.Mathlib.Omega.{arith}
 use borrow.Author.Needs.{needs}
-use Rattle.model.proofs.CacheLoops.{slots-room, table-room}
+use Rattle.model.proofs.CacheLoops.{slots-room}
 use Rattle.model.proofs.cache.first_slot.Statement.{statement}
 use Rattle.model.proofs.cache.first_slot.Tie as tie
 
@@ -11,15 +11,15 @@ rem-result c = search needs
 
 mul-result : tie.Need-mul-result
 mul-result c =
-    omega (arith, slots-room (c .args .sets) (c .args .ways) (c .args .line) (c .pre .0), table-room (c .args .sets) (c .args .ways) (c .pre .1) (c .pre .2))
+    omega (arith, slots-room (c .before .before .args .figures) (c .before .before .args .line) (c .before .before .pre .0))
 
 cast-result : tie.Need-cast-result
 cast-result c =
-    omega (arith, slots-room (c .args .sets) (c .args .ways) (c .args .line) (c .pre .0), table-room (c .args .sets) (c .args .ways) (c .pre .1) (c .pre .2))
+    omega (arith, slots-room (c .before .before .args .figures) (c .before .before .args .line) (c .before .before .pre .0))
 
 returns : tie.Need-returns
 returns c =
-    (refl, slots-room (c .args .sets) (c .args .ways) (c .args .line) (c .pre .0), table-room (c .args .sets) (c .args .ways) (c .pre .1) (c .pre .2))
+    (refl, slots-room (c .before .before .args .figures) (c .before .before .args .line) (c .before .before .pre .0))
 
 pub first-slot-spec : {M : Type 1} → statement M
 first-slot-spec = tie.close (tie.spec rem-result mul-result cast-result returns)

@@ -12,11 +12,11 @@ use Rattle.model.proofs.cache.start_tags.Statement.{statement}
 use Rattle.model.proofs.cache.start_tags.Tie as tie
 
 abbrev Inv-loop : tie.InvT-loop
-Inv-loop sets ways out₀ count n k₀ out k =
-    (k ≤ count) × (stepsFrom (change (startAt sets ways) noTag) 0 count out₀ ≡ stepsFrom (change (startAt sets ways) noTag) k (count - k) out)
+Inv-loop figures out₀ count n k₀ out k =
+    (k ≤ count) × (stepsFrom (change (startAt (figures .sets) (figures .ways)) noTag) 0 count out₀ ≡ stepsFrom (change (startAt (figures .sets) (figures .ways)) noTag) k (count - k) out)
 
 abbrev μ-loop : tie.MeasureT-loop
-μ-loop sets ways out₀ count n k₀ out k = count - k
+μ-loop figures out₀ count n k₀ out k = count - k
 
 mul-count : tie.Need-mul-count Inv-loop μ-loop
 mul-count c = search needs
@@ -24,9 +24,12 @@ mul-count c = search needs
 cast-count : tie.Need-cast-count Inv-loop μ-loop
 cast-count c = search needs
 
+cast-n : tie.Need-cast-n Inv-loop μ-loop
+cast-n c = search needs
+
 loop-holds : tie.Need-loop-holds Inv-loop μ-loop
 loop-holds c =
-    let n = c .args .sets * c .args .ways in
+    let n = c .before .before .args .figures .sets * c .before .before .args .figures .ways in
     let e : n - 0 ≡ n = omega arith in
     (omega arith, rw e)
 
@@ -36,11 +39,11 @@ mul-t c = search needs
 array-copy-out-t : tie.Need-array-copy-out-t Inv-loop μ-loop
 array-copy-out-t c = search needs
 
-rem-t11 : tie.Need-rem-t11 Inv-loop μ-loop
-rem-t11 c = search needs
+rem-t10 : tie.Need-rem-t10 Inv-loop μ-loop
+rem-t10 c = search needs
 
-cast-t15 : tie.Need-cast-t15 Inv-loop μ-loop
-cast-t15 c =
+cast-t14 : tie.Need-cast-t14 Inv-loop μ-loop
+cast-t14 c =
     let pre = c .before .before .before .pre in
     let loop = c .before .before .loop in
     omega (arith, mod-lt (loop .k) (pre .1))
@@ -59,17 +62,17 @@ loop-less c = search needs
 
 loop-again : tie.Need-loop-again Inv-loop μ-loop
 loop-again c =
-    let a = c .before .before .before .args in
+    let a = c .before .before .before .before .before .args in
     let l = c .before .before .loop in
     let loop-test = c .before .loop-test in
     let t = loop-test .taken in
-    (omega arith, l .inv .1 ∙ (steps-next _ _ _ _ t ∙ rw (start-at (a .sets) (a .ways) (l .k) _ t)))
+    (omega arith, l .inv .1 ∙ (steps-next _ _ _ _ t ∙ rw (start-at (a .figures .sets) (a .figures .ways) (l .k) _ t)))
 
 returns : tie.Need-returns Inv-loop μ-loop
 returns c =
-    let args = c .before .before .args in
+    let args = c .before .before .before .before .args in
     let loop = c .before .loop in
-    sym (steps-end _ _ _ _ (c .loop-test .left)) ∙ (sym (loop .inv .1) ∙ start-each (args .sets) (args .ways))
+    sym (steps-end _ _ _ _ (c .loop-test .left)) ∙ (sym (loop .inv .1) ∙ start-each (args .figures .sets) (args .figures .ways))
 
 pub start-tags-spec : {M : Type 1} → statement M
 start-tags-spec =
@@ -79,11 +82,12 @@ start-tags-spec =
     μ-loop
     mul-count
     cast-count
+    cast-n
     loop-holds
     mul-t
     array-copy-out-t
-    rem-t11
-    cast-t15
+    rem-t10
+    cast-t14
     mul-out
     array-set-from-out
     add-k

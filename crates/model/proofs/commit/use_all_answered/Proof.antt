@@ -15,10 +15,10 @@ use Rattle.model.proofs.commit.use_all_answered.Statement.{statement}
 use Rattle.model.proofs.commit.use_all_answered.Tie as tie
 
 abbrev Inv-loop : tie.InvT-loop
-Inv-loop sets ways k loads out₀ j₀ out j = (j ≤ 8) × (useEach (filter (answeredBy k) loads) (tabled sets ways out₀) .tags ≡ useEach (filter (answeredBy k) (drop j loads)) (tabled sets ways out) .tags)
+Inv-loop figures k loads out₀ j₀ out j = (j ≤ 8) × (useEach (filter (answeredBy k) loads) (tabled figures out₀) .tags ≡ useEach (filter (answeredBy k) (drop j loads)) (tabled figures out) .tags)
 
 abbrev μ-loop : tie.MeasureT-loop
-μ-loop sets ways k loads out₀ j₀ out j = 8 - j
+μ-loop figures k loads out₀ j₀ out j = 8 - j
 
 loop-holds : tie.Need-loop-holds Inv-loop μ-loop
 loop-holds c = (search needs, refl)
@@ -44,22 +44,22 @@ loop-less c = search needs
 loop-again : tie.Need-loop-again Inv-loop μ-loop
 unfolding lineOf
 loop-again c =
-    let h : length (c .before .before .before .before .before .before .before .args .t4) ≡ 8 = search (needs, length-of) in
-    (search needs, c .before .before .before .before .before .before .loop .inv .1 ∙ rw (rest-cons (answeredBy (c .before .before .before .before .before .before .before .args .k)) noLoad (c .before .before .before .before .before .before .before .args .t4) (c .before .before .before .before .before .before .loop .j) (omega arith)) (answered-step _ _ _ _ _ _ (sym (c .before .before .before .is-answered-by .ensures) ∙ c .before .before .if1 .taken) ∙ rw (c .use-line .ensures)))
+    let h : length (c .before .before .before .before .before .before .before .args .t3) ≡ 8 = search (needs, length-of) in
+    (search needs, c .before .before .before .before .before .before .loop .inv .1 ∙ rw (rest-cons (answeredBy (c .before .before .before .before .before .before .before .args .k)) noLoad (c .before .before .before .before .before .before .before .args .t3) (c .before .before .before .before .before .before .loop .j) (omega arith)) (answered-step _ _ _ _ _ _ (sym (c .before .before .before .is-answered-by .ensures) ∙ c .before .before .if1 .taken) ∙ rw (c .use-line .ensures)))
 
 loop-less-2 : tie.Need-loop-less-2 Inv-loop μ-loop
 loop-less-2 c = search needs
 
 loop-again-2 : tie.Need-loop-again-2 Inv-loop μ-loop
 loop-again-2 c =
-    let h : length (c .before .before .before .before .before .args .t4) ≡ 8 = search (needs, length-of) in
-    (search needs, c .before .before .before .before .loop .inv .1 ∙ rw (rest-cons (answeredBy (c .before .before .before .before .before .args .k)) noLoad (c .before .before .before .before .before .args .t4) (c .before .before .before .before .loop .j) (omega arith)) (other-step _ _ _ _ _ _ (sym (c .before .is-answered-by .ensures) ∙ c .if1 .left)))
+    let h : length (c .before .before .before .before .before .args .t3) ≡ 8 = search (needs, length-of) in
+    (search needs, c .before .before .before .before .loop .inv .1 ∙ rw (rest-cons (answeredBy (c .before .before .before .before .before .args .k)) noLoad (c .before .before .before .before .before .args .t3) (c .before .before .before .before .loop .j) (omega arith)) (other-step _ _ _ _ _ _ (sym (c .before .is-answered-by .ensures) ∙ c .if1 .left)))
 
 returns : tie.Need-returns Inv-loop μ-loop
 unfolding filter useEach
 returns c =
-    let h : length (c .before .before .args .t4) ≡ 8 = search (needs, length-of) in
-    sym (c .before .loop .inv .1 ∙ rw (rest-none (answeredBy (c .before .before .args .k)) noLoad (c .before .before .args .t4) (c .before .loop .j) (omega arith)))
+    let h : length (c .before .before .args .t3) ≡ 8 = search (needs, length-of) in
+    sym (c .before .loop .inv .1 ∙ rw (rest-none (answeredBy (c .before .before .args .k)) noLoad (c .before .before .args .t3) (c .before .loop .j) (omega arith)))
 
 pub use-all-answered-spec : {M : Type 1} → statement M
 use-all-answered-spec =

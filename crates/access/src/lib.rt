@@ -1,0 +1,91 @@
+// The access checks, 01's 2 to 5: a checked access, and whether a stored value fits its width.
+ghost use mathlib.Core.Path.{_≡_};
+ghost use Prim.Native.Nat.{_^_};
+ghost use lib.Dec.{ltb};
+ghost use Rattle.rules.specs.Calls.{widthAllowed, passes, accessChecks};
+ghost use Rattle.access.specs.AccessChecks.{sized, checkedAccess, failureOf};
+
+// An access that passed checks 2, 3 and 4.
+pub struct Access {
+    pub address: u32,
+    pub width: u32,
+}
+
+// The checked access, or the number of its refusal.
+pub enum Checked {
+    Passed(Access),
+    Failed(u32),
+}
+
+// "Widths are 1, 2 or 4."
+pub fn width_allowed(width: u32) -> bool
+    ensures { λ r. ⌜ r ≡ widthAllowed width ⌝ }
+{
+    if width == 1 {
+        return true;
+    }
+    if width == 2 {
+        return true;
+    }
+    width == 4
+}
+
+// Checks 2, 3 and 4, in this order, of an access to a memory of so many bytes.
+pub fn check_access(address: u32, width: u32, size: u32) -> Checked
+    ensures { λ r. ⌜ r ≡ checkedAccess size address width ⌝ }
+{
+    if width_allowed(width) {
+        if address % width != 0 {
+            return Checked::Failed(rules::MISALIGNED);
+        }
+        if size < width {
+            return Checked::Failed(rules::OUTSIDE_MEMORY);
+        }
+        if size - width < address {
+            return Checked::Failed(rules::OUTSIDE_MEMORY);
+        }
+        Checked::Passed(Access { address, width })
+    } else {
+        Checked::Failed(rules::BAD_WIDTH)
+    }
+}
+
+// Whether checks 2, 3 and 4 pass.
+pub fn access_passes(address: u32, width: u32, size: u32) -> bool
+    ensures { λ r. ⌜ r ≡ passes (accessChecks (sized size) address width) ⌝ }
+{
+    let checked = check_access(address, width, size);
+    match checked {
+        Checked::Passed(_) => true,
+        Checked::Failed(_) => false,
+    }
+}
+
+// The number of a failed check, 0 where they passed.
+pub fn failure(c: Checked) -> u32
+    ensures { λ r. ⌜ r ≡ failureOf c ⌝ }
+{
+    match c {
+        Checked::Passed(_) => 0,
+        Checked::Failed(k) => k,
+    }
+}
+
+// Whether check 5 passes: the value is below 256 to the power width, of any width.
+pub fn value_fits(value: u32, width: u32) -> bool
+    ensures { λ r. ⌜ r ≡ ltb value (256 ^ width) ⌝ }
+{
+    if 4 <= width {
+        return true;
+    }
+    if width == 0 {
+        return value < 1;
+    }
+    if width == 1 {
+        return value < 256;
+    }
+    if width == 2 {
+        return value < 65536;
+    }
+    value < 16777216
+}
