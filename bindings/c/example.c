@@ -257,7 +257,8 @@ static void check_shown_of_const(void) {
     make_busy(&b);
     CHECK(same(nicoisetarn_reply(&unit), NICOISETARN_KIND_FILLED, 16, 0));
     const bench seen = b;
-    CHECK(same(nicoisetarn_show_line_in(seen.image, 16, seen.cache, sizeof seen.cache, seen.memory, sizeof seen.memory),
+    CHECK(same(nicoisetarn_show_line_in(&seen.image, 16, seen.cache, sizeof seen.cache, seen.memory,
+                                        sizeof seen.memory),
                NICOISETARN_KIND_SHOWN, 0, 16));
 }
 

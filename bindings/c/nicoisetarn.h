@@ -113,7 +113,7 @@ typedef enum nicoisetarn_kind {
  * 13, then 11 or 12; each of 14 to 18 follows 10. (6 is the script player's, for a line that it cannot read.)
  */
 typedef enum nicoisetarn_refusal {
-    NICOISETARN_REFUSED_FIGURES = 1,      /* sets, ways or a length is not allowed, or a length disagrees with the image */
+    NICOISETARN_REFUSED_FIGURES = 1,      /* sets, ways or a length is not allowed or disagrees with the image */
     NICOISETARN_REFUSED_WIDTH = 2,        /* load, store: the width is not 1, 2 or 4 */
     NICOISETARN_REFUSED_ALIGNMENT = 3,    /* load, store: the address is not a multiple of the width */
     NICOISETARN_REFUSED_ADDRESS = 4,      /* load, store: address + width exceeds the memory length */
@@ -158,8 +158,8 @@ nicoisetarn_answer nicoisetarn_step_in(nicoisetarn_image *image, uint32_t call,
                                        uint8_t *cache, size_t cache_length,
                                        uint8_t *memory, size_t memory_length);
 
-/* Show line on bytes that are only read: what NICOISETARN_CALL_SHOW_LINE answers. The image goes by value. */
-nicoisetarn_answer nicoisetarn_show_line_in(nicoisetarn_image image, uint32_t address,
+/* Show line on an image and bytes that are only read: what NICOISETARN_CALL_SHOW_LINE answers. */
+nicoisetarn_answer nicoisetarn_show_line_in(const nicoisetarn_image *image, uint32_t address,
                                             const uint8_t *cache, size_t cache_length,
                                             const uint8_t *memory, size_t memory_length);
 
@@ -268,7 +268,7 @@ static inline nicoisetarn_answer nicoisetarn_flush(nicoisetarn_unit *unit) {
  * the bytes.
  */
 static inline nicoisetarn_answer nicoisetarn_show_line(const nicoisetarn_unit *unit, uint32_t address) {
-    return nicoisetarn_show_line_in(*unit->image, address, unit->cache, unit->cache_length,
+    return nicoisetarn_show_line_in(unit->image, address, unit->cache, unit->cache_length,
                                     unit->memory, unit->memory_length);
 }
 
@@ -280,9 +280,9 @@ static inline const uint8_t *nicoisetarn_shown(const nicoisetarn_unit *unit, nic
     return unit->cache + shown.first;
 }
 
-/* ---- what an image holds, to be printed or compared; they read whatever the image holds, refused or not */
+/* ---- what an image holds, to be printed or compared; these read whatever is there, refused or not */
 
-/* Where things stand in an image. For the functions below alone. */
+/* Where things stand in an image, in bytes. For the functions below alone. */
 enum {
     NICOISETARN_AT_SETS = 0,
     NICOISETARN_AT_WAYS = 4,
@@ -291,9 +291,9 @@ enum {
     NICOISETARN_AT_COMMITTED = 16,
     NICOISETARN_AT_REQUESTED = 20,
     NICOISETARN_AT_REQUESTED_LINE = 24,
-    NICOISETARN_AT_STORES = 28,
-    NICOISETARN_AT_LOADS = 284,
-    NICOISETARN_AT_RECORDS = 412
+    NICOISETARN_AT_STORES = 28, /* 16 bytes each: number, address, width, value */
+    NICOISETARN_AT_LOADS = 284, /* 16 bytes each: number, address, width, waiting */
+    NICOISETARN_AT_RECORDS = 412 /* 6 bytes each: valid, dirty, line (2), age, 0 */
 };
 
 NICOISETARN_ASSERT(NICOISETARN_AT_LOADS == NICOISETARN_AT_STORES + 16 * NICOISETARN_STORES, "loads behind stores");
@@ -320,14 +320,17 @@ static inline uint32_t nicoisetarn_number_at(const nicoisetarn_image *image, siz
     return image->nicoisetarn_words[at / 4];
 }
 
+/* The sets of the cache. */
 static inline uint32_t nicoisetarn_sets(const nicoisetarn_image *image) {
     return nicoisetarn_number_at(image, NICOISETARN_AT_SETS);
 }
 
+/* The ways of each set. */
 static inline uint32_t nicoisetarn_ways(const nicoisetarn_image *image) {
     return nicoisetarn_number_at(image, NICOISETARN_AT_WAYS);
 }
 
+/* The bytes of the memory. */
 static inline uint32_t nicoisetarn_memory_length(const nicoisetarn_image *image) {
     return nicoisetarn_number_at(image, NICOISETARN_AT_MEMORY_LENGTH);
 }
@@ -337,17 +340,17 @@ static inline uint32_t nicoisetarn_last(const nicoisetarn_image *image) {
     return nicoisetarn_number_at(image, NICOISETARN_AT_LAST);
 }
 
-/* The committed number. */
+/* The committed number: everything up to it is committed. */
 static inline uint32_t nicoisetarn_committed(const nicoisetarn_image *image) {
     return nicoisetarn_number_at(image, NICOISETARN_AT_COMMITTED);
 }
 
-/* Not 0: the request register names a line, that of the next function. 0: the register is free. */
+/* Not 0: the miss register (the scope paper's request register) names a line, that of the next function. */
 static inline int nicoisetarn_requested(const nicoisetarn_image *image) {
     return nicoisetarn_number_at(image, NICOISETARN_AT_REQUESTED) != 0;
 }
 
-/* The line number that the request register names; 0 where it is free. */
+/* The line number that the miss register names, its first address divided by 16; 0 where it is free. */
 static inline uint32_t nicoisetarn_requested_line(const nicoisetarn_image *image) {
     return nicoisetarn_number_at(image, NICOISETARN_AT_REQUESTED_LINE);
 }

@@ -70,7 +70,7 @@ extern "C" {
     ) -> AnswerImage;
 
     fn nicoisetarn_show_line_in(
-        image: Image,
+        image: *const Image,
         address: u32,
         cache: *const u8,
         cache_length: usize,
@@ -116,12 +116,10 @@ pub fn step(
 pub fn show_line(image: &Image, address: u32, cache: &[u8], memory: &[u8]) -> AnswerImage {
     let (cache_length, memory_length) = (cache.len(), memory.len());
     let (cache, memory) = (cache.as_ptr(), memory.as_ptr());
-    // SAFETY: the image goes by value; both references are live and not null, and
-    // each slice goes with its own length; the library only reads them and keeps
-    // no pointer; any bytes are an image.
-    unsafe {
-        nicoisetarn_show_line_in(image.clone(), address, cache, cache_length, memory, memory_length)
-    }
+    // SAFETY: the three references are live and not null, and each slice goes with
+    // its own length; the library only reads them and keeps no pointer; any bytes
+    // are an image.
+    unsafe { nicoisetarn_show_line_in(image, address, cache, cache_length, memory, memory_length) }
 }
 
 /// The image with these bytes.

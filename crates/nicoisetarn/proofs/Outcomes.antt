@@ -1,16 +1,13 @@
 -- What the functions leave is what the definitions say; and a refusal leaves everything as it was.
 use Prim.Native.Nat.{ℕ, _<_, _≤_}
 use mathlib.Core.Path.{_≡_, refl, sym, _∙_, ap}
-use mathlib.Core.Bool.{true, false, cond}
-use mathlib.Core.List.{List, map}
+use mathlib.Core.Bool.{true, false}
+use mathlib.Core.List.{List, [], map}
 use mathlib.Core.Option.{Option, some, none}
 use native.Mathlib.Omega.{arith}
-use borrow.Author.Tests.{eqb-false, ne-eqb}
-use lib.Dec.{eqb}
 use lib.ListN.{drop}
 use Rattle.lists.proofs.Cond.{cases, wrong}
-use Rattle.rules.specs.declared.Tag.{Tag}
-use Rattle.rules.specs.Shape.{Queues, Hierarchy, World, fits}
+use Rattle.rules.specs.Shape.{Queues, Hierarchy, World}
 use Rattle.rules.specs.Calls as rules
 use Rattle.rules.specs.Runs.{ready, startRefused, startAllowed, startAnswer, startWorld, unstarted, refusal, outcome}
 use Rattle.rules.proofs.Checks.{outcome-by, rule-accepts}
@@ -30,7 +27,9 @@ use Rattle.nicoisetarn.specs.Images.{imagedTag, figuresWith, openedOf, i
 use Rattle.nicoisetarn.specs.Answers.{callNumbered, numberedOf, coded, imagedAnswer, readyAnswer, noSuchCall}
 use Rattle.nicoisetarn.specs.Steps.{Left, leftOf, kept, leaves, startedBy, started, imageRefusal, outcomeFrom, called, stepped, lineShown, recordsChanged}
 use Rattle.nicoisetarn.specs.Claims.{Keeps, RefusedImagesKept, UnknownCallsKept, LooksKept}
+use Rattle.nicoisetarn.proofs.CallNumbers.{no-number, some-number}
 use Rattle.nicoisetarn.proofs.Standing.{imaged-opened}
+use Rattle.nicoisetarn.proofs.ShownPart.{image-over}
 
 -- ---- a call
 
@@ -43,11 +42,11 @@ module _ (c : rules.Call) (i : Image) (cache memory : List ℕ) where
 
   -- the state that the image stands for is stepped
   pub state-stepped :
-      (r : Step) (cache′ memory′ : List ℕ) (s : State) → outcomeOf r cache′ memory′ ≡ outcomeAt s → (t : ImageStep) → t .answer ≡ imagedAnswer (answerOf (r .answer) cache′)
+      (r : Step) (cache′ memory′ : List ℕ) (s : State) → outcomeOf r cache′ memory′ ≡ outcomeAt s → (t : ImageStep) → t .answer ≡ imagedAnswer (answerOf (r .answer) [])
       → s ≡ openedOf i → standsFor i ≡ true → t .next ≡ imagedOf (r .next) → leftOf t cache′ memory′ ≡ called (some c) i cache memory
   unfolding called outcomeFrom
   state-stepped r cache′ memory′ s e t answer o stands next =
-      (λ j. record { answer = answer j; image = next j; cache = cache′; memory = memory′ })
+      (λ j. record { answer = image-over (t .answer) (r .answer) cache′ answer j; image = next j; cache = cache′; memory = memory′ })
       ∙ ap Leaves (e ∙ ap outcomeAt o) ∙ rw stands
 
   -- the image stands for none: refused, and it stays
@@ -92,14 +91,20 @@ module _ (q : Queues) (b : Hierarchy) where
 -- the others have their images in the image before the call
 module _ (c : rules.Call) (i : Image) (cache memory : List ℕ) (stands : standsFor i ≡ true) where
   pub image-rest :
-      (n : ℕ) (s : State) (next : List Tag) → n ≡ recordsChanged c → s ≡ openedOf i
-      → next ≡ outcome c (queuesOf s) (hierarchyOf s cache memory) .hierarchy .tags → n < 256 → drop n (i .tags) ≡ map imagedTag (drop n next)
+      (n : ℕ) (s : State) (r : Step) (cache′ memory′ : List ℕ) → n ≡ recordsChanged c → s ≡ openedOf i
+      → outcomeOf r cache′ memory′ ≡ outcome c (queuesOf s) (hierarchyOf s cache memory) → n < 256 → drop n (i .tags) ≡ map imagedTag (drop n (r .next .tags))
   unfolding imagedOf
-  image-rest n s next m o e =
+  image-rest n s r cache′ memory′ m o e =
       rw m
-      (none-or-all c (λ n. n < 256 → drop n (i .tags) ≡ map imagedTag (drop n next))
-      (λ z h. sym (ap (map imagedTag) (e ∙ (outcome-keeps (queuesOf s) (hierarchyOf s cache memory) c z ∙ ap (λ (s : State). s .tags) o)) ∙ ap (λ (j : Image). j .tags) (imaged-opened i stands)))
+      (none-or-all c (λ n. n < 256 → drop n (i .tags) ≡ map imagedTag (drop n (r .next .tags)))
+      (λ z h. sym (ap (map imagedTag) (tags-kept z) ∙ ap (λ (j : Image). j .tags) (imaged-opened i stands)))
       (λ h. let no : ⊥ = omega arith in absurd no))
+    where
+      tags-kept : recordsChanged c ≡ 0 → r .next .tags ≡ openedOf i .tags
+      tags-kept z =
+          ap (λ (o : rules.Outcome). o .hierarchy .tags) e
+          ∙ outcome-keeps (queuesOf s) (hierarchyOf s cache memory) c z
+          ∙ ap (λ (s : State). s .tags) o
 
 -- ---- a call by its number
 
@@ -202,30 +207,6 @@ kind-known (rules.filled a) = omega arith
 kind-known (rules.flushed k) = omega arith
 kind-known (rules.shown p bs) = omega arith
 
-module _ (call x y z : ℕ) where
-  no-number : 8 < call → callNumbered call x y z ≡ none
-  unfolding callNumbered
-  no-number h =
-      rw (ne-eqb call 0 (λ e. omega arith), ne-eqb call 1 (λ e. omega arith), ne-eqb call 2 (λ e. omega arith), ne-eqb call 3 (λ e. omega arith), ne-eqb call 4 (λ e. omega arith), ne-eqb call 5 (λ e. omega arith), ne-eqb call 6 (λ e. omega arith), ne-eqb call 7 (λ e. omega arith), ne-eqb call 8 (λ e. omega arith))
-
-  above : (n : ℕ) (c : rules.Call) (o : Option rules.Call) → n ≤ call → cond (eqb call n) (some c) o ≡ none → (n < call) × (o ≡ none)
-  above n c o h e = cases (eqb call n)
-      (λ t. let f : some c ≡ none = rw t at e in let z : _≡_ {A = ℕ} 0 1 = cc in let no : ⊥ = omega arith in absurd no)
-      (λ t. let g = eqb-false call n t in (omega arith, rw t at e))
-
-  some-number : callNumbered call x y z ≡ none → 8 < call
-  unfolding callNumbered
-  some-number e =
-      let e0 = above 0 _ _ (omega arith) e in
-      let e1 = above 1 _ _ (e0 .0) (e0 .1) in
-      let e2 = above 2 _ _ (e1 .0) (e1 .1) in
-      let e3 = above 3 _ _ (e2 .0) (e2 .1) in
-      let e4 = above 4 _ _ (e3 .0) (e3 .1) in
-      let e5 = above 5 _ _ (e4 .0) (e4 .1) in
-      let e6 = above 6 _ _ (e5 .0) (e5 .1) in
-      let e7 = above 7 _ _ (e6 .0) (e6 .1) in
-      above 8 _ _ (e7 .0) (e7 .1) .0
-
 module _ (i : Image) (cache memory : List ℕ) where
   called-known : (o : Option rules.Call) → called o i cache memory .answer ≡ noSuchCall → o ≡ none
   unfolding called
@@ -249,11 +230,13 @@ unknown-kept = record {
 module _ (address : ℕ) (i : Image) (cache memory : List ℕ) where
   -- of the state that the image stands for
   pub state-shown :
-      (s : State) (a : rules.Answer) → a ≡ outcome (rules.show address) (queuesOf s) (hierarchyOf s cache memory) .answer → s ≡ openedOf i → standsFor i ≡ true
-      → imagedAnswer a ≡ lineShown address i cache memory
+      (r : Step) (s : State) → outcomeOf r cache memory ≡ outcome (rules.show address) (queuesOf s) (hierarchyOf s cache memory) → s ≡ openedOf i → standsFor i ≡ true
+      → (t : AnswerImage) → t ≡ imagedAnswer (answerOf (r .answer) []) → t ≡ lineShown address i cache memory
   unfolding lineShown outcomeFrom
-  state-shown s a e o stands =
-      ap imagedAnswer (e ∙ ap (λ (s : State). outcome (rules.show address) (queuesOf s) (hierarchyOf s cache memory) .answer) o) ∙ rw stands
+  state-shown r s e o stands t f =
+      image-over t (r .answer) cache f
+      ∙ ap (λ (o : rules.Outcome). imagedAnswer (o .answer)) (e ∙ ap (λ (s : State). outcome (rules.show address) (queuesOf s) (hierarchyOf s cache memory)) o)
+      ∙ rw stands
 
   -- of an image that stands for none
   pub none-shown : standsFor i ≡ false → imagedAnswer rules.emptyPart ≡ lineShown address i cache memory

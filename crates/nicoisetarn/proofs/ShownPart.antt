@@ -59,9 +59,9 @@ module _ (q : Queues) (b : Hierarchy) where
   unfolding present placeOf
   place-small a f e =
       let t = fits-tells b f in
-      let set : setOf b (lineOf a) * b .ways ≤ b .sets * b .ways = mul-le-mul-right (b .ways) (omega (arith, mod-lt (lineOf a) (t .some-set))) in
-      let next : setOf b (lineOf a) * b .ways + b .ways ≤ b .sets * b .ways = omega (arith, mul-le-mul-right (b .ways) (mod-lt (lineOf a) (t .some-set))) in
-      omega (arith, ltb-true (slotOf b (lineOf a)) (firstSlot b (lineOf a) + b .ways) e, t .room)
+      let set : setOf b (lineOf a) * b .figures .ways ≤ b .figures .sets * b .figures .ways = mul-le-mul-right (b .figures .ways) (omega (arith, mod-lt (lineOf a) (t .some-set))) in
+      let next : setOf b (lineOf a) * b .figures .ways + b .figures .ways ≤ b .figures .sets * b .figures .ways = omega (arith, mul-le-mul-right (b .figures .ways) (mod-lt (lineOf a) (t .some-set))) in
+      omega (arith, ltb-true (slotOf b (lineOf a)) (firstSlot b (lineOf a) + b .figures .ways) e, t .room)
 
   show-small : (a : ℕ) → fits b ≡ true → Small (showRule a q b)
   unfolding showRule

@@ -21,8 +21,8 @@ use rules::NO_TAG;
 use rules::Request;
 use rules::STORE_PLACES;
 use rules::StoreEntry;
-use rules::Tag;
 use rules::TAG_RECORDS;
+use rules::Tag;
 
 // ---- free places, all zero
 
@@ -302,7 +302,11 @@ fn image_tag(t: Tag) -> TagImage
 }
 
 // The images of the records: the first n are made, the others stand in the old image.
-fn image_tags(old: [TagImage; TAG_RECORDS], tags: [Tag; TAG_RECORDS], n: usize) -> [TagImage; TAG_RECORDS]
+fn image_tags(
+    old: [TagImage; TAG_RECORDS],
+    tags: [Tag; TAG_RECORDS],
+    n: usize,
+) -> [TagImage; TAG_RECORDS]
     requires { ⌜ (n ≤ 256) × (n < 256 → drop n old ≡ map imagedTag (drop n tags)) ⌝ }
     ensures { λ r. ⌜ r ≡ map imagedTag tags ⌝ }
 {

@@ -4,7 +4,6 @@
 ghost use mathlib.Core.Path.{_≡_};
 ghost use Rattle.nicoisetarn.specs.Steps.{leftOf, started, stepped, lineShown};
 ghost use Rattle.nicoisetarn.specs.Claims.{ImagesStandForStates, RefusedImagesKept, UnknownCallsKept, LooksKept};
-
 use rules::LOAD_PLACES;
 use rules::STORE_PLACES;
 use rules::TAG_RECORDS;

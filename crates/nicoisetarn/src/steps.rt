@@ -2,7 +2,7 @@
 ghost use mathlib.Core.Path.{_≡_};
 ghost use Prim.Native.Nat.{_≤_};
 ghost use mathlib.Core.Option.{some};
-ghost use mathlib.Core.Bool.{true, false};
+ghost use mathlib.Core.Bool.{true};
 ghost use Rattle.rules.specs.Runs.{refusal};
 ghost use Rattle.model.specs.State.{callOf};
 ghost use Rattle.nicoisetarn.specs.Images.{standsFor, ZeroFrom};

@@ -75,10 +75,16 @@ enum-known-a-11 : tie.Need-enum-known-a-11
 enum-known-a-11 c = search needs
 
 cast-coded : tie.Need-cast-coded
-cast-coded c = let p = part-fits _ _ _ (@a11 .given .1) @pre in omega (arith, p .0)
+cast-coded c =
+    let pre = c .before .before .before .pre in
+    let a11 = c .before .a11 in
+    let p = part-fits _ _ _ (a11 .given .1) pre in omega (arith, p .0)
 
 cast-coded-2 : tie.Need-cast-coded-2
-cast-coded-2 c = let p = part-fits _ _ _ (@a11 .given .1) @pre in omega (arith, p .1)
+cast-coded-2 c =
+    let pre = c .before .before .before .pre in
+    let a11 = c .before .a11 in
+    let p = part-fits _ _ _ (a11 .given .1) pre in omega (arith, p .1)
 
 coded-requires-12 : tie.Need-coded-requires-12
 coded-requires-12 c κs = search needs
@@ -139,7 +145,9 @@ returns-11 c =
     rw (a10 .given .1) (c .coded11 .ensures)
 
 returns-12 : tie.Need-returns-12
-returns-12 c = part-image _ _ _ (@a11 .given .1) _ (@coded12 .ensures)
+returns-12 c =
+    let a11 = c .before .before .a11 in
+    part-image _ _ _ (a11 .given .1) _ (c .coded12 .ensures)
 
 pub answer-image-spec : {M : Type 1} → statement M
 answer-image-spec =

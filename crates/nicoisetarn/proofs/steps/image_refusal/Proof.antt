@@ -1,6 +1,5 @@
 -- `steps::image_refusal` meets its contract: 10 where figures and lengths fit, else 1.
 use borrow.Author.Needs.{needs}
-use mathlib.Core.Path.{sym, _∙_}
 use Rattle.nicoisetarn.specs.Steps.{imageRefusal}
 use Rattle.nicoisetarn.proofs.steps.image_refusal.Statement.{statement}
 use Rattle.nicoisetarn.proofs.steps.image_refusal.Tie as tie
@@ -11,14 +10,14 @@ is-fit-requires c κs = search needs
 returns : tie.Need-returns
 unfolding imageRefusal
 returns c =
-    let e = sym (@is-fit .ensures) ∙ @if1 .taken in
-    rw e
+    let is-fit = c .before .is-fit in
+    rw (← is-fit .ensures, c .if1 .taken)
 
 returns-2 : tie.Need-returns-2
 unfolding imageRefusal
 returns-2 c =
-    let e = sym (@is-fit .ensures) ∙ @if1 .left in
-    rw e
+    let is-fit = c .before .is-fit in
+    rw (← is-fit .ensures, c .if1 .left)
 
 pub image-refusal-spec : {M : Type 1} → statement M
 image-refusal-spec = tie.close (tie.spec is-fit-requires returns returns-2)

@@ -1,7 +1,7 @@
 -- `steps::refused_with` meets its contract: show line, or one of the calls that name their refusal.
 use borrow.Author.Needs.{needs}
 use Prim.Native.Nat.{ℕ}
-use mathlib.Core.Path.{_≡_, refl, sym, _∙_, ap}
+use mathlib.Core.Path.{_≡_, refl, _∙_}
 use mathlib.Core.List.{List, [], _∷_}
 use types.Run.{OneOf, miss}
 use denote.Enum.Declared.{tagOf}
@@ -36,13 +36,18 @@ coded-requires : tie.Need-coded-requires
 coded-requires c κs = search needs
 
 returns : tie.Need-returns
-returns c = rw (@enum-told .given .1) (@coded .ensures)
+returns c =
+    let enum-told = c .before .enum-told in
+    rw (enum-told .given .1) (c .coded .ensures)
 
 coded-requires-2 : tie.Need-coded-requires-2
 coded-requires-2 c κs = search needs
 
 returns-2 : tie.Need-returns-2
-returns-2 c = @coded2 .ensures ∙ named _ _ (@match .keys2)
+returns-2 c =
+    let args = c .before .before .args in
+    let match = c .before .match in
+    c .coded2 .ensures ∙ named (args .k) (args .call) (match .keys2)
 
 pub refused-with-spec : {M : Type 1} → statement M
 refused-with-spec =

@@ -15,10 +15,14 @@ used-records-requires : tie.Need-used-records-requires
 used-records-requires c κs = search needs
 
 stands-requires : tie.Need-stands-requires
-stands-requires c κs = @used-records .ensures
+stands-requires c κs = c .used-records .ensures
 
 step-state-requires : tie.Need-step-state-requires
-step-state-requires c κs = (sym (@stands .ensures) ∙ @if1 .taken, @used-records .ensures)
+step-state-requires c κs =
+    let used-records = c .before .before .before .before .used-records in
+    let stands = c .before .before .before .stands in
+    let if1 = c .before .before .if1 in
+    (sym (stands .ensures) ∙ if1 .taken, used-records .ensures)
 
 same-length : tie.Need-same-length
 same-length c = search needs
@@ -27,7 +31,11 @@ same-length-2 : tie.Need-same-length-2
 same-length-2 c = search needs
 
 returns : tie.Need-returns
-returns c = known-stepped _ _ _ _ _ _ _ _ (@call-numbered .ensures) _ (@numbered .given .1) _ (@step-state .ensures)
+returns c =
+    let call-numbered = c .before .before .before .before .before .before .before .before .before .before .before .before .before .call-numbered in
+    let numbered = c .before .before .before .before .before .before .before .before .before .before .before .numbered in
+    let step-state = c .before .before .before .before .step-state in
+    known-stepped _ _ _ _ _ _ _ _ (call-numbered .ensures) _ (numbered .given .1) _ (step-state .ensures)
 
 image-refusal-requires : tie.Need-image-refusal-requires
 image-refusal-requires c κs = search needs
@@ -49,11 +57,19 @@ same-length-4 c = search needs
 
 returns-2 : tie.Need-returns-2
 returns-2 c =
-    known-stepped _ _ _ _ _ _ _ _ (@call-numbered .ensures) _ (@numbered .given .1) _
-    (image-refused _ _ _ _ (sym (@stands .ensures) ∙ @if1 .left) _ (@image-refusal .ensures) _ (@refused-with .ensures) refl)
+    let call-numbered = c .before .before .before .before .before .before .before .before .before .before .call-numbered in
+    let numbered = c .before .before .before .before .before .before .before .before .numbered in
+    let stands = c .before .before .before .before .before .stands in
+    let if1 = c .before .before .before .before .if1 in
+    let image-refusal = c .before .image-refusal in
+    known-stepped _ _ _ _ _ _ _ _ (call-numbered .ensures) _ (numbered .given .1) _
+    (image-refused _ _ _ _ (sym (stands .ensures) ∙ if1 .left) _ (image-refusal .ensures) _ (c .refused-with .ensures) refl)
 
 returns-3 : tie.Need-returns-3
-returns-3 c = unknown-stepped _ _ _ _ _ _ _ _ (@call-numbered .ensures) (@enum-told .given .1) _ (@coded .ensures) refl
+returns-3 c =
+    let call-numbered = c .before .before .before .call-numbered in
+    let enum-told = c .before .enum-told in
+    unknown-stepped _ _ _ _ _ _ _ _ (call-numbered .ensures) (enum-told .given .1) _ (c .coded .ensures) refl
 
 pub step-image-spec : {M : Type 1} → statement M
 step-image-spec =

@@ -1,14 +1,14 @@
 -- `steps::step_state` meets its contract: a step of the state that the image stands for.
 use borrow.Author.Needs.{needs}
-use mathlib.Core.Path.{ap}
-use Rattle.rules.specs.Calls as rules
-use Rattle.nicoisetarn.proofs.ShownPart.{step-small, image-over}
+use Rattle.nicoisetarn.proofs.ShownPart.{step-small}
 use Rattle.nicoisetarn.proofs.Outcomes.{state-stepped, image-rest}
 use Rattle.nicoisetarn.proofs.steps.step_state.Statement.{statement}
 use Rattle.nicoisetarn.proofs.steps.step_state.Tie as tie
 
 opened-requires : tie.Need-opened-requires
-opened-requires c κs = @pre .1
+opened-requires c κs =
+    let pre = c .before .before .pre in
+    pre .1
 
 step-requires : tie.Need-step-requires
 step-requires c κs = search needs
@@ -17,11 +17,17 @@ records-changed-requires : tie.Need-records-changed-requires
 records-changed-requires c κs = search needs
 
 answer-image-requires : tie.Need-answer-image-requires
-answer-image-requires c κs = step-small _ _ _ (@step .result) _ _ (@step .ensures)
+answer-image-requires c κs =
+    let step = c .before .before .before .before .before .before .step in
+    step-small _ _ _ (step .result) _ _ (step .ensures)
 
 imaged-requires : tie.Need-imaged-requires
 imaged-requires c κs =
-    (@records-changed .ensures .1, image-rest _ _ _ _ (@pre .0) _ _ _ (@records-changed .ensures .0) (@opened .ensures) (ap (λ (o : rules.Outcome). o .hierarchy .tags) (@step .ensures)))
+    let pre = c .before .before .before .before .before .before .before .before .before .before .before .before .before .pre in
+    let opened = c .before .before .before .before .before .before .before .before .before .before .opened in
+    let step = c .before .before .before .before .before .before .before .step in
+    let records-changed = c .before .records-changed in
+    (records-changed .ensures .1, image-rest _ _ _ _ (pre .0) _ _ (step .result) _ _ (records-changed .ensures .0) (opened .ensures) (step .ensures))
 
 same-length : tie.Need-same-length
 same-length c = search needs
@@ -30,7 +36,12 @@ same-length-2 : tie.Need-same-length-2
 same-length-2 c = search needs
 
 returns : tie.Need-returns
-returns c = state-stepped _ _ _ _ (@step .result) _ _ _ (@step .ensures) _ (image-over _ _ _ (@answer-image .ensures)) (@opened .ensures) (@pre .0) (@imaged .ensures)
+returns c =
+    let pre = c .before .before .before .before .before .before .before .before .before .before .before .before .before .before .pre in
+    let opened = c .before .before .before .before .before .before .before .before .before .before .before .opened in
+    let step = c .before .before .before .before .before .before .before .before .step in
+    let answer-image = c .before .answer-image in
+    state-stepped _ _ _ _ (step .result) _ _ _ (step .ensures) _ (answer-image .ensures) (opened .ensures) (pre .0) (c .imaged .ensures)
 
 pub step-state-spec : {M : Type 1} → statement M
 step-state-spec =
