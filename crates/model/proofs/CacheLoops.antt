@@ -238,17 +238,17 @@ flushed-all n b =
 -- ---- start
 
 abbrev pub startAt : ℕ → ℕ → ℕ → Tag → Tag
-startAt sets ways k t = cond (ltb k (sets * ways)) (withAge (k % ways) t) t
+startAt count ways k t = cond (ltb k count) (withAge (k % ways) t) t
 
 pub start-each :
-    (sets ways : ℕ) → stepsFrom (change (startAt sets ways) noTag) 0 (sets * ways) (replicate 256 noTag) ≡ startTags sets ways
+    (sets ways : ℕ) → stepsFrom (change (startAt (sets * ways) ways) noTag) 0 (sets * ways) (replicate 256 noTag) ≡ startTags sets ways
 unfolding startTags
 start-each sets ways =
-    changes-each (startAt sets ways) noTag 0 (sets * ways) (replicate 256 noTag)
+    changes-each (startAt (sets * ways) ways) noTag 0 (sets * ways) (replicate 256 noTag)
     (λ k x o. rw (le-ltb k (sets * ways) (not-below k (sets * ways) (λ l. o (omega arith) (omega arith)))))
   where
     not-below : (k n : ℕ) → (k < n → ⊥) → n ≤ k
     not-below k n h = omega arith
 
-pub start-at : (sets ways k : ℕ) (t : Tag) → k < sets * ways → startAt sets ways k t ≡ withAge (k % ways) t
-start-at sets ways k t h = rw (lt-ltb k (sets * ways) h)
+pub start-at : (count ways k : ℕ) (t : Tag) → k < count → startAt count ways k t ≡ withAge (k % ways) t
+start-at count ways k t h = rw (lt-ltb k count h)

@@ -13,10 +13,11 @@ use Rattle.rules.specs.Calls.{Call, Check, widthAllowed, load, store, refused, 
 use Rattle.rules.specs.WellFormed.{wellFormed}
 use Rattle.rules.specs.Runs.{stateChecks, refusal, outcome}
 use Rattle.rules.proofs.Checks.{shut, malformed, opened, checked, guarded-append, guarded-passes}
-use Rattle.queue_checks.specs.Good.{sized}
-use Rattle.model.specs.State.{checkedAccess, storeRest}
-use Rattle.model.specs.declared.access.Access.{Access}
-use Rattle.model.specs.declared.access.Checked.the-variants.{Passed, Failed}
+use Rattle.access.specs.AccessChecks.{sized, checkedAccess}
+use Rattle.access.proofs.AccessChecks.{checks-refuse, checks-pass}
+use Rattle.model.specs.State.{storeRest}
+use Rattle.access.specs.declared.Access.{Access}
+use Rattle.access.specs.declared.Checked.the-variants.{Passed, Failed}
 
 module _ (c : Call) (q : Queues) (b : Hierarchy) where
   -- checks 1 and 10 pass
@@ -44,35 +45,6 @@ module _ (c : Call) (q : Queues) (b : Hierarchy) where
       (λ g. let z : k ≡ 10 = rw (f, g) at e in let no : ⊥ = omega arith in absurd no))
       (λ f. let z : k ≡ 1 = rw f at e in let no : ⊥ = omega arith in absurd no)
 
--- ---- the checked access
-
-access-failed : {A : Type 0} (refuse : ℕ → A) (done : A) (ks : List Check) (x : Access) (k : ℕ) → guarded ks (λ j. Failed j) (Passed x) ≡ Failed k → guarded ks refuse done ≡ refuse k
-unfolding guarded
-access-failed refuse done [] x k e = let z : _≡_ {A = ℕ} 0 1 = cc in let no : ⊥ = omega arith in absurd no
-access-failed refuse done (c ∷ ks) x k e = cases (c .applies)
-    (λ t. let z : Failed (c .number) ≡ Failed k = rw t at e in let y : c .number ≡ k = cc in rw (t, y))
-    (λ t. rw t (access-failed refuse done ks x k (rw t at e)))
-
-access-passed : (ks : List Check) (x y : Access) → guarded ks (λ j. Failed j) (Passed x) ≡ Passed y → (passes ks ≡ true) × (x ≡ y)
-unfolding guarded every
-access-passed [] x y e = (refl, cc)
-access-passed (c ∷ ks) x y e = cases (c .applies)
-    (λ t. let z : Failed (c .number) ≡ Passed y = rw t at e in let n : _≡_ {A = ℕ} 0 1 = cc in let no : ⊥ = omega arith in absurd no)
-    (λ t. rw t (access-passed ks x y (rw t at e)))
-
-module _ (size a w : ℕ) (e : widthAllowed w ≡ true) where
-  pub access-uneven : (a % w ≡ 0 → ⊥) → Failed 3 ≡ checkedAccess size a w
-  unfolding checkedAccess guarded
-  access-uneven m = rw (e, ne-eqb (a % w) 0 m)
-
-  pub access-out : a % w ≡ 0 → size < a + w → Failed 4 ≡ checkedAccess size a w
-  unfolding checkedAccess guarded
-  access-out m o = rw (e, eq-eqb (a % w) 0 m, lt-ltb size (a + w) o)
-
-  pub access-in : a % w ≡ 0 → a + w ≤ size → Passed (record { address = a; width = w }) ≡ checkedAccess size a w
-  unfolding checkedAccess guarded
-  access-in m i = rw (e, eq-eqb (a % w) 0 m, le-ltb size (a + w) i)
-
 -- ---- load, store: the access, then the rest of the checks
 
 -- a call whose checks begin with those of an access
@@ -84,13 +56,13 @@ module _ (c : Call) (q : Queues) (b : Hierarchy) (a w : ℕ) (rest : List Check)
 
   pub access-refuses : (k : ℕ) → checkedAccess (b .size) a w ≡ Failed k → outcome c q b ≡ unchanged (refusal c k) q b
   unfolding checkedAccess
-  access-refuses k e = o .does ∙ after-access ∙ access-failed _ _ (accessChecks b a w) (record { address = a; width = w }) k e
+  access-refuses k e = o .does ∙ after-access ∙ checks-refuse _ _ (accessChecks b a w) (record { address = a; width = w }) k e
 
   pub access-goes : (x : Access) → checkedAccess (b .size) a w ≡ Passed x → outcome c q b ≡ guarded rest (λ k. unchanged (refusal c k) q b) (rule c q b)
   unfolding checkedAccess
   access-goes x e =
       o .does ∙ after-access
-      ∙ guarded-passes (λ k. unchanged (refusal c k) q b) (accessChecks b a w) _ (access-passed (accessChecks b a w) (record { address = a; width = w }) x e .0)
+      ∙ guarded-passes (λ k. unchanged (refusal c k) q b) (accessChecks b a w) _ (checks-pass (accessChecks b a w) (record { address = a; width = w }) x e .0)
 
 -- ---- load
 
@@ -158,4 +130,4 @@ module _ (a w v : ℕ) (q : Queues) (b : Hierarchy) where
 pub passed-access : (size a w : ℕ) (x : Access) → checkedAccess size a w ≡ Passed x → (passes (accessChecks (sized size) a w) ≡ true) × (x ≡ record { address = a; width = w })
 unfolding checkedAccess
 passed-access size a w x e =
-    let p = access-passed (accessChecks (sized size) a w) (record { address = a; width = w }) x e in (p .0, sym (p .1))
+    let p = checks-pass (accessChecks (sized size) a w) (record { address = a; width = w }) x e in (p .0, sym (p .1))

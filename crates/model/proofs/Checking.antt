@@ -16,7 +16,8 @@ use Rattle.rules.specs.Shape.{Queues, Hierarchy, fits, topNumber}
 use Rattle.rules.specs.Calls.{guarded, storeReady}
 use Rattle.rules.specs.WellFormed.{freeZero, freePlacesLast, committedUpToLast, numbersRise, numbersUpToLast, numbersApart, accessesPass, committedWait, waitingUncovered, storePasses, loadPasses, requestAbsent, requestInside, requestWanted, linesFormed, queuesFormed, wellFormed}
 use Rattle.rules.specs.Runs.{stateChecks}
-use Rattle.queue_checks.specs.Good.{queuesGood, queuesWith, sized}
+use Rattle.queue_checks.specs.Good.{queuesGood, queuesWith}
+use Rattle.access.specs.AccessChecks.{sized}
 use Rattle.model.specs.Tables.{tabled, usedTags}
 use Rattle.model.proofs.CacheLoops.{used-line}
 use Rattle.model.specs.State.{queuesOf, hierarchyOf}

@@ -24,23 +24,17 @@ use Rattle.rules.proofs.LineFacts.{fits-tells, good-tells}
 use Rattle.line_checks.proofs.Figures.{Figured, figures-tell}
 use Rattle.model.specs.Tables.{DirtyInside}
 use Rattle.model.specs.declared.State.{State}
+use Rattle.access.proofs.AccessChecks.{width-cases}
 use Rattle.model.proofs.CacheLoops.{dirty-inside}
 
 -- ---- widths and accesses
-
--- an allowed width
-pub width-cases : (P : ℕ → Type 0) → P 1 → P 2 → P 4 → (w : ℕ) → widthAllowed w ≡ true → P w
-width-cases P one two four w e =
-    cases (eqb w 1) (λ h. subst P (sym (eqb-true w 1 h)) one) λ h₁.
-    cases (eqb w 2) (λ h. subst P (sym (eqb-true w 2 h)) two) λ h₂.
-    subst P (sym (eqb-true w 4 (rw (h₁, h₂) at e))) four
 
 twice : (t : Bool) → not (not t) ≡ true → t ≡ true
 twice true e = refl
 twice false e = e
 
 -- the width of an access that passes its checks
-pub access-width : (b : Hierarchy) (a w : ℕ) → passes (accessChecks b a w) ≡ true → widthAllowed w ≡ true
+access-width : (b : Hierarchy) (a w : ℕ) → passes (accessChecks b a w) ≡ true → widthAllowed w ≡ true
 unfolding every
 access-width b a w p = twice (widthAllowed w) (and-left (not (not (widthAllowed w))) _ p)
 

@@ -12,15 +12,13 @@ use Rattle.rules.specs.Shape.{Queues, Hierarchy, World, world, tableSize, store
 use Rattle.rules.specs.Calls.{Outcome, guarded, accessChecks}
 use Rattle.rules.specs.Calls as rules
 use Rattle.rules.specs.Runs.{outcome}
-use Rattle.queue_checks.specs.Good.{sized}
+use Rattle.access.specs.AccessChecks.{sized}
 use Rattle.model.specs.declared.State.{State}
 use Rattle.model.specs.declared.Step.{Step}
 use Rattle.model.specs.declared.Call.{Call}
 use Rattle.model.specs.declared.Call.the-variants.{Load, Store, Retry, Commit, Abort, Idle, Reply, Flush, Show}
 use Rattle.model.specs.declared.Answer.{Answer}
 use Rattle.model.specs.declared.Answer.the-variants.{Refused, Stored, Value, Waits, Committed, Kept, Drained, Requested, Idled, Filled, Flushed, Shown}
-use Rattle.model.specs.declared.access.Checked.{Checked}
-use Rattle.model.specs.declared.access.Checked.the-variants.{Passed, Failed}
 
 -- ---- the state
 
@@ -113,17 +111,6 @@ callOf Idle = rules.idle
 callOf Reply = rules.reply
 callOf Flush = rules.flush
 callOf (Show a) = rules.show a
-
--- ---- the checked access
-
--- checks 2, 3 and 4: the access, or the refusal's number
-unfoldable pub checkedAccess : ℕ → ℕ → ℕ → Checked
-checkedAccess size a w = guarded (accessChecks (sized size) a w) (λ k. Failed k) (Passed (record { address = a; width = w }))
-
--- the number of a failed check
-abbrev pub failureOf : Checked → ℕ
-failureOf (Passed a) = 0
-failureOf (Failed k) = k
 
 -- ---- what check 1 and the access checks leave to the functions behind them
 

@@ -4,7 +4,7 @@ ghost use mathlib.Core.Path.{_≡_};
 ghost use mathlib.Core.Bool.{cond, not, true};
 ghost use Prim.Native.Nat.{_+_, _*_, _/_, _%_, _<_, _≤_};
 ghost use lib.Dec.{eqb};
-ghost use lib.ListN.{length, getD, replicate};
+ghost use lib.ListN.{length, getD};
 ghost use Rattle.lists.specs.Padded.{filter};
 ghost use Rattle.lists.specs.Counted.{firstFrom, greatestFrom, eachFrom};
 ghost use Rattle.lists.specs.Bytes.{overlaid};
@@ -21,7 +21,7 @@ use rules::Tag;
 // The first slot of the line's set: "Set = line number modulo sets."
 pub(crate) fn first_slot(figures: Figures, line: u32) -> usize
     requires { ⌜ (0 < figures .sets) × (figures .sets * figures .ways ≤ 256) ⌝ }
-    ensures { λ r. ⌜ (r ≡ (line % figures .sets) * figures .ways) × (r + figures .ways ≤ figures .sets * figures .ways) ⌝ }
+    ensures { λ r. ⌜ (r ≡ (line % figures .sets) * figures .ways) × (r + figures .ways ≤ figures .sets * figures .ways) × (figures .sets * figures .ways ≤ 256) ⌝ }
 {
     ((line % figures.sets) * figures.ways) as usize
 }
@@ -285,15 +285,4 @@ pub(crate) fn start_tags(figures: Figures) -> [Tag; TAG_RECORDS]
         k += 1;
     }
     out
-}
-
-// "Start zeroes the cache bytes".
-pub(crate) fn zero_cache(cache: &mut [u8])
-    ensures { λ _. ⌜ now (cache .exit) ≡ replicate (length (now (cache .entry))) 0 ⌝ }
-{
-    let mut i: usize = 0;
-    while i < cache.len() {
-        cache[i] = 0;
-        i += 1;
-    }
 }

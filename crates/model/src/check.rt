@@ -8,7 +8,7 @@ ghost use Rattle.rules.specs.Calls.{guarded};
 ghost use Rattle.rules.specs.WellFormed.{requestAbsent, requestInside, requestWanted};
 ghost use Rattle.rules.specs.Runs.{stateChecks};
 ghost use Rattle.model.specs.Tables.{tabled};
-ghost use Rattle.queue_checks.specs.Good.{sized};
+ghost use Rattle.access.specs.AccessChecks.{sized};
 ghost use Rattle.model.specs.State.{queuesOf, hierarchyOf, withRegister, Shaped};
 use crate::Answer;
 use crate::State;

@@ -11,7 +11,6 @@ use rules::TAG_RECORDS;
 use rules::Tag;
 
 mod abort;
-mod access;
 mod cache;
 mod check;
 mod commit;

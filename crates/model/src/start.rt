@@ -65,7 +65,7 @@ impl State {
             if cache.len() != ((figures.sets * figures.ways) as usize) * LINE_LENGTH {
                 return State::not_started();
             }
-            cache::zero_cache(cache);
+            lists::zero_bytes(cache);
             let tags = cache::start_tags(figures);
             return Started {
                 answer: StartAnswer::Ready,

@@ -3,16 +3,14 @@ ghost use mathlib.Core.Path.{_≡_};
 ghost use mathlib.Core.List.{List};
 ghost use Prim.Native.Nat.{ℕ, _<_};
 ghost use Rattle.rules.specs.Shape.{topNumber};
-ghost use Rattle.rules.specs.Calls.{widthAllowed, storeRule};
-ghost use mathlib.Core.Bool.{true};
+ghost use Rattle.rules.specs.Calls.{storeRule};
 ghost use Rattle.rules.specs.Calls as rules;
 ghost use Rattle.model.specs.State.{queuesOf, hierarchyOf, outcomeOf, storeRest, Does, worldOf};
 use crate::Answer;
 use crate::State;
 use crate::Step;
-use crate::access;
-use crate::access::Access;
-use crate::access::Checked;
+use access::Access;
+use access::Checked;
 use rules::NUMBERS_USED_UP;
 use rules::STORE_QUEUE_FULL;
 use rules::StoreEntry;
@@ -42,7 +40,6 @@ impl State {
 
     // The rest of the checks, of an access that passed: 5, 13 and 11.
     fn store_checked(self, a: Access, value: u32) -> Step
-        requires { ⌜ widthAllowed (a .width) ≡ true ⌝ }
         ensures { λ r. ⌜ ((c m : List ℕ) → outcomeOf r c m ≡ storeRest (a .address) (a .width) value (queuesOf self) (hierarchyOf self c m)) ⌝ }
     {
         if access::value_fits(value, a.width) {

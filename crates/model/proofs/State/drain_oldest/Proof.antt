@@ -25,9 +25,10 @@ same-length c = search needs
 
 returns : tie.Need-returns
 returns c =
-    let b = c .before .before .before .before .before .before .before .before in
+    let args = c .before .before .before .before .before .before .before .before .before .args in
+    let pre = c .before .before .before .before .before .before .before .before .before .pre in
     let write-store = c .before .before .before .write-store in
-    λ m. drained-state (b .args .self) (now (b .args .cache)) m (b .args .s) _ _ _ (b .pre .2) (write-store .ensures) (c .pop-store .ensures)
+    λ m. drained-state (args .self) (now (args .cache)) m (args .s) _ _ _ (pre .2) (write-store .ensures) (c .pop-store .ensures)
 
 pub drain-oldest-spec : {M : Type 1} → statement M
 drain-oldest-spec = tie.close (tie.spec write-store-requires pop-store-requires same-length returns)

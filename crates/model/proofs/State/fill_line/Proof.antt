@@ -14,15 +14,15 @@ cast-ways c = search needs
 
 first-slot-requires : tie.Need-first-slot-requires
 first-slot-requires c κs =
-    let args = c .before .args in
-    let pre = c .before .pre in
+    let args = c .before .before .before .before .before .args in
+    let pre = c .before .before .before .before .before .pre in
     let g = filling (args .self) (now (args .cache)) (now (args .memory)) (args .line) (pre .0) (pre .1) in
     (g .some-set, g .room)
 
 victim-requires : tie.Need-victim-requires
 victim-requires c κs =
-    let args = c .before .args in
-    let pre = c .before .pre in
+    let args = c .before .before .before .before .before .before .args in
+    let pre = c .before .before .before .before .before .before .pre in
     let g = filling (args .self) (now (args .cache)) (now (args .memory)) (args .line) (pre .0) (pre .1) in
     let f = c .first-slot .ensures in
     (g .some-way, slot-low _ _ _ (f .1) (g .room))
@@ -35,8 +35,8 @@ array-copy-out-old c = search needs
 
 write-back-requires : tie.Need-write-back-requires
 write-back-requires c κs =
-    let args = c .before .args in
-    let pre = c .before .pre in
+    let args = c .before .before .before .before .before .before .before .before .before .before .args in
+    let pre = c .before .before .before .before .before .before .before .before .before .before .pre in
     let first-slot = c .before .before .before .before .first-slot in
     let victim = c .before .before .before .victim in
     let g = filling (args .self) (now (args .cache)) (now (args .memory)) (args .line) (pre .0) (pre .1) in
@@ -61,16 +61,16 @@ part-fill-slot-start c = search needs
 
 part-fill-slot-end : tie.Need-part-fill-slot-end
 part-fill-slot-end c =
-    let args = c .before .args in
-    let pre = c .before .pre in
+    let args = c .before .before .before .before .before .before .before .before .before .before .before .before .before .before .before .args in
+    let pre = c .before .before .before .before .before .before .before .before .before .before .before .before .before .before .before .pre in
     let write-back = c .before .before .before .before .write-back in
     let g = filling (args .self) (now (args .cache)) (now (args .memory)) (args .line) (pre .0) (pre .1) in
     rw (write-back .ensures, each-length) (g .inside)
 
 fill-slot-requires : tie.Need-fill-slot-requires
 fill-slot-requires c κs =
-    let args = c .before .args in
-    let pre = c .before .pre in
+    let args = c .before .before .before .before .before .before .before .before .before .before .before .before .before .before .before .before .args in
+    let pre = c .before .before .before .before .before .before .before .before .before .before .before .before .before .before .before .before .pre in
     let first-slot = c .before .before .before .before .before .before .before .before .before .before .first-slot in
     let victim = c .before .before .before .before .before .before .before .before .before .victim in
     let g = filling (args .self) (now (args .cache)) (now (args .memory)) (args .line) (pre .0) (pre .1) in
@@ -80,8 +80,8 @@ fill-slot-requires c κs =
 
 installed-requires : tie.Need-installed-requires
 installed-requires c κs =
-    let args = c .before .args in
-    let pre = c .before .pre in
+    let args = c .before .before .before .before .before .before .before .before .before .before .before .before .before .before .before .before .before .before .before .args in
+    let pre = c .before .before .before .before .before .before .before .before .before .before .before .before .before .before .before .before .before .before .before .pre in
     let first-slot = c .before .before .before .before .before .before .before .before .before .before .before .before .before .first-slot in
     let victim = c .before .before .before .before .before .before .before .before .before .before .before .before .victim in
     let g = filling (args .self) (now (args .cache)) (now (args .memory)) (args .line) (pre .0) (pre .1) in
@@ -94,8 +94,8 @@ with-request-requires c κs = search needs
 
 mul-t33 : tie.Need-mul-t33
 mul-t33 c =
-    let args = c .before .args in
-    let pre = c .before .pre in
+    let args = c .before .before .before .before .before .before .before .before .before .before .before .before .before .before .before .before .before .before .before .before .before .args in
+    let pre = c .before .before .before .before .before .before .before .before .before .before .before .before .before .before .before .before .before .before .before .before .before .pre in
     let g = filling (args .self) (now (args .cache)) (now (args .memory)) (args .line) (pre .0) (pre .1) in
     omega (arith, line-low _ _ (g .inside) (g .small))
 
@@ -113,12 +113,14 @@ returns c =
     let victim = c .before .before .before .before .before .before .before .before .before .before .before .before .before .before .victim in
     let write-back = c .before .before .before .before .before .before .before .before .before .before .write-back in
     let fill-slot = c .before .before .before .before .fill-slot in
+    let installed = c .before .installed in
+    let with-request = c .with-request in
     rw (with-request .ensures)
     (filled-state (a .self) (now (a .cache)) (now (a .memory)) (a .line) _ _ _ (pre .1)
     (filled-whole (a .self .figures) (a .self .tags) (now (a .cache)) (now (a .memory)) (a .line)
     (first-slot .result) (victim .result) (16 * a .line + 16 - 16 * a .line) _ _ _
     (first-slot .ensures .0) (victim .ensures .0) (write-back .ensures) (omega arith)
-    (fill-slot .ensures) (c .before .installed .ensures))
+    (fill-slot .ensures) (installed .ensures)))
 
 pub fill-line-spec : {M : Type 1} → statement M
 fill-line-spec =

@@ -6,7 +6,7 @@ use mathlib.Core.List.{[]}
 use borrow.Author.Tests.{lt-ltb, le-ltb}
 use Rattle.rules.specs.declared.Request.{Request}
 use Rattle.rules.specs.WellFormed.{requestAbsent, requestInside, requestWanted}
-use Rattle.queue_checks.specs.Good.{sized}
+use Rattle.access.specs.AccessChecks.{sized}
 use Rattle.model.specs.Tables.{tabled}
 use Rattle.model.specs.State.{queuesOf}
 use Rattle.model.proofs.Checking.{wanted-at}

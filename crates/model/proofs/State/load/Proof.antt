@@ -4,11 +4,10 @@ use mathlib.Core.Path.{refl, sym, _∙_}
 use native.Mathlib.Omega.{arith}
 use Rattle.rules.specs.Calls as rules
 use denote.Ref.{now}
-use Rattle.queue_checks.specs.Good.{sized}
+use Rattle.access.specs.AccessChecks.{sized}
 use Rattle.model.proofs.Calls.{state-refuses, state-opens, access-refuses, load-numbers, load-full, load-does, passed-access}
 use Rattle.model.proofs.Facts.{access-fine, fit-shaped, fit-figures}
 use Rattle.rules.proofs.QueueView.{parts}
-use Rattle.model.proofs.Facts.{access-fine, fit-shaped, fit-figures}
 use Rattle.model.proofs.State.load.Statement.{statement}
 use Rattle.model.proofs.State.load.Tie as tie
 

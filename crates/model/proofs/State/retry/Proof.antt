@@ -8,8 +8,6 @@ use Rattle.model.specs.State.{queuesOf, hierarchyOf}
 use Rattle.model.proofs.Calls.{state-refuses, state-opens, one-refuses, one-does}
 use Rattle.model.proofs.Facts.{fit-shaped, fit-figures, waiting-fine}
 use Rattle.rules.proofs.QueueView.{parts}
-use Rattle.model.proofs.Calls.{state-refuses, state-opens, one-refuses, one-does}
-use Rattle.model.proofs.Facts.{fit-shaped, fit-figures, waiting-fine}
 use Rattle.model.proofs.State.retry.Statement.{statement}
 use Rattle.model.proofs.State.retry.Tie as tie
 

@@ -11,7 +11,6 @@ use Rattle.model.proofs.CacheLoops.{found-slot, found-present}
 use Rattle.model.proofs.Moves.{show-refused, show-outside, show-absent, show-present}
 use Rattle.model.proofs.Calls.{state-refuses, state-opens, none-does}
 use Rattle.model.proofs.Facts.{fit-shaped}
-use Rattle.model.proofs.Facts.{fit-shaped}
 use Rattle.model.proofs.State.show_part.Statement.{statement}
 use Rattle.model.proofs.State.show_part.Tie as tie
 
@@ -62,9 +61,9 @@ add-if3 c =
 
 mul-t14 : tie.Need-mul-t14
 mul-t14 c =
-    let args = c .before .before .before .before .before .before .before .before .before .before .before .args in
-    let state-refusal = c .before .before .before .before .before .before .before .before .state-refusal in
-    let if1 = c .before .before .before .before .before .before .before .if1 in
+    let args = c .before .before .before .before .before .before .before .before .before .before .before .before .args in
+    let state-refusal = c .before .before .before .before .before .before .before .before .before .state-refusal in
+    let if1 = c .before .before .before .before .before .before .before .before .if1 in
     let o = state-opens (rules.show (args .address)) _ _ _ (state-refusal .ensures) (if1 .left) in
     let f = fit-shaped (args .self) (now (args .cache)) (now (args .memory)) (o .fit) in
     omega arith

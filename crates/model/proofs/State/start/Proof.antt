@@ -41,8 +41,8 @@ returns c =
     let if2 = c .before .if2 in
     rw (c .not-started .ensures, sym (figures-allowed .ensures) ∙ if1 .taken, ne-eqb _ _ (if2 .taken)) (refl, refl)
 
-zero-cache-requires : tie.Need-zero-cache-requires
-zero-cache-requires c κs = search needs
+zero-bytes-requires : tie.Need-zero-bytes-requires
+zero-bytes-requires c κs = search needs
 
 start-tags-requires : tie.Need-start-tags-requires
 start-tags-requires c κs =
@@ -70,9 +70,9 @@ returns-2 c =
     let figures-allowed = c .before .before .before .before .before .before .before .before .before .figures-allowed in
     let if1 = c .before .before .before .before .before .before .before .before .if1 in
     let if2 = c .before .before .before .before .before .before .if2 in
-    let zero-cache = c .before .before .before .before .zero-cache in
+    let zero-bytes = c .before .before .before .before .zero-bytes in
     let start-tags = c .before .start-tags in
-    rw (sym (figures-allowed .ensures) ∙ if1 .taken, eq-eqb _ _ (if2 .left), c .empty-state .ensures, start-tags .ensures, zero-cache .ensures, if2 .left) (refl, refl)
+    rw (sym (figures-allowed .ensures) ∙ if1 .taken, eq-eqb _ _ (if2 .left), c .empty-state .ensures, start-tags .ensures, zero-bytes .ensures, if2 .left) (refl, refl)
 
 not-started-requires-2 : tie.Need-not-started-requires-2
 not-started-requires-2 c κs = search needs
@@ -94,7 +94,7 @@ start-spec =
     mul-if2-2
     not-started-requires
     returns
-    zero-cache-requires
+    zero-bytes-requires
     start-tags-requires
     cast-empty-state
     empty-state-requires

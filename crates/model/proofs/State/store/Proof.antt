@@ -1,10 +1,7 @@
 -- `State::store` meets its contract.
 use borrow.Author.Needs.{needs}
 use mathlib.Core.Path.{refl, sym, _∙_}
-use Rattle.queue_checks.specs.Good.{sized}
 use Rattle.model.proofs.Calls.{state-refuses, state-opens, access-refuses, store-goes, passed-access}
-use Rattle.model.proofs.Facts.{access-width}
-use Rattle.model.proofs.Facts.{access-width}
 use Rattle.model.proofs.State.store.Statement.{statement}
 use Rattle.model.proofs.State.store.Tie as tie
 
@@ -46,12 +43,7 @@ returns-2 c =
     (sym (access-refuses _ _ _ _ _ _ refl (state-opens _ _ _ _ (state-refusal .ensures) (if1 .left)) _ (sym (check-access .ensures) ∙ enum-told .given .1)))
 
 store-checked-requires : tie.Need-store-checked-requires
-store-checked-requires c κs =
-    let args = c .before .before .before .before .before .before .before .before .args in
-    let check-access = c .before .before .before .check-access in
-    let checked = c .before .checked in
-    let p = passed-access _ _ _ _ (sym (check-access .ensures) ∙ checked .given .1) in
-    rw (p .1) (access-width (sized (args .self .size)) (args .address) (args .width) (p .0))
+store-checked-requires c κs = search needs
 
 returns-3 : tie.Need-returns-3
 returns-3 c =

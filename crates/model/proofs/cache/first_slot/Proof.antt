@@ -11,15 +11,21 @@ rem-result c = search needs
 
 mul-result : tie.Need-mul-result
 mul-result c =
-    omega (arith, slots-room (c .before .before .args .figures) (c .before .before .args .line) (c .before .before .pre .0))
+    let args = c .before .before .args in
+    let pre = c .before .before .pre in
+    omega (arith, slots-room (args .figures) (args .line) (pre .0))
 
 cast-result : tie.Need-cast-result
 cast-result c =
-    omega (arith, slots-room (c .before .before .args .figures) (c .before .before .args .line) (c .before .before .pre .0))
+    let args = c .before .before .args in
+    let pre = c .before .before .pre in
+    omega (arith, slots-room (args .figures) (args .line) (pre .0))
 
 returns : tie.Need-returns
 returns c =
-    (refl, slots-room (c .before .before .args .figures) (c .before .before .args .line) (c .before .before .pre .0))
+    let args = c .before .before .args in
+    let pre = c .before .before .pre in
+    (refl, slots-room (args .figures) (args .line) (pre .0), pre .1)
 
 pub first-slot-spec : {M : Type 1} → statement M
 first-slot-spec = tie.close (tie.spec rem-result mul-result cast-result returns)

@@ -1,7 +1,7 @@
 -- `start_tags` meets its contract. The records that are left to age give the whole table.
 use mathlib.Core.Path.{_≡_, sym, _∙_}
 use Prim.Native.Nat.{_≤_, _-_, _*_}
-use native.Mathlib.Nat.{mod-lt}
+use native.Mathlib.Nat.{mod-le}
 use native.Mathlib.Omega.{arith}
 use borrow.Author.Needs.{needs}
 use Rattle.lists.specs.Counted.{stepsFrom}
@@ -12,11 +12,11 @@ use Rattle.model.proofs.cache.start_tags.Statement.{statement}
 use Rattle.model.proofs.cache.start_tags.Tie as tie
 
 abbrev Inv-loop : tie.InvT-loop
-Inv-loop figures out₀ count n k₀ out k =
-    (k ≤ count) × (stepsFrom (change (startAt (figures .sets) (figures .ways)) noTag) 0 count out₀ ≡ stepsFrom (change (startAt (figures .sets) (figures .ways)) noTag) k (count - k) out)
+Inv-loop out₀ count n k₀ out k =
+    (k ≤ count) × (stepsFrom (change (startAt count n) noTag) 0 count out₀ ≡ stepsFrom (change (startAt count n) noTag) k (count - k) out)
 
 abbrev μ-loop : tie.MeasureT-loop
-μ-loop figures out₀ count n k₀ out k = count - k
+μ-loop out₀ count n k₀ out k = count - k
 
 mul-count : tie.Need-mul-count Inv-loop μ-loop
 mul-count c = search needs
@@ -44,9 +44,9 @@ rem-t10 c = search needs
 
 cast-t14 : tie.Need-cast-t14 Inv-loop μ-loop
 cast-t14 c =
-    let pre = c .before .before .before .pre in
+    let args = c .before .before .before .before .before .args in
     let loop = c .before .before .loop in
-    omega (arith, mod-lt (loop .k) (pre .1))
+    omega (arith, mod-le (loop .k) (args .figures .ways))
 
 mul-out : tie.Need-mul-out Inv-loop μ-loop
 mul-out c = search needs
@@ -66,7 +66,7 @@ loop-again c =
     let l = c .before .before .loop in
     let loop-test = c .before .loop-test in
     let t = loop-test .taken in
-    (omega arith, l .inv .1 ∙ (steps-next _ _ _ _ t ∙ rw (start-at (a .figures .sets) (a .figures .ways) (l .k) _ t)))
+    (omega arith, l .inv .1 ∙ (steps-next _ _ _ _ t ∙ rw (start-at _ _ (l .k) _ t)))
 
 returns : tie.Need-returns Inv-loop μ-loop
 returns c =

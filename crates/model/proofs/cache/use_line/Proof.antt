@@ -26,7 +26,7 @@ use-slot-requires c κs =
     let a = c .before .before .before .before .args in
     let p = c .before .before .before .first-slot in
     let find = c .before .find in
-    let pre = c .before .before .before .pre in
+    let pre = c .before .before .before .before .pre in
     let low = first-low (λ k. holdsLine (a .line) (tagAt (a .tags) k)) (a .figures .ways) (p .result) in
     (omega (arith, p .ensures .1, pre .1), omega (arith, find .ensures, low), c .if1 .taken)
 

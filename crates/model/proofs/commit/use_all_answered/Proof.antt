@@ -45,7 +45,7 @@ loop-again : tie.Need-loop-again Inv-loop μ-loop
 unfolding lineOf
 loop-again c =
     let h : length (c .before .before .before .before .before .before .before .args .t3) ≡ 8 = search (needs, length-of) in
-    (search needs, c .before .before .before .before .before .before .loop .inv .1 ∙ rw (rest-cons (answeredBy (c .before .before .before .before .before .before .before .args .k)) noLoad (c .before .before .before .before .before .before .before .args .t3) (c .before .before .before .before .before .before .loop .j) (omega arith)) (answered-step _ _ _ _ _ _ (sym (c .before .before .before .is-answered-by .ensures) ∙ c .before .before .if1 .taken) ∙ rw (c .use-line .ensures)))
+    (search needs, c .before .before .before .before .before .before .loop .inv .1 ∙ rw (rest-cons (answeredBy (c .before .before .before .before .before .before .before .args .k)) noLoad (c .before .before .before .before .before .before .before .args .t3) (c .before .before .before .before .before .before .loop .j) (omega arith)) (answered-step _ _ _ _ _ (sym (c .before .before .before .is-answered-by .ensures) ∙ c .before .before .if1 .taken) ∙ rw (c .use-line .ensures)))
 
 loop-less-2 : tie.Need-loop-less-2 Inv-loop μ-loop
 loop-less-2 c = search needs
@@ -53,7 +53,7 @@ loop-less-2 c = search needs
 loop-again-2 : tie.Need-loop-again-2 Inv-loop μ-loop
 loop-again-2 c =
     let h : length (c .before .before .before .before .before .args .t3) ≡ 8 = search (needs, length-of) in
-    (search needs, c .before .before .before .before .loop .inv .1 ∙ rw (rest-cons (answeredBy (c .before .before .before .before .before .args .k)) noLoad (c .before .before .before .before .before .args .t3) (c .before .before .before .before .loop .j) (omega arith)) (other-step _ _ _ _ _ _ (sym (c .before .is-answered-by .ensures) ∙ c .if1 .left)))
+    (search needs, c .before .before .before .before .loop .inv .1 ∙ rw (rest-cons (answeredBy (c .before .before .before .before .before .args .k)) noLoad (c .before .before .before .before .before .args .t3) (c .before .before .before .before .loop .j) (omega arith)) (other-step _ _ _ _ _ (sym (c .before .is-answered-by .ensures) ∙ c .if1 .left)))
 
 returns : tie.Need-returns Inv-loop μ-loop
 unfolding filter useEach
