@@ -1,5 +1,5 @@
--- `nicoisetarn::nicoisetarn_step` meets its contract: a walk of its code, written by tools/lent_call. The borrow of the state is opened, the
--- record is copied out and passed to `steps::step_image`, what that hands back is stored where the record stood, and the borrow is closed at it.
+-- `nicoisetarn::nicoisetarn_step_in` meets its contract: a walk of its code, written by tools/lent_call. The borrow of the struct is opened, the record is
+-- copied out and passed to `steps::step_image`, what that hands back is stored where the record stood, and the borrow is closed at it.
 use mathlib.Core.Path.{_≡_, refl, ap}
 use Prim.Native.Nat.{ℕ, _<_, _^_}
 use mathlib.Core.List.{[], _∷_, List}
@@ -53,10 +53,10 @@ use Rattle.nicoisetarn.proofs.steps.step_image as g
 use Rattle.nicoisetarn.proofs.steps.step_image.Symbol as g-def
 use Rattle.nicoisetarn.proofs.steps.step_image.Symbol.{name as #callee}
 use Rattle.nicoisetarn.proofs.steps.step_image.Met as g-thm
-use Rattle.nicoisetarn.proofs.nicoisetarn_step.Key.{name as #own}
-use Rattle.nicoisetarn.proofs.nicoisetarn_step as f
-use Rattle.nicoisetarn.proofs.nicoisetarn_step.Statement as stated
-use Rattle.nicoisetarn.proofs.nicoisetarn_step.Code as code
+use Rattle.nicoisetarn.proofs.nicoisetarn_step_in.Key.{name as #own}
+use Rattle.nicoisetarn.proofs.nicoisetarn_step_in as f
+use Rattle.nicoisetarn.proofs.nicoisetarn_step_in.Statement as stated
+use Rattle.nicoisetarn.proofs.nicoisetarn_step_in.Code as code
 
 abbrev stayed : Stays (f.ended .signature .params) (f.ended .kept)
 stayed = (stay-ref (0 ∷ []) tt (plain (λ _. T.the-row)), (stay-none (λ _. u32) yes, (stay-none (λ _. u32) yes, (stay-none (λ _. u32) yes, (stay-none (λ _. u32) yes, (gave-slice (1 ∷ []) tt (plain (λ _. u8)), (gave-slice (2 ∷ []) tt (plain (λ _. u8)), tt)))))))
@@ -72,13 +72,13 @@ abbrev valsT : State → List Val
 valsT = LL.vals T.the-type T′.the-laws
 
 abbrev valE : Step → Val
-valE r = LL.val E.the-type E′.the-laws (r .reply)
+valE r = LL.val E.the-type E′.the-laws (r .answer)
 
 -- what is known of the two fields of a result
 next-is : (r : Step) (vs : List Val) → Is S.the-row r vs → Is T.the-row (r .next) (valsT (r .next))
 next-is r vs is = LL.owed S.the-type S′.the-laws r vs is .1 .0
 
-answer-is : (r : Step) (vs : List Val) → Is S.the-row r vs → Is E.the-row (r .reply) (valE r ∷ [])
+answer-is : (r : Step) (vs : List Val) → Is S.the-row r vs → Is E.the-row (r .answer) (valE r ∷ [])
 answer-is r vs is = LL.owed S.the-type S′.the-laws r vs is .0
 
 module _ {M : Type 1} (𝓤 : URA M) (H : Heap 𝓤) (A : Atoms 𝓤) (W : Given 𝓤 H A) (at-mem : Memory → SProp 𝓤) (run : Routine → Fun 𝓤) (κ κ-cache κ-memory : Lft) (q q-cache q-memory : Share) (b o : ℕ) (γ : GName) (h : State) (call : ℕ) (x : ℕ) (y : ℕ) (z : ℕ) (b-cache o-cache : ℕ) (γ-cache : GName) (cache : List ℕ) (b-memory o-memory : ℕ) (γ-memory : GName) (memory : List ℕ) (fits-call : call < 2 ^ 32) (fits-x : x < 2 ^ 32) (fits-y : y < 2 ^ 32) (fits-z : z < 2 ^ 32) (room-cache : Room u8 (length cache)) (room-memory : Room u8 (length memory)) where
@@ -107,11 +107,11 @@ module _ {M : Type 1} (𝓤 : URA M) (H : Heap 𝓤) (A : Atoms 𝓤) (W : Given
   Post = walkOf 𝓤 H A f.ended stayed (f.clauses 𝓤 H A at-mem run) .post (((κ, (κ-cache, (κ-memory, tt))), (q, (q-cache, (q-memory, tt))), tt, arguments, values), tt)
 
   -- what is held at the end is what the contract promises
-  exits : (r : Step) (cache′ memory′ : List ℕ) → Is E.the-row (r .reply) (valE r ∷ []) → Fact h call x y z cache memory r cache′ memory′ → length cache′ ≡ length cache → length memory′ ≡ length memory → ent 𝓤 (⋆ 𝓤 H A (‵ (fobs γ (T.the-row .coded .code (r .next))) ∷ ‵ (fbor κ (Body (mem T.the-row) b o γ)) ∷ ‵ (flft κ q) ∷ (‵ (flft κ-cache q-cache) ⊛ ‵ (flft κ-memory q-memory) ⊛ ‵ ftrue) ∷ ‵ (finally u8 γ-cache cache′) ∷ ‵ (finally u8 γ-memory memory′) ∷ [])) (Post (valE r))
+  exits : (r : Step) (cache′ memory′ : List ℕ) → Is E.the-row (r .answer) (valE r ∷ []) → Fact h call x y z cache memory r cache′ memory′ → length cache′ ≡ length cache → length memory′ ≡ length memory → ent 𝓤 (⋆ 𝓤 H A (‵ (fobs γ (T.the-row .coded .code (r .next))) ∷ ‵ (fbor κ (Body (mem T.the-row) b o γ)) ∷ ‵ (flft κ q) ∷ (‵ (flft κ-cache q-cache) ⊛ ‵ (flft κ-memory q-memory) ⊛ ‵ ftrue) ∷ ‵ (finally u8 γ-cache cache′) ∷ ‵ (finally u8 γ-memory memory′) ∷ [])) (Post (valE r))
   exits r cache′ memory′ is e len-cache len-memory =
       qed W (‵ (fobs γ (T.the-row .coded .code (r .next))) ∷ ‵ (fbor κ (Body (mem T.the-row) b o γ)) ∷ ‵ (flft κ q) ∷ (‵ (flft κ-cache q-cache) ⊛ ‵ (flft κ-memory q-memory) ⊛ ‵ ftrue) ∷ ‵ (finally u8 γ-cache cache′) ∷ ‵ (finally u8 γ-memory memory′) ∷ []) ∵
-      suffices ! _ (ends-at 𝓤 H A f.ended stayed (f.clauses 𝓤 H A at-mem run) W (((κ, (κ-cache, (κ-memory, tt))), (q, (q-cache, (q-memory, tt))), tt, arguments, values), tt) (valE r) (r .reply) (r .next, (tt, (tt, (tt, (tt, (cache′, (memory′, tt))))))) (tt, (tt, (tt, (tt, (tt, (len-cache, (len-memory, tt)))))))) $
-      says ! e $ move ! (2 ∷ 3 ∷ []) $ join ! $ frame ! $ nothing ! $ move ! (4 ∷ 0 ∷ []) $ fjoin ! $ move ! (3 ∷ 0 ∷ []) $ fjoin ! $ owned ! u32 (Is u32) (uint-makes 𝓤 H A W w32) z _ (refl, fits-z) $ fjoin ! $ owned ! u32 (Is u32) (uint-makes 𝓤 H A W w32) y _ (refl, fits-y) $ fjoin ! $ owned ! u32 (Is u32) (uint-makes 𝓤 H A W w32) x _ (refl, fits-x) $ fjoin ! $ owned ! u32 (Is u32) (uint-makes 𝓤 H A W w32) call _ (refl, fits-call) $ fjoin ! $ move ! (1 ∷ 2 ∷ []) $ feqI ! (List Val) (vptr b o ∷ []) (vptr b o ∷ []) refl $ fjoin3 ! $ fjoin ! $ owned ! E.the-row (Is E.the-row) (LL.makes E.the-type E′.the-plain 𝓤 H A) (r .reply) _ is $ move ! (1 ∷ 0 ∷ []) $ done !
+      suffices ! _ (ends-at 𝓤 H A f.ended stayed (f.clauses 𝓤 H A at-mem run) W (((κ, (κ-cache, (κ-memory, tt))), (q, (q-cache, (q-memory, tt))), tt, arguments, values), tt) (valE r) (r .answer) (r .next, (tt, (tt, (tt, (tt, (cache′, (memory′, tt))))))) (tt, (tt, (tt, (tt, (tt, (len-cache, (len-memory, tt)))))))) $
+      says ! e $ move ! (2 ∷ 3 ∷ []) $ join ! $ frame ! $ nothing ! $ move ! (4 ∷ 0 ∷ []) $ fjoin ! $ move ! (3 ∷ 0 ∷ []) $ fjoin ! $ owned ! u32 (Is u32) (uint-makes 𝓤 H A W w32) z _ (refl, fits-z) $ fjoin ! $ owned ! u32 (Is u32) (uint-makes 𝓤 H A W w32) y _ (refl, fits-y) $ fjoin ! $ owned ! u32 (Is u32) (uint-makes 𝓤 H A W w32) x _ (refl, fits-x) $ fjoin ! $ owned ! u32 (Is u32) (uint-makes 𝓤 H A W w32) call _ (refl, fits-call) $ fjoin ! $ move ! (1 ∷ 2 ∷ []) $ feqI ! (List Val) (vptr b o ∷ []) (vptr b o ∷ []) refl $ fjoin3 ! $ fjoin ! $ owned ! E.the-row (Is E.the-row) (LL.makes E.the-type E′.the-plain 𝓤 H A) (r .answer) _ is $ move ! (1 ∷ 0 ∷ []) $ done !
 
   -- what the call asks
   abbrev to-callee : Callee 𝓤 H A at-mem run .Ghost
@@ -129,7 +129,7 @@ module _ {M : Type 1} (𝓤 : URA M) (H : Heap 𝓤) (A : Atoms 𝓤) (W : Given
         move ! (29 ∷ []) $ fsplit ! $ fsplit3 ! $ drop ! $ move ! (2 ∷ []) $ fsplit ! $ drop ! $ fsplit ! $ drop ! $ fsplit ! $ drop ! $ fsplit ! $ drop ! $ fsplit ! $ move ! (1 ∷ []) $ fsplit ! $ move ! (1 ∷ []) $ drop ! $ move ! (32 ∷ []) $ split ! $ move ! (4 ∷ 5 ∷ 0 ∷ []) $
         opens ! tt T.the-row {h = h} b o (λ vs. spelt ! T.the-row (Is T.the-row) (shows 𝓤 H A T.the-row) valsT (LL.tells T.the-type T′.the-laws) fullShare h vs b o $
         move ! (1 ∷ []) $ peeks ! T.the-row (Is T.the-row) (shows 𝓤 H A T.the-row) h (valsT h) (λ was. move ! (1 ∷ 0 ∷ []) $
-        -- the state is copied out, and the slices are lent on
+        -- the struct is copied out, and the slices are lent on
         assigns ! (of-opd ! (load ! (from ! (hop ! (look ! 32 refl) (stop !))) (look-raw ! 0 refl))) (from ! (stop !)) (init ! 16 refl (LL.lawful T.the-type T′.the-laws 𝓤 H A W .typed h _ was .0)) $
         assigns ! (addr ! (from ! (fld ! refl (hop ! (look-in ! 22 (sub ! 0 refl (whole !))) (stop !))))) (from ! (stop !)) (init ! 14 refl (tt, tt)) $
         assigns ! (agg ! (and-then ! (load ! (from ! (stop !)) (look ! 14 refl)) (and-then ! (load ! (from ! (fld ! refl (stop !))) (look-in ! 22 (sub ! 1 refl (whole !)))) (no-more !)))) (from ! (stop !)) (init ! 12 refl (tt, (tt, (record { fits = room-cache .0 }, tt)))) $
@@ -144,11 +144,11 @@ module _ {M : Type 1} (𝓤 : URA M) (H : Heap 𝓤) (A : Atoms 𝓤) (W : Given
         fsplit ! $ drop ! $ fsplit ! $ drop ! $ fsplit ! $ drop ! $ fsplit ! $ drop ! $ fsplit ! $ drop ! $ fsplit ! $ fsplit ! $ move ! (1 ∷ []) $ feqL ! (λ len-cache.
         move ! (1 ∷ []) $ fsplit ! $ fsplit ! $ move ! (1 ∷ []) $ feqL ! (λ len-memory.
         move ! (1 ∷ []) $ drop ! $ move ! (2 ∷ []) $ split ! $ move ! (1 ∷ []) $ peeks ! S.the-row (Is S.the-row) (shows 𝓤 H A S.the-row) r (v ∷ []) (λ is.
-        -- the next state is stored where the last stood
+        -- the next struct is stored where the last stood
         land ! (from ! (stop !)) (init ! 19 refl (LL.lawful S.the-type S′.the-laws 𝓤 H A W .typed r _ is .0)) $
         rewrite ! 19 (λ (u : Val). ‵ (fat fullShare S′.mir l8 0 u)) (ap only (LL.tells S.the-type S′.the-laws r _ is)) refl $
         assigns ! (of-opd ! (load ! (from ! (fld ! refl (stop !))) (look-in ! 19 (sub ! 1 refl (whole !))))) (from ! (hop ! (look ! 33 refl) (stop !))) (store-raw ! 4 refl (LL.lawful T.the-type T′.the-laws 𝓤 H A W .typed (r .next) _ (next-is r _ is) .0)) $
-        assigns ! (of-opd ! (load ! (from ! (fld ! refl (stop !))) (look-in ! 19 (sub ! 0 refl (whole !))))) (from ! (stop !)) (init ! 35 refl (LL.lawful E.the-type E′.the-laws 𝓤 H A W .typed (r .reply) _ (answer-is r _ is) .0)) $
+        assigns ! (of-opd ! (load ! (from ! (fld ! refl (stop !))) (look-in ! 19 (sub ! 0 refl (whole !))))) (from ! (stop !)) (init ! 35 refl (LL.lawful E.the-type E′.the-laws 𝓤 H A W .typed (r .answer) _ (answer-is r _ is) .0)) $
         -- the borrow is closed at it
         drop ! $ move ! (4 ∷ []) $ drop ! $ owned ! T.the-row (Is T.the-row) (LL.makes T.the-type T′.the-plain 𝓤 H A) (r .next) _ (next-is r _ is) $ move ! (4 ∷ 0 ∷ 5 ∷ 6 ∷ 7 ∷ []) $ closes ! tt T.the-row (r .next) (valsT (r .next)) b o $
         returns ! (look ! 32 refl) $ forget ! 6 refl $ forget ! 8 refl $ forget ! 10 refl $ forget ! 12 refl $ forget ! 14 refl $ forget ! 16 refl $ forget ! 18 refl $ forget ! 20 refl $ forget ! 22 refl $ forget ! 24 refl $ forget ! 26 refl $ forget ! 28 refl $ forget ! 30 refl $ forget ! 32 refl $
@@ -167,9 +167,9 @@ meets : {M : Type 1} (𝓤 : URA M) (H : Heap 𝓤) (A : Atoms 𝓤) → Given �
 meets 𝓤 H A W at-mem run 𝓣 known = walk-meets 𝓤 H A f.ended stayed W (goes 𝓤 H A W at-mem run) (f.clauses 𝓤 H A at-mem run) (WpFn 𝓤 H (𝓣 .C) (𝓣 .Λ) code.function) (WpFn-mono 𝓤 H (W .laws) 𝓣 code.function)
     (walks 𝓤 H A W at-mem run (𝓣 .C) (𝓣 .Λ) (fmOf 𝓤 H (W .laws) 𝓣) known)
 
-pub nicoisetarn-step-spec : {M : Type 1} → stated.statement M
+pub nicoisetarn-step-in-spec : {M : Type 1} → stated.statement M
 unfolding code.routine tablesOf
-nicoisetarn-step-spec 𝓤 H 𝓜 𝓖 𝓡 =
+nicoisetarn-step-in-spec 𝓤 H 𝓜 𝓖 𝓡 =
     entered 𝓤 H (tripleOf 𝓤 H (𝓖 .A) f.signature (f.spec 𝓤 H (𝓖 .A) (𝓜 .mem) (𝓡 .run)))
     (tables 𝓤 H 𝓜 𝓡 code.env .C) (tables 𝓤 H 𝓜 𝓡 code.env .Λ) #own code.function (code.unfolded 𝓤 H 𝓜 𝓡)
     (meets 𝓤 H (𝓖 .A) (givenOf 𝓤 H 𝓜 𝓖) (𝓜 .mem) (𝓡 .run) (tablesOf 𝓤 H 𝓜 (tables 𝓤 H 𝓜 𝓡 code.env))
