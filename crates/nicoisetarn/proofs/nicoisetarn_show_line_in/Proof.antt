@@ -21,7 +21,7 @@ use types.Run.{look, look-raw, init, forget, stop, hop, from, load, of-opd, and-
 use sound.WpLaws.{FmC, fmOf, WpFn-mono}
 use denote.RattleType.{owns}
 use denote.Laws.{Is, shows}
-use denote.Memory.{mem, partAt}
+use denote.Memory.{partAt}
 use denote.Plain.{uint-vals, uint-tells, uint-makes}
 use denote.Builtin.{u32, u8}
 use denote.Ref.{RefT, ShrRef, ptr-vals, shr-tells}
