@@ -1,7 +1,7 @@
 /*
  * A bench in C: plays the scope paper's worked script by calls and prints what the script player prints for
- * it, then checks the boundary: sizes, what the image tells, refused calls and show line. Exits with 1, and a
- * line on standard error, where a check fails.
+ * it, then checks the boundary: what the image tells, refused calls, numbers that no call has, and show line.
+ * Exits with 1, and a line on standard error, where a check fails.
  */
 #include "nicoisetarn.h"
 
@@ -11,12 +11,16 @@
 /* All that a bench owns: one set, one way, 32 bytes of memory. */
 typedef struct {
     nicoisetarn_image image;
-    uint8_t cache[16];
+    uint8_t cache[NICOISETARN_CACHE_BYTES(1, 1)];
     uint8_t memory[32];
 } bench;
 
-/* What each call takes first. */
-#define LENT(b) &(b)->image, (b)->cache, sizeof (b)->cache, (b)->memory, sizeof (b)->memory
+NICOISETARN_ASSERT(sizeof(bench) == NICOISETARN_IMAGE_BYTES + 48, "a bench has no bytes between its parts");
+
+/* The bench, as it is lent to each call. */
+static nicoisetarn_unit lent(bench *b) {
+    return (nicoisetarn_unit){&b->image, b->cache, sizeof b->cache, b->memory, sizeof b->memory};
+}
 
 #define CHECK(holds)                                                            \
     do {                                                                        \
@@ -28,8 +32,8 @@ typedef struct {
 
 /* ---- 01's worked script */
 
-/* Prints a reply as the script player does. */
-static void print(nicoisetarn_reply reply) {
+/* Prints an answer as the script player does. */
+static void print(nicoisetarn_answer answer) {
     static const struct {
         const char *word;
         int numbers;
@@ -42,52 +46,55 @@ static void print(nicoisetarn_reply reply) {
         [NICOISETARN_KIND_FLUSHED] = {"flushed", 1}, [NICOISETARN_KIND_SHOWN] = {"shown", 2},
         [NICOISETARN_KIND_READY] = {"ready", 0},
     };
-    CHECK(reply.kind <= NICOISETARN_KIND_READY);
-    const uint32_t numbers[] = {reply.first, reply.second};
-    fputs(kinds[reply.kind].word, stdout);
-    for (int place = 0; place < kinds[reply.kind].numbers; place++) {
+    CHECK(answer.kind <= NICOISETARN_KIND_READY);
+    const uint32_t numbers[] = {answer.first, answer.second};
+    fputs(kinds[answer.kind].word, stdout);
+    for (int place = 0; place < kinds[answer.kind].numbers; place++) {
         printf(" %lu", (unsigned long)numbers[place]);
     }
     putchar('\n');
 }
 
-/* G 1 1 32: a start over zeroed memory; the cache bytes before it may be anything. */
-static nicoisetarn_reply start(bench *b) {
+/* G 1 1 32: a start over zeroed memory; the image and the cache bytes before it may be anything. */
+static nicoisetarn_answer start(bench *b) {
+    nicoisetarn_unit unit = lent(b);
     memset(&b->image, 0xA5, sizeof b->image);
     memset(b->cache, 0xA5, sizeof b->cache);
     memset(b->memory, 0, sizeof b->memory);
-    return nicoisetarn_start(&b->image, 1, 1, b->cache, sizeof b->cache, b->memory, sizeof b->memory);
+    return nicoisetarn_start(&unit, 1, 1);
 }
 
 /* The script, line by line. */
 static void play(bench *b) {
-    print(start(b));                           /* G 1 1 32 */
-    print(nicoisetarn_store(LENT(b), 4, 1, 7)); /* S 4 1 7 */
-    print(nicoisetarn_load(LENT(b), 4, 1));    /* L 4 1 */
-    print(nicoisetarn_load(LENT(b), 5, 1));    /* L 5 1 */
-    print(nicoisetarn_abort(LENT(b), 3));      /* X 3 */
-    print(nicoisetarn_commit(LENT(b), 2));     /* C 2 */
-    print(nicoisetarn_idle(LENT(b)));          /* I */
-    print(nicoisetarn_memory_reply(LENT(b)));  /* R */
-    print(nicoisetarn_idle(LENT(b)));          /* I */
-    print(nicoisetarn_flush(LENT(b)));         /* F */
-    print(nicoisetarn_load(LENT(b), 5, 1));    /* L 5 1 */
+    nicoisetarn_unit unit = lent(b);
+    print(start(b));                         /* G 1 1 32 */
+    print(nicoisetarn_store(&unit, 4, 1, 7)); /* S 4 1 7 */
+    print(nicoisetarn_load(&unit, 4, 1));    /* L 4 1 */
+    print(nicoisetarn_load(&unit, 5, 1));    /* L 5 1 */
+    print(nicoisetarn_abort(&unit, 3));      /* X 3 */
+    print(nicoisetarn_commit(&unit, 2));     /* C 2 */
+    print(nicoisetarn_idle(&unit));          /* I */
+    print(nicoisetarn_reply(&unit));         /* R */
+    print(nicoisetarn_idle(&unit));          /* I */
+    print(nicoisetarn_flush(&unit));         /* F */
+    print(nicoisetarn_load(&unit, 5, 1));    /* L 5 1 */
 }
 
 /* ---- what the image tells */
 
-static int same_reply(nicoisetarn_reply reply, uint32_t kind, uint32_t first, uint32_t second) {
-    return reply.kind == kind && reply.first == first && reply.second == second;
+static int same(nicoisetarn_answer answer, uint32_t kind, uint32_t first, uint32_t second) {
+    return answer.kind == kind && answer.first == first && answer.second == second;
 }
 
-/* A store held, a load that waits, a load answered, and the load's line requested. */
+/* A store held, a load that waits, a load answered, and the waiting load's line requested. */
 static void make_busy(bench *b) {
-    CHECK(same_reply(start(b), NICOISETARN_KIND_READY, 0, 0));
-    CHECK(same_reply(nicoisetarn_load(LENT(b), 16, 2), NICOISETARN_KIND_WAITS, 1, 0));
-    CHECK(same_reply(nicoisetarn_commit(LENT(b), 1), NICOISETARN_KIND_COMMITTED, 1, 0));
-    CHECK(same_reply(nicoisetarn_idle(LENT(b)), NICOISETARN_KIND_REQUEST, 16, 0));
-    CHECK(same_reply(nicoisetarn_store(LENT(b), 8, 4, 0xCAFE), NICOISETARN_KIND_STORED, 2, 0));
-    CHECK(same_reply(nicoisetarn_load(LENT(b), 8, 2), NICOISETARN_KIND_VALUE, 3, 0xCAFE));
+    nicoisetarn_unit unit = lent(b);
+    CHECK(same(start(b), NICOISETARN_KIND_READY, 0, 0));
+    CHECK(same(nicoisetarn_load(&unit, 16, 2), NICOISETARN_KIND_WAITS, 1, 0));
+    CHECK(same(nicoisetarn_commit(&unit, 1), NICOISETARN_KIND_COMMITTED, 1, 0));
+    CHECK(same(nicoisetarn_idle(&unit), NICOISETARN_KIND_REQUEST, 16, 0));
+    CHECK(same(nicoisetarn_store(&unit, 8, 4, 0xCAFE), NICOISETARN_KIND_STORED, 2, 0));
+    CHECK(same(nicoisetarn_load(&unit, 8, 2), NICOISETARN_KIND_VALUE, 3, 0xCAFE));
 }
 
 static void check_figures(const nicoisetarn_image *image) {
@@ -125,14 +132,15 @@ static void check_records(const nicoisetarn_image *image, nicoisetarn_tag wanted
 
 static void check_image(void) {
     bench b;
+    nicoisetarn_unit unit = lent(&b);
     make_busy(&b);
     check_figures(&b.image);
     check_queues(&b.image);
     check_records(&b.image, (nicoisetarn_tag){0, 0, 0, 0});
-    CHECK(same_reply(nicoisetarn_memory_reply(LENT(&b)), NICOISETARN_KIND_FILLED, 16, 0));
+    CHECK(same(nicoisetarn_reply(&unit), NICOISETARN_KIND_FILLED, 16, 0));
     CHECK(!nicoisetarn_requested(&b.image) && nicoisetarn_requested_line(&b.image) == 0);
     check_records(&b.image, (nicoisetarn_tag){1, 0, 1, 0});
-    CHECK(same_reply(nicoisetarn_retry(LENT(&b), 1), NICOISETARN_KIND_VALUE, 1, 0));
+    CHECK(same(nicoisetarn_retry(&unit, 1), NICOISETARN_KIND_VALUE, 1, 0));
     CHECK(nicoisetarn_load_at(&b.image, 0).number == 3);
     CHECK(nicoisetarn_load_at(&b.image, 1).number == 0);
 }
@@ -140,66 +148,82 @@ static void check_image(void) {
 /* ---- refused calls */
 
 /* Refused by this number, with image, cache and memory as before. */
-static void check_refused(nicoisetarn_reply reply, uint32_t refusal, const bench *now, const bench *before) {
-    CHECK(same_reply(reply, NICOISETARN_KIND_REFUSED, refusal, 0));
-    CHECK(memcmp(now, before, sizeof *now) == 0);
+static void check_refused(nicoisetarn_answer answer, uint32_t refusal, const bench *seen, const bench *before) {
+    CHECK(same(answer, NICOISETARN_KIND_REFUSED, refusal, 0));
+    CHECK(memcmp(seen, before, sizeof *seen) == 0);
 }
-
-NICOISETARN_ASSERT(sizeof(bench) == NICOISETARN_IMAGE_BYTES + 48, "a bench has no bytes between its parts");
 
 static void check_refusals(void) {
     bench b, before;
+    nicoisetarn_unit unit = lent(&b);
     make_busy(&b);
     before = b;
-    check_refused(nicoisetarn_load(LENT(&b), 0, 3), NICOISETARN_REFUSED_WIDTH, &b, &before);
-    check_refused(nicoisetarn_load(LENT(&b), 2, 4), NICOISETARN_REFUSED_ALIGNMENT, &b, &before);
-    check_refused(nicoisetarn_store(LENT(&b), 32, 4, 0), NICOISETARN_REFUSED_ADDRESS, &b, &before);
-    check_refused(nicoisetarn_store(LENT(&b), 0, 1, 256), NICOISETARN_REFUSED_VALUE, &b, &before);
-    check_refused(nicoisetarn_step(&b.image, 9, 0, 0, 0, b.cache, sizeof b.cache, b.memory, sizeof b.memory),
-                  NICOISETARN_REFUSED_CALL, &b, &before);
-    check_refused(nicoisetarn_retry(LENT(&b), 3), NICOISETARN_REFUSED_RETRY, &b, &before);
-    check_refused(nicoisetarn_commit(LENT(&b), 4), NICOISETARN_REFUSED_COMMIT, &b, &before);
-    check_refused(nicoisetarn_abort(LENT(&b), 1), NICOISETARN_REFUSED_ABORT, &b, &before);
-    CHECK(nicoisetarn_commit(LENT(&b), 2).kind == NICOISETARN_KIND_COMMITTED);
+    check_refused(nicoisetarn_load(&unit, 0, 3), NICOISETARN_REFUSED_WIDTH, &b, &before);
+    check_refused(nicoisetarn_load(&unit, 2, 4), NICOISETARN_REFUSED_ALIGNMENT, &b, &before);
+    check_refused(nicoisetarn_store(&unit, 32, 4, 0), NICOISETARN_REFUSED_ADDRESS, &b, &before);
+    check_refused(nicoisetarn_store(&unit, 0, 1, 256), NICOISETARN_REFUSED_VALUE, &b, &before);
+    check_refused(nicoisetarn_retry(&unit, 3), NICOISETARN_REFUSED_RETRY, &b, &before);
+    check_refused(nicoisetarn_commit(&unit, 4), NICOISETARN_REFUSED_COMMIT, &b, &before);
+    check_refused(nicoisetarn_abort(&unit, 1), NICOISETARN_REFUSED_ABORT, &b, &before);
+    CHECK(nicoisetarn_commit(&unit, 2).kind == NICOISETARN_KIND_COMMITTED);
     before = b;
-    check_refused(nicoisetarn_flush(LENT(&b)), NICOISETARN_REFUSED_FLUSH, &b, &before);
-    CHECK(nicoisetarn_memory_reply(LENT(&b)).kind == NICOISETARN_KIND_FILLED);
+    check_refused(nicoisetarn_flush(&unit), NICOISETARN_REFUSED_FLUSH, &b, &before);
+    CHECK(nicoisetarn_reply(&unit).kind == NICOISETARN_KIND_FILLED);
     before = b;
-    check_refused(nicoisetarn_memory_reply(LENT(&b)), NICOISETARN_REFUSED_NO_REQUEST, &b, &before);
+    check_refused(nicoisetarn_reply(&unit), NICOISETARN_REFUSED_NO_REQUEST, &b, &before);
 }
 
 static void check_full_queues(void) {
     bench b, before;
+    nicoisetarn_unit unit = lent(&b);
     CHECK(start(&b).kind == NICOISETARN_KIND_READY);
     for (uint32_t number = 1; number <= NICOISETARN_STORES; number++) {
-        CHECK(same_reply(nicoisetarn_store(LENT(&b), 0, 1, 1), NICOISETARN_KIND_STORED, number, 0));
+        CHECK(same(nicoisetarn_store(&unit, 0, 1, 1), NICOISETARN_KIND_STORED, number, 0));
     }
     for (uint32_t number = 17; number < 17 + NICOISETARN_LOADS; number++) {
-        CHECK(same_reply(nicoisetarn_load(LENT(&b), 0, 1), NICOISETARN_KIND_VALUE, number, 1));
+        CHECK(same(nicoisetarn_load(&unit, 0, 1), NICOISETARN_KIND_VALUE, number, 1));
     }
     before = b;
-    check_refused(nicoisetarn_store(LENT(&b), 0, 1, 1), NICOISETARN_REFUSED_STORES_FULL, &b, &before);
-    check_refused(nicoisetarn_load(LENT(&b), 0, 1), NICOISETARN_REFUSED_LOADS_FULL, &b, &before);
+    check_refused(nicoisetarn_store(&unit, 0, 1, 1), NICOISETARN_REFUSED_STORES_FULL, &b, &before);
+    check_refused(nicoisetarn_load(&unit, 0, 1), NICOISETARN_REFUSED_LOADS_FULL, &b, &before);
 }
 
 /* Lengths that disagree, images that no run leads to, and starts that are not allowed. */
 static void check_damaged(void) {
     bench b, before;
+    nicoisetarn_unit unit = lent(&b), no_cache = unit, short_memory = unit;
+    no_cache.cache_length = 0;
+    short_memory.memory_length = 16;
     make_busy(&b);
     before = b;
-    check_refused(nicoisetarn_idle(&b.image, b.cache, 0, b.memory, 32), NICOISETARN_REFUSED_LENGTHS, &b, &before);
-    check_refused(nicoisetarn_idle(&b.image, b.cache, 16, b.memory, 16), NICOISETARN_REFUSED_LENGTHS, &b, &before);
-    check_refused(nicoisetarn_start(&b.image, 3, 1, b.cache, 16, b.memory, 32), NICOISETARN_REFUSED_LENGTHS,
-                  &b, &before);
+    check_refused(nicoisetarn_idle(&no_cache), NICOISETARN_REFUSED_FIGURES, &b, &before);
+    check_refused(nicoisetarn_idle(&short_memory), NICOISETARN_REFUSED_FIGURES, &b, &before);
+    check_refused(nicoisetarn_start(&unit, 3, 1), NICOISETARN_REFUSED_FIGURES, &b, &before);
     b.image.nicoisetarn_words[NICOISETARN_AT_REQUESTED / 4] = 2;
     before = b;
-    check_refused(nicoisetarn_idle(LENT(&b)), NICOISETARN_REFUSED_IMAGE, &b, &before);
-    CHECK(same_reply(nicoisetarn_show_line(LENT(&b), 0), NICOISETARN_KIND_SHOWN, 0, 0));
+    check_refused(nicoisetarn_idle(&unit), NICOISETARN_REFUSED_STATE, &b, &before);
+    CHECK(same(nicoisetarn_show_line(&unit, 0), NICOISETARN_KIND_SHOWN, 0, 0));
     memset(&b.image, 0xA5, sizeof b.image);
     before = b;
-    check_refused(nicoisetarn_idle(LENT(&b)), NICOISETARN_REFUSED_LENGTHS, &b, &before);
-    CHECK(same_reply(nicoisetarn_show_line(LENT(&b), 0), NICOISETARN_KIND_SHOWN, 0, 0));
+    check_refused(nicoisetarn_idle(&unit), NICOISETARN_REFUSED_FIGURES, &b, &before);
+    CHECK(same(nicoisetarn_show_line(&unit, 0), NICOISETARN_KIND_SHOWN, 0, 0));
     CHECK(memcmp(&b, &before, sizeof b) == 0);
+}
+
+/* A number that no call has: the library says so, and nothing changes, whatever the image is. */
+static void check_no_such_call(void) {
+    const uint32_t numbers[] = {NICOISETARN_CALL_SHOW_LINE + 1, NICOISETARN_KIND_NO_SUCH_CALL, UINT32_MAX};
+    bench b, before;
+    make_busy(&b);
+    for (size_t image = 0; image < 2; image++) {
+        before = b;
+        for (size_t place = 0; place < sizeof numbers / sizeof *numbers; place++) {
+            CHECK(same(nicoisetarn_step_in(&b.image, numbers[place], 1, 2, 3, b.cache, 0, b.memory, 32),
+                       NICOISETARN_KIND_NO_SUCH_CALL, 0, 0));
+        }
+        CHECK(memcmp(&b, &before, sizeof b) == 0);
+        memset(&b.image, 0xA5, sizeof b.image);
+    }
 }
 
 /* ---- show line */
@@ -207,21 +231,35 @@ static void check_damaged(void) {
 /* Two sets of two ways: line 3 fills the first way of set 1, so it stands at place 2 * 16. */
 static void check_shown(void) {
     nicoisetarn_image image = {{0}};
-    uint8_t cache[64] = {0}, memory[64];
+    uint8_t cache[NICOISETARN_CACHE_BYTES(2, 2)] = {0}, memory[64];
+    nicoisetarn_unit unit = {&image, cache, sizeof cache, memory, sizeof memory};
     for (size_t at = 0; at < sizeof memory; at++) {
         memory[at] = (uint8_t)(at + 1);
     }
-    CHECK(nicoisetarn_start(&image, 2, 2, cache, 64, memory, 64).kind == NICOISETARN_KIND_READY);
-    CHECK(same_reply(nicoisetarn_load(&image, cache, 64, memory, 64, 52, 4), NICOISETARN_KIND_WAITS, 1, 0));
-    CHECK(nicoisetarn_commit(&image, cache, 64, memory, 64, 1).kind == NICOISETARN_KIND_COMMITTED);
-    CHECK(same_reply(nicoisetarn_idle(&image, cache, 64, memory, 64), NICOISETARN_KIND_REQUEST, 48, 0));
-    CHECK(nicoisetarn_shown(cache, nicoisetarn_show_line(&image, cache, 64, memory, 64, 52)) == NULL);
-    CHECK(same_reply(nicoisetarn_memory_reply(&image, cache, 64, memory, 64), NICOISETARN_KIND_FILLED, 48, 0));
-    const nicoisetarn_reply shown = nicoisetarn_show_line(&image, cache, 64, memory, 64, 63);
-    CHECK(same_reply(shown, NICOISETARN_KIND_SHOWN, 32, 16));
-    CHECK(nicoisetarn_shown(cache, shown) == cache + 32);
-    CHECK(memcmp(nicoisetarn_shown(cache, shown), memory + 48, 16) == 0);
-    CHECK(same_reply(nicoisetarn_show_line(&image, cache, 64, memory, 64, 64), NICOISETARN_KIND_SHOWN, 0, 0));
+    CHECK(nicoisetarn_start(&unit, 2, 2).kind == NICOISETARN_KIND_READY);
+    CHECK(same(nicoisetarn_load(&unit, 52, 4), NICOISETARN_KIND_WAITS, 1, 0));
+    CHECK(nicoisetarn_commit(&unit, 1).kind == NICOISETARN_KIND_COMMITTED);
+    CHECK(same(nicoisetarn_idle(&unit), NICOISETARN_KIND_REQUEST, 48, 0));
+    CHECK(nicoisetarn_shown(&unit, nicoisetarn_show_line(&unit, 52)) == NULL);
+    CHECK(same(nicoisetarn_reply(&unit), NICOISETARN_KIND_FILLED, 48, 0));
+    const nicoisetarn_answer shown = nicoisetarn_show_line(&unit, 63);
+    CHECK(same(shown, NICOISETARN_KIND_SHOWN, 32, 16));
+    CHECK(nicoisetarn_shown(&unit, shown) == cache + 32);
+    CHECK(memcmp(nicoisetarn_shown(&unit, shown), memory + 48, 16) == 0);
+    CHECK(same(nicoisetarn_show_line(&unit, 64), NICOISETARN_KIND_SHOWN, 0, 0));
+    CHECK(same(nicoisetarn_step(&unit, NICOISETARN_CALL_SHOW_LINE, 63, 0, 0), NICOISETARN_KIND_SHOWN, 32, 16));
+}
+
+/* On bytes that nobody may write. */
+static void check_shown_of_const(void) {
+    bench b;
+    nicoisetarn_unit unit = lent(&b);
+    make_busy(&b);
+    CHECK(same(nicoisetarn_reply(&unit), NICOISETARN_KIND_FILLED, 16, 0));
+    const bench seen = b;
+    CHECK(same(nicoisetarn_show_line_in(&seen.image, 16, seen.cache, sizeof seen.cache, seen.memory,
+                                        sizeof seen.memory),
+               NICOISETARN_KIND_SHOWN, 0, 16));
 }
 
 int main(void) {
@@ -231,6 +269,8 @@ int main(void) {
     check_refusals();
     check_full_queues();
     check_damaged();
+    check_no_such_call();
     check_shown();
+    check_shown_of_const();
     return 0;
 }

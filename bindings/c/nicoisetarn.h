@@ -1,21 +1,28 @@
 /*
- * The load/store unit for benches in C and C++: an image of its state, which the bench stores, and ten
- * calls on it. C11 or C++11, x86-64 (System V). Link with the static library that `rt staticlib bench` writes.
+ * The load/store unit for benches in C and C++: a data cache, a store queue, a load queue, one miss register and
+ * a main memory that the bench lends. C11 or C++11, x86-64 (System V). Link with libnicoisetarn.a, which
+ * `rt staticlib nicoisetarn` writes.
  *
- * Who owns what. The bench owns everything: the image, the cache bytes and the memory bytes. The library
- * keeps nothing between calls, allocates nothing and may be called from several threads on different benches.
- * An image can be copied, compared and stored byte for byte, as long as its cache and its memory go with it.
+ *     static nicoisetarn_image image;
+ *     static uint8_t cache[16], memory[32];
+ *     nicoisetarn_unit unit = {&image, cache, sizeof cache, memory, sizeof memory};
  *
- * Lengths. The cache has exactly sets * ways * 16 bytes; the memory is a multiple of 16 bytes, 16 to 65536,
- * and as long as it was at the start. Other lengths are refused (1), never read past.
+ *     nicoisetarn_start(&unit, 1, 1);            one set of one way: ready
+ *     nicoisetarn_store(&unit, 4, 1, 7);         stored, number 1
+ *     nicoisetarn_load(&unit, 4, 1);             value, number 2: 7, out of the store queue
  *
- * What the bench owes at each call: image, cache and memory point to initialised bytes that can be read and
- * written (at a start the memory need only be read), do not overlap, are not NULL, also where a length is 0,
- * and nobody else writes them during the call. The image's bytes may be anything, also before a start.
+ * Who owns what. The bench owns everything: the image of the unit's state, the cache bytes and the memory bytes.
+ * A nicoisetarn_unit only says where they are. The library keeps nothing between calls, allocates nothing and may
+ * be called from several threads on different units. Image, cache and memory can be copied and stored byte for
+ * byte, as long as the three stay together.
  *
- * What a refusal means. A refused call has changed nothing: image, cache and memory are as before, byte for
- * byte. An image that is not well formed with its cache and memory (damaged, or never started) is refused by
- * every call but a start and never repaired; show line, which names no refusal, then gives the empty part.
+ * What the bench owes at each call. The three pointers are not NULL, also where a length is 0; they point to
+ * initialised bytes that can be read and written, and that do not overlap; nobody else writes them during the
+ * call. (A start only reads the memory, and nicoisetarn_show_line only reads all three.) The image's bytes may be
+ * anything, also before a start.
+ *
+ * What a refusal means. A refused call has changed nothing: image, cache and memory are as before, byte for byte.
+ * An image that is damaged, or was never started, is refused by every call but a start and is never repaired.
  */
 #ifndef NICOISETARN_H
 #define NICOISETARN_H
@@ -33,14 +40,22 @@ extern "C" {
 #define NICOISETARN_ALIGNMENT(type) _Alignof(type)
 #endif
 
-/* Bytes of a line, places of the tables, bytes of an image. */
-#define NICOISETARN_LINE 16
-#define NICOISETARN_STORES 16
-#define NICOISETARN_LOADS 8
-#define NICOISETARN_RECORDS 256
-#define NICOISETARN_IMAGE_BYTES 1948
+/* ---- numbers of the unit */
 
-/* ---- the image and the reply */
+#define NICOISETARN_LINE 16          /* bytes of a line */
+#define NICOISETARN_MAX_SETS 64      /* sets: 1, 2, 4, 8, 16, 32 or 64 */
+#define NICOISETARN_MAX_WAYS 4       /* ways: 1 to 4 */
+#define NICOISETARN_MIN_MEMORY 16    /* memory: a multiple of 16 bytes, at least so many */
+#define NICOISETARN_MAX_MEMORY 65536 /* and at most so many */
+#define NICOISETARN_STORES 16        /* places of the store queue */
+#define NICOISETARN_LOADS 8          /* places of the load queue */
+#define NICOISETARN_RECORDS 256      /* tag records: set * ways + way names one */
+#define NICOISETARN_IMAGE_BYTES 1948 /* bytes of an image */
+
+/* Bytes of the cache that a start of these figures asks for. */
+#define NICOISETARN_CACHE_BYTES(sets, ways) ((size_t)(sets) * (size_t)(ways) * NICOISETARN_LINE)
+
+/* ---- what is lent */
 
 /* The image of a state. Opaque: look at it by the functions below and change it by calls alone. */
 typedef struct nicoisetarn_image {
@@ -50,159 +65,224 @@ typedef struct nicoisetarn_image {
 NICOISETARN_ASSERT(sizeof(nicoisetarn_image) == NICOISETARN_IMAGE_BYTES, "an image has 1948 bytes");
 NICOISETARN_ASSERT(NICOISETARN_ALIGNMENT(nicoisetarn_image) == 4, "an image is aligned to 4");
 
+/*
+ * What is lent at every call: where the image is, the cache and the memory, each with its length. A length that
+ * is not allowed, or that disagrees with the image, is refused (1); nothing is read or written past it.
+ */
+typedef struct nicoisetarn_unit {
+    nicoisetarn_image *image;
+    uint8_t *cache; /* exactly sets * ways * 16 bytes */
+    size_t cache_length;
+    uint8_t *memory; /* as many bytes as at the start */
+    size_t memory_length;
+} nicoisetarn_unit;
+
+/* ---- answers */
+
 /* What a call answers: its kind, and the numbers that the kind has; the others are 0. */
-typedef struct nicoisetarn_reply {
+typedef struct nicoisetarn_answer {
     uint32_t kind; /* a nicoisetarn_kind */
     uint32_t first;
     uint32_t second;
-} nicoisetarn_reply;
+} nicoisetarn_answer;
 
-NICOISETARN_ASSERT(sizeof(nicoisetarn_reply) == 12, "a reply has 12 bytes");
-NICOISETARN_ASSERT(offsetof(nicoisetarn_reply, first) == 4, "first stands behind kind");
-NICOISETARN_ASSERT(offsetof(nicoisetarn_reply, second) == 8, "second stands behind first");
+NICOISETARN_ASSERT(sizeof(nicoisetarn_answer) == 12, "an answer has 12 bytes");
+NICOISETARN_ASSERT(offsetof(nicoisetarn_answer, first) == 4, "first stands behind kind");
+NICOISETARN_ASSERT(offsetof(nicoisetarn_answer, second) == 8, "second stands behind first");
 
-/* Kinds of replies, with what first and second are. */
+/* Kinds of answers, with what first and second are. Kinds from 13 on are free for answers to come. */
 typedef enum nicoisetarn_kind {
-    NICOISETARN_KIND_REFUSED = 0,   /* a nicoisetarn_refusal */
-    NICOISETARN_KIND_STORED = 1,    /* the store's number */
-    NICOISETARN_KIND_VALUE = 2,     /* the load's number, the value */
-    NICOISETARN_KIND_WAITS = 3,     /* the load's number */
-    NICOISETARN_KIND_COMMITTED = 4, /* the committed number now in force */
-    NICOISETARN_KIND_KEPT = 5,      /* the last number now in force */
-    NICOISETARN_KIND_DRAINED = 6,   /* the number of the store written to the cache */
-    NICOISETARN_KIND_REQUEST = 7,   /* the first address of the line now requested */
-    NICOISETARN_KIND_IDLE = 8,      /* nothing was to be done */
-    NICOISETARN_KIND_FILLED = 9,    /* the first address of the line now present */
-    NICOISETARN_KIND_FLUSHED = 10,  /* the lines written to memory */
-    NICOISETARN_KIND_SHOWN = 11,    /* the part's place in the cache, its length: 16, or 0 at place 0 */
-    NICOISETARN_KIND_READY = 12     /* an accepted start */
+    NICOISETARN_KIND_REFUSED = 0,      /* a nicoisetarn_refusal */
+    NICOISETARN_KIND_STORED = 1,       /* the store's number */
+    NICOISETARN_KIND_VALUE = 2,        /* the load's number, the value */
+    NICOISETARN_KIND_WAITS = 3,        /* the load's number */
+    NICOISETARN_KIND_COMMITTED = 4,    /* the committed number that is in force */
+    NICOISETARN_KIND_KEPT = 5,         /* the last number that is in force */
+    NICOISETARN_KIND_DRAINED = 6,      /* the number of the store that was written to the cache */
+    NICOISETARN_KIND_REQUEST = 7,      /* the first address of the requested line */
+    NICOISETARN_KIND_IDLE = 8,         /* an idle call had nothing to do */
+    NICOISETARN_KIND_FILLED = 9,       /* the first address of the line that was filled */
+    NICOISETARN_KIND_FLUSHED = 10,     /* the lines written to memory */
+    NICOISETARN_KIND_SHOWN = 11,       /* the part's place in the cache, its length: 16, or 0 at place 0 */
+    NICOISETARN_KIND_READY = 12,       /* an accepted start */
+    NICOISETARN_KIND_NO_SUCH_CALL = 255 /* nicoisetarn_step_in: no call has that number; nothing was looked at */
 } nicoisetarn_kind;
 
-/* Refusals, in the order in which they are looked for: 6, 1, 10, 2, 3, 4, 5, 13, then 11 or 12, or one of 14 to 18. */
+/*
+ * Refusals, by the numbers of the scope paper. The first that applies is given, in the order 1, 10, 2, 3, 4, 5,
+ * 13, then 11 or 12; each of 14 to 18 follows 10. (6 is the script player's, for a line that it cannot read.)
+ */
 typedef enum nicoisetarn_refusal {
-    NICOISETARN_REFUSED_LENGTHS = 1,      /* sets, ways or a length is not allowed or disagrees with the image */
-    NICOISETARN_REFUSED_WIDTH = 2,        /* the width is not 1, 2 or 4 */
-    NICOISETARN_REFUSED_ALIGNMENT = 3,    /* the address is not a multiple of the width */
-    NICOISETARN_REFUSED_ADDRESS = 4,      /* address + width exceeds the memory length */
-    NICOISETARN_REFUSED_VALUE = 5,        /* the stored value needs more bytes than the width has */
-    NICOISETARN_REFUSED_CALL = 6,         /* nicoisetarn_step: no such call number */
-    NICOISETARN_REFUSED_IMAGE = 10,       /* the image with its cache and memory is not well formed */
+    NICOISETARN_REFUSED_FIGURES = 1,      /* sets, ways or a length is not allowed or disagrees with the image */
+    NICOISETARN_REFUSED_WIDTH = 2,        /* load, store: the width is not 1, 2 or 4 */
+    NICOISETARN_REFUSED_ALIGNMENT = 3,    /* load, store: the address is not a multiple of the width */
+    NICOISETARN_REFUSED_ADDRESS = 4,      /* load, store: address + width exceeds the memory length */
+    NICOISETARN_REFUSED_VALUE = 5,        /* store: the value is 256 to the power width or more */
+    NICOISETARN_REFUSED_STATE = 10,       /* the image with its cache and memory is not well formed */
     NICOISETARN_REFUSED_STORES_FULL = 11, /* store: 16 are held */
     NICOISETARN_REFUSED_LOADS_FULL = 12,  /* load: 8 are listed */
     NICOISETARN_REFUSED_NUMBERS = 13,     /* load, store: the last number is 4294967295 */
     NICOISETARN_REFUSED_RETRY = 14,       /* retry: no waiting load has that number */
     NICOISETARN_REFUSED_COMMIT = 15,      /* commit: the number is below the committed one or above the last */
     NICOISETARN_REFUSED_ABORT = 16,       /* abort: the number is at most the committed one, or above last + 1 */
-    NICOISETARN_REFUSED_NO_REQUEST = 17,  /* memory reply: the request register is free */
+    NICOISETARN_REFUSED_NO_REQUEST = 17,  /* reply: the miss register is free */
     NICOISETARN_REFUSED_FLUSH = 18        /* flush: a committed store is held */
 } nicoisetarn_refusal;
 
-/* Call numbers of nicoisetarn_step, with the operands that each takes. */
+/* Call numbers of nicoisetarn_step_in, with the operands that each takes. */
 typedef enum nicoisetarn_call {
-    NICOISETARN_CALL_LOAD = 0,      /* address, width */
-    NICOISETARN_CALL_STORE = 1,     /* address, width, value */
-    NICOISETARN_CALL_RETRY = 2,     /* number */
-    NICOISETARN_CALL_COMMIT = 3,    /* number */
-    NICOISETARN_CALL_ABORT = 4,     /* number */
-    NICOISETARN_CALL_IDLE = 5,      /* none */
-    NICOISETARN_CALL_REPLY = 6,     /* none */
-    NICOISETARN_CALL_FLUSH = 7,     /* none */
-    NICOISETARN_CALL_SHOW_LINE = 8  /* address */
+    NICOISETARN_CALL_LOAD = 0,     /* address, width */
+    NICOISETARN_CALL_STORE = 1,    /* address, width, value */
+    NICOISETARN_CALL_RETRY = 2,    /* number */
+    NICOISETARN_CALL_COMMIT = 3,   /* number */
+    NICOISETARN_CALL_ABORT = 4,    /* number */
+    NICOISETARN_CALL_IDLE = 5,     /* none */
+    NICOISETARN_CALL_REPLY = 6,    /* none */
+    NICOISETARN_CALL_FLUSH = 7,    /* none */
+    NICOISETARN_CALL_SHOW_LINE = 8 /* address */
 } nicoisetarn_call;
 
-/* ---- the two functions of the library */
+/* ---- the functions of the library; the calls by name, below, are what a bench wants */
+
+/* A start on an image where it is stored. It reads the memory alone. */
+nicoisetarn_answer nicoisetarn_start_in(nicoisetarn_image *image, uint32_t sets, uint32_t ways,
+                                        uint8_t *cache, size_t cache_length,
+                                        const uint8_t *memory, size_t memory_length);
 
 /*
- * Start: ready, with the image of a unit that has just started and zeroed cache bytes; the memory stays as
- * found. Refused (1) by its figures and lengths alone, and then image and cache stay as they were.
+ * Any other call by its number. Operands that the call does not take are not looked at. A number that no call has
+ * is answered by NICOISETARN_KIND_NO_SUCH_CALL: nothing changes, and image, cache and memory are not looked at.
  */
-nicoisetarn_reply nicoisetarn_start(nicoisetarn_image *image, uint32_t sets, uint32_t ways,
-                                    uint8_t *cache, size_t cache_length,
-                                    const uint8_t *memory, size_t memory_length);
+nicoisetarn_answer nicoisetarn_step_in(nicoisetarn_image *image, uint32_t call,
+                                       uint32_t x, uint32_t y, uint32_t z,
+                                       uint8_t *cache, size_t cache_length,
+                                       uint8_t *memory, size_t memory_length);
 
-/* Any other call by its number. Operands that the call does not take are not looked at. */
-nicoisetarn_reply nicoisetarn_step(nicoisetarn_image *image, uint32_t call,
-                                   uint32_t x, uint32_t y, uint32_t z,
-                                   uint8_t *cache, size_t cache_length,
-                                   uint8_t *memory, size_t memory_length);
+/* Show line on an image and bytes that are only read: what NICOISETARN_CALL_SHOW_LINE answers. */
+nicoisetarn_answer nicoisetarn_show_line_in(const nicoisetarn_image *image, uint32_t address,
+                                            const uint8_t *cache, size_t cache_length,
+                                            const uint8_t *memory, size_t memory_length);
 
-/* ---- the calls by name */
-
-/* Load: value, or waits while a byte is in no older held store and its line is absent. */
-static inline nicoisetarn_reply nicoisetarn_load(nicoisetarn_image *image, uint8_t *cache, size_t cache_length,
-                                                 uint8_t *memory, size_t memory_length,
-                                                 uint32_t address, uint32_t width) {
-    return nicoisetarn_step(image, NICOISETARN_CALL_LOAD, address, width, 0,
-                            cache, cache_length, memory, memory_length);
+/* A call by its number on a unit. For the functions below. */
+static inline nicoisetarn_answer nicoisetarn_step(nicoisetarn_unit *unit, nicoisetarn_call call,
+                                                  uint32_t x, uint32_t y, uint32_t z) {
+    return nicoisetarn_step_in(unit->image, (uint32_t)call, x, y, z,
+                               unit->cache, unit->cache_length, unit->memory, unit->memory_length);
 }
 
-/* Store: stored. The value stands in its lowest width bytes. */
-static inline nicoisetarn_reply nicoisetarn_store(nicoisetarn_image *image, uint8_t *cache, size_t cache_length,
-                                                  uint8_t *memory, size_t memory_length,
-                                                  uint32_t address, uint32_t width, uint32_t value) {
-    return nicoisetarn_step(image, NICOISETARN_CALL_STORE, address, width, value,
-                            cache, cache_length, memory, memory_length);
+/* ---- the calls by name; each may also be refused by 1 (lengths) or 10 (damaged or never started) */
+
+/*
+ * Start, with these sets and ways: ready. The image becomes that of a unit with both queues empty, no line
+ * present and last and committed number 0; the cache bytes become zero; the memory stays as found. It looks at no
+ * earlier image.
+ * Refused by 1 alone: sets or ways is not allowed, the cache has not exactly sets * ways * 16 bytes, or the memory
+ * is no multiple of 16 bytes from 16 to 65536. Image and cache then stay as they were.
+ */
+static inline nicoisetarn_answer nicoisetarn_start(nicoisetarn_unit *unit, uint32_t sets, uint32_t ways) {
+    return nicoisetarn_start_in(unit->image, sets, ways, unit->cache, unit->cache_length,
+                                unit->memory, unit->memory_length);
 }
 
-/* Retry, the inquiry about a load that waits: value or waits. */
-static inline nicoisetarn_reply nicoisetarn_retry(nicoisetarn_image *image, uint8_t *cache, size_t cache_length,
-                                                  uint8_t *memory, size_t memory_length, uint32_t number) {
-    return nicoisetarn_step(image, NICOISETARN_CALL_RETRY, number, 0, 0,
-                            cache, cache_length, memory, memory_length);
+/*
+ * Load of width bytes: it takes the next number and joins the load queue. Each byte comes from the youngest older
+ * held store that covers it, else from the cached line: value, or waits while some byte has neither. It requests
+ * nothing and changes no age: a load is not yet known to be wanted.
+ * Refused by 2 (width), 3 (alignment), 4 (address), 13 (no number left), 12 (8 loads are listed).
+ */
+static inline nicoisetarn_answer nicoisetarn_load(nicoisetarn_unit *unit, uint32_t address, uint32_t width) {
+    return nicoisetarn_step(unit, NICOISETARN_CALL_LOAD, address, width, 0);
 }
 
-/* Commit everything up to a number: committed. */
-static inline nicoisetarn_reply nicoisetarn_commit(nicoisetarn_image *image, uint8_t *cache, size_t cache_length,
-                                                   uint8_t *memory, size_t memory_length, uint32_t number) {
-    return nicoisetarn_step(image, NICOISETARN_CALL_COMMIT, number, 0, 0,
-                            cache, cache_length, memory, memory_length);
+/*
+ * Store of the value's lowest width bytes, lowest byte first: it takes the next number and is held, uncommitted:
+ * stored.
+ * Refused by 2 (width), 3 (alignment), 4 (address), 5 (value), 13 (no number left), 11 (16 stores are held).
+ */
+static inline nicoisetarn_answer nicoisetarn_store(nicoisetarn_unit *unit, uint32_t address, uint32_t width,
+                                                   uint32_t value) {
+    return nicoisetarn_step(unit, NICOISETARN_CALL_STORE, address, width, value);
 }
 
-/* Abort everything from a number on: kept. */
-static inline nicoisetarn_reply nicoisetarn_abort(nicoisetarn_image *image, uint8_t *cache, size_t cache_length,
-                                                  uint8_t *memory, size_t memory_length, uint32_t number) {
-    return nicoisetarn_step(image, NICOISETARN_CALL_ABORT, number, 0, 0,
-                            cache, cache_length, memory, memory_length);
+/*
+ * Retry of a load that waits (the scope paper's inquiry): value, or waits still. Once answered, a committed load
+ * leaves the queue and uses its line if that is present; an uncommitted one is marked answered.
+ * Refused by 14: no waiting load has that number.
+ */
+static inline nicoisetarn_answer nicoisetarn_retry(nicoisetarn_unit *unit, uint32_t number) {
+    return nicoisetarn_step(unit, NICOISETARN_CALL_RETRY, number, 0, 0);
 }
 
-/* Idle: drained, request or idle. */
-static inline nicoisetarn_reply nicoisetarn_idle(nicoisetarn_image *image, uint8_t *cache, size_t cache_length,
-                                                 uint8_t *memory, size_t memory_length) {
-    return nicoisetarn_step(image, NICOISETARN_CALL_IDLE, 0, 0, 0, cache, cache_length, memory, memory_length);
+/*
+ * Commit of everything up to a number: committed. Answered loads up to it leave the queue, each using its line if
+ * that is present; waiting ones stay.
+ * Refused by 15: the number is below the committed one or above the last.
+ */
+static inline nicoisetarn_answer nicoisetarn_commit(nicoisetarn_unit *unit, uint32_t number) {
+    return nicoisetarn_step(unit, NICOISETARN_CALL_COMMIT, number, 0, 0);
 }
 
-/* The memory's reply to a request: filled. (nicoisetarn_reply is what a call answers.) */
-static inline nicoisetarn_reply nicoisetarn_memory_reply(nicoisetarn_image *image,
-                                                         uint8_t *cache, size_t cache_length,
-                                                         uint8_t *memory, size_t memory_length) {
-    return nicoisetarn_step(image, NICOISETARN_CALL_REPLY, 0, 0, 0, cache, cache_length, memory, memory_length);
+/*
+ * Abort of everything from a number on (a squash): kept, with the last number that is left. Stores and loads from
+ * it on leave their queues, and the numbers are given again. No trace of them is left in any line or age.
+ * Refused by 16: the number is at most the committed one, or above last + 1.
+ */
+static inline nicoisetarn_answer nicoisetarn_abort(nicoisetarn_unit *unit, uint32_t number) {
+    return nicoisetarn_step(unit, NICOISETARN_CALL_ABORT, number, 0, 0);
 }
 
-/* Flush: flushed. */
-static inline nicoisetarn_reply nicoisetarn_flush(nicoisetarn_image *image, uint8_t *cache, size_t cache_length,
-                                                  uint8_t *memory, size_t memory_length) {
-    return nicoisetarn_step(image, NICOISETARN_CALL_FLUSH, 0, 0, 0, cache, cache_length, memory, memory_length);
+/*
+ * Idle, the unit's background work, does the first of these that it can.
+ * drained: the oldest held store is committed, no older load waits, and its line is present: it is written there,
+ * and leaves the queue.
+ * request: the miss register is free, and a committed load waits whose line is absent (the oldest such load), or
+ * else the line of that store is absent: the line is asked for.
+ * idle: there is nothing to do.
+ */
+static inline nicoisetarn_answer nicoisetarn_idle(nicoisetarn_unit *unit) {
+    return nicoisetarn_step(unit, NICOISETARN_CALL_IDLE, 0, 0, 0);
 }
 
-/* Show line: always shown, and nothing changes; nicoisetarn_shown gives the bytes. */
-static inline nicoisetarn_reply nicoisetarn_show_line(nicoisetarn_image *image,
-                                                      uint8_t *cache, size_t cache_length,
-                                                      uint8_t *memory, size_t memory_length, uint32_t address) {
-    return nicoisetarn_step(image, NICOISETARN_CALL_SHOW_LINE, address, 0, 0,
-                            cache, cache_length, memory, memory_length);
+/*
+ * The memory's reply to the request: filled. The requested line is copied from memory into the lowest invalid way
+ * of its set, else into the way of greatest age, whose line is written back first if it is dirty; the miss
+ * register becomes free.
+ * Refused by 17: the miss register is free.
+ */
+static inline nicoisetarn_answer nicoisetarn_reply(nicoisetarn_unit *unit) {
+    return nicoisetarn_step(unit, NICOISETARN_CALL_REPLY, 0, 0, 0);
+}
+
+/*
+ * Flush: every dirty line is written to memory and marked clean; flushed, with how many. Ages stay.
+ * Refused by 18: a committed store is held (drain it by idle calls first).
+ */
+static inline nicoisetarn_answer nicoisetarn_flush(nicoisetarn_unit *unit) {
+    return nicoisetarn_step(unit, NICOISETARN_CALL_FLUSH, 0, 0, 0);
+}
+
+/*
+ * Show line: the 16 bytes of the line of an address as a part of the cache, or the empty part where the line is
+ * absent, the address is outside memory, or another call would be refused by 1 or 10. It is never refused, and all
+ * that is lent is only read: a bench whose bytes are const calls nicoisetarn_show_line_in. nicoisetarn_shown gives
+ * the bytes.
+ */
+static inline nicoisetarn_answer nicoisetarn_show_line(const nicoisetarn_unit *unit, uint32_t address) {
+    return nicoisetarn_show_line_in(unit->image, address, unit->cache, unit->cache_length,
+                                    unit->memory, unit->memory_length);
 }
 
 /* The 16 bytes of the cache that a show line answered, or NULL where the part is empty. */
-static inline const uint8_t *nicoisetarn_shown(const uint8_t *cache, nicoisetarn_reply shown) {
+static inline const uint8_t *nicoisetarn_shown(const nicoisetarn_unit *unit, nicoisetarn_answer shown) {
     if (shown.kind != NICOISETARN_KIND_SHOWN || shown.second == 0) {
         return NULL;
     }
-    return cache + shown.first;
+    return unit->cache + shown.first;
 }
 
-/* ---- what an image holds, to be printed or compared; they read whatever the image holds, refused or not */
+/* ---- what an image holds, to be printed or compared; these read whatever is there, refused or not */
 
-/* Where things stand in an image. For the functions below alone. */
+/* Where things stand in an image, in bytes. For the functions below alone. */
 enum {
     NICOISETARN_AT_SETS = 0,
     NICOISETARN_AT_WAYS = 4,
@@ -211,9 +291,9 @@ enum {
     NICOISETARN_AT_COMMITTED = 16,
     NICOISETARN_AT_REQUESTED = 20,
     NICOISETARN_AT_REQUESTED_LINE = 24,
-    NICOISETARN_AT_STORES = 28,
-    NICOISETARN_AT_LOADS = 284,
-    NICOISETARN_AT_RECORDS = 412
+    NICOISETARN_AT_STORES = 28, /* 16 bytes each: number, address, width, value */
+    NICOISETARN_AT_LOADS = 284, /* 16 bytes each: number, address, width, waiting */
+    NICOISETARN_AT_RECORDS = 412 /* 6 bytes each: valid, dirty, line (2), age, 0 */
 };
 
 NICOISETARN_ASSERT(NICOISETARN_AT_LOADS == NICOISETARN_AT_STORES + 16 * NICOISETARN_STORES, "loads behind stores");
@@ -240,14 +320,17 @@ static inline uint32_t nicoisetarn_number_at(const nicoisetarn_image *image, siz
     return image->nicoisetarn_words[at / 4];
 }
 
+/* The sets of the cache. */
 static inline uint32_t nicoisetarn_sets(const nicoisetarn_image *image) {
     return nicoisetarn_number_at(image, NICOISETARN_AT_SETS);
 }
 
+/* The ways of each set. */
 static inline uint32_t nicoisetarn_ways(const nicoisetarn_image *image) {
     return nicoisetarn_number_at(image, NICOISETARN_AT_WAYS);
 }
 
+/* The bytes of the memory. */
 static inline uint32_t nicoisetarn_memory_length(const nicoisetarn_image *image) {
     return nicoisetarn_number_at(image, NICOISETARN_AT_MEMORY_LENGTH);
 }
@@ -257,17 +340,17 @@ static inline uint32_t nicoisetarn_last(const nicoisetarn_image *image) {
     return nicoisetarn_number_at(image, NICOISETARN_AT_LAST);
 }
 
-/* The committed number. */
+/* The committed number: everything up to it is committed. */
 static inline uint32_t nicoisetarn_committed(const nicoisetarn_image *image) {
     return nicoisetarn_number_at(image, NICOISETARN_AT_COMMITTED);
 }
 
-/* Not 0: the request register names a line, that of the next function. 0: the register is free. */
+/* Not 0: the miss register (the scope paper's request register) names a line, that of the next function. */
 static inline int nicoisetarn_requested(const nicoisetarn_image *image) {
     return nicoisetarn_number_at(image, NICOISETARN_AT_REQUESTED) != 0;
 }
 
-/* The line number that the request register names; 0 where it is free. */
+/* The line number that the miss register names, its first address divided by 16; 0 where it is free. */
 static inline uint32_t nicoisetarn_requested_line(const nicoisetarn_image *image) {
     return nicoisetarn_number_at(image, NICOISETARN_AT_REQUESTED_LINE);
 }

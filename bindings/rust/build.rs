@@ -1,5 +1,5 @@
 //! Links the static library of the proved model: out of the folder that the
-//! environment names, else where `rt staticlib bench` writes it.
+//! environment names, else where `rt staticlib nicoisetarn` writes it.
 
 use std::env;
 use std::path::{Path, PathBuf};
@@ -20,13 +20,14 @@ fn folder() -> PathBuf {
 
 fn main() {
     let folder = folder();
-    let library = folder.join("libbench.a");
+    let library = folder.join("libnicoisetarn.a");
     println!("cargo:rerun-if-env-changed={VARIABLE}");
     println!("cargo:rerun-if-changed={}", library.display());
     if !library.is_file() {
-        let wanted = format!("make it with `rt staticlib bench`, or name its folder in {VARIABLE}");
+        let wanted =
+            format!("make it with `rt staticlib nicoisetarn`, or name its folder in {VARIABLE}");
         panic!("{} is not there: {wanted}", library.display());
     }
     println!("cargo:rustc-link-search=native={}", folder.display());
-    println!("cargo:rustc-link-lib=static=bench");
+    println!("cargo:rustc-link-lib=static=nicoisetarn");
 }

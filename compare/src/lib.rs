@@ -24,7 +24,7 @@
 //! `cargo run --release --bin player` plays a script,
 //! `cargo run --release --bin scripts` plays the stored examples,
 //! `cargo run --release --bin beside` sets a player beside the model,
-//! `cargo run --release --bin player_bench` times one beside the Rust player.
+//! `cargo run --release --bin player_times` times one beside the Rust player.
 
 pub mod arguments;
 pub mod check;

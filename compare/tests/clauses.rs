@@ -1,38 +1,38 @@
 //! Every clause of well-formedness, damaged alone; damaged figures and lengths;
 //! and random damage, judged by the plain rules.
 
-mod bench;
+mod judged;
 
-use bench::Bench;
 use compare::check::{self, CLAUSES};
 use compare::model::Right;
 use compare::plain;
 use compare::random::{self, Rng};
 use compare::rules;
 use compare::types::{Answer, Call, Part, Request, Snapshot, State, Tag};
+use judged::Judged;
 
-/// A bench in which every part of the state is in use: line 0 dirty, line 2
+/// A machine in which every part of the state is in use: line 0 dirty, line 2
 /// clean, set 1 invalid, stores 4, 5, 8, loads 3 (committed, waits), 6 (waits)
 /// and 7 (answered), line 1 requested, h 3 and last 8.
-fn rich() -> Bench {
-    let mut bench = Bench::new(2, 2, 128);
-    bench.store(0, 4, 0x0908_0706);
-    bench.commit(1);
-    bench.idle();
-    bench.reply();
-    bench.idle();
-    bench.bring(2);
-    bench.load(16, 1);
-    bench.commit(3);
-    bench.idle();
-    bench.store(48, 2, 500);
-    bench.store(4, 1, 9);
-    bench.load(64, 2);
-    bench.load(0, 2);
-    bench.store(64, 1, 77);
-    assert_eq!(bench.state.request, Request::Line(1));
-    assert_eq!((bench.state.committed, bench.state.last), (3, 8));
-    bench
+fn rich() -> Judged {
+    let mut judged = Judged::new(2, 2, 128);
+    judged.store(0, 4, 0x0908_0706);
+    judged.commit(1);
+    judged.idle();
+    judged.reply();
+    judged.idle();
+    judged.bring(2);
+    judged.load(16, 1);
+    judged.commit(3);
+    judged.idle();
+    judged.store(48, 2, 500);
+    judged.store(4, 1, 9);
+    judged.load(64, 2);
+    judged.load(0, 2);
+    judged.store(64, 1, 77);
+    assert_eq!(judged.state.request, Request::Line(1));
+    assert_eq!((judged.state.committed, judged.state.last), (3, 8));
+    judged
 }
 
 /// One call of each kind but the start, all with arguments that would pass.
@@ -51,48 +51,48 @@ fn calls() -> [Call; 9] {
 }
 
 /// Every call refuses by this number and changes nothing.
-fn all_refuse(bench: &Bench, no: u32, what: &str) {
+fn all_refuse(judged: &Judged, no: u32, what: &str) {
     for call in calls() {
-        let mut after = bench.clone();
+        let mut after = judged.clone();
         let expected = match call {
             Call::ShowLine { .. } => Answer::Shown(Part::default()),
             _ => Answer::Refused(no),
         };
         assert_eq!(after.call(call), expected, "{what}: {call:?}");
-        assert_eq!(after, *bench, "{what}: {call:?}");
+        assert_eq!(after, *judged, "{what}: {call:?}");
     }
-    assert!(bench.shown(0).is_empty(), "{what}");
+    assert!(judged.shown(0).is_empty(), "{what}");
 }
 
 /// The names of the clauses that do not hold.
-fn broken(bench: &Bench) -> Vec<&'static str> {
+fn broken(judged: &Judged) -> Vec<&'static str> {
     CLAUSES
         .iter()
-        .filter(|(_, clause)| !clause(&bench.state, &bench.cache, &bench.memory))
+        .filter(|(_, clause)| !clause(&judged.state, &judged.cache, &judged.memory))
         .map(|(name, _)| *name)
         .collect()
 }
 
-/// A damaged bench breaks these clauses and no other, and refuses every call.
-fn breaks(names: &[&str], bench: Bench) {
-    assert_eq!(broken(&bench), names);
-    assert!(plain::read(bench.snapshot()).is_err(), "{names:?}");
-    all_refuse(&bench, 10, names[0]);
+/// A damaged machine breaks these clauses and no other, and refuses every call.
+fn breaks(names: &[&str], judged: Judged) {
+    assert_eq!(broken(&judged), names);
+    assert!(plain::read(judged.snapshot()).is_err(), "{names:?}");
+    all_refuse(&judged, 10, names[0]);
 }
 
-/// Damages a copy of the rich bench.
-fn damage(names: &[&str], change: impl Fn(&mut Bench)) {
-    let mut bench = rich();
-    assert_eq!(broken(&bench), Vec::<&str>::new());
-    change(&mut bench);
-    breaks(names, bench);
+/// Damages a copy of the rich machine.
+fn damage(names: &[&str], change: impl Fn(&mut Judged)) {
+    let mut judged = rich();
+    assert_eq!(broken(&judged), Vec::<&str>::new());
+    change(&mut judged);
+    breaks(names, judged);
 }
 
 #[test]
 fn committed_at_most_last() {
-    let mut bench = Bench::new(1, 1, 32);
-    bench.state.committed = 1;
-    breaks(&["committed at most last"], bench);
+    let mut judged = Judged::new(1, 1, 32);
+    judged.state.committed = 1;
+    breaks(&["committed at most last"], judged);
 }
 
 #[test]
@@ -224,10 +224,10 @@ fn requested_lines() {
 
 #[test]
 fn waiting_load_with_its_line_present() {
-    let mut bench = rich();
-    bench.reply();
-    assert_eq!(broken(&bench), Vec::<&str>::new());
-    assert_eq!(bench.retry(3), bench::value(3, 17));
+    let mut judged = rich();
+    judged.reply();
+    assert_eq!(broken(&judged), Vec::<&str>::new());
+    assert_eq!(judged.retry(3), judged::value(3, 17));
 }
 
 #[test]
@@ -267,13 +267,13 @@ fn lent_lengths() {
 }
 
 /// Damaged figures or lengths give 1, whatever else is damaged.
-fn figures(change: impl Fn(&mut Bench)) {
-    let mut bench = rich();
-    change(&mut bench);
-    all_refuse(&bench, 1, "figures");
-    bench.state.tags[0].age = 9;
-    bench.state.committed = 99;
-    all_refuse(&bench, 1, "figures and clauses");
+fn figures(change: impl Fn(&mut Judged)) {
+    let mut judged = rich();
+    change(&mut judged);
+    all_refuse(&judged, 1, "figures");
+    judged.state.tags[0].age = 9;
+    judged.state.committed = 99;
+    all_refuse(&judged, 1, "figures and clauses");
 }
 
 /// A number that is likely to matter somewhere.
@@ -283,9 +283,9 @@ fn odd_number(rng: &mut Rng) -> u32 {
 }
 
 /// Damages one field, byte or length at random.
-fn damage_at_random(bench: &mut Bench, rng: &mut Rng) {
+fn damage_at_random(judged: &mut Judged, rng: &mut Rng) {
     let number = odd_number(rng);
-    let state = &mut bench.state;
+    let state = &mut judged.state;
     match rng.below(12) {
         0 => state.sets = number,
         1 => state.ways = number,
@@ -293,20 +293,20 @@ fn damage_at_random(bench: &mut Bench, rng: &mut Rng) {
         3 => state.last = number,
         4 => state.committed = number,
         5 => state.request = rng.pick(&[Request::Line(number), Request::Free]),
-        6 => bench.cache.resize(rng.below(200) as usize, 1),
-        7 => bench.memory.resize(rng.below(200) as usize, 1),
-        8 => flip(&mut bench.cache, rng),
-        9 => flip(&mut bench.memory, rng),
-        _ => damage_entry(bench, number, rng),
+        6 => judged.cache.resize(rng.below(200) as usize, 1),
+        7 => judged.memory.resize(rng.below(200) as usize, 1),
+        8 => flip(&mut judged.cache, rng),
+        9 => flip(&mut judged.memory, rng),
+        _ => damage_entry(judged, number, rng),
     }
 }
 
 /// Damages one field of a tag record or of a queue, mostly of the first ones.
-fn damage_entry(bench: &mut Bench, number: u32, rng: &mut Rng) {
+fn damage_entry(judged: &mut Judged, number: u32, rng: &mut Rng) {
     let few = rng.pick(&[1, 2, 4, 8, 256]);
-    let tag = &mut bench.state.tags[rng.below(few) as usize];
-    let store = &mut bench.state.stores[rng.below(few.min(16)) as usize];
-    let load = &mut bench.state.loads[rng.below(few.min(8)) as usize];
+    let tag = &mut judged.state.tags[rng.below(few) as usize];
+    let store = &mut judged.state.stores[rng.below(few.min(16)) as usize];
+    let load = &mut judged.state.loads[rng.below(few.min(8)) as usize];
     match rng.below(13) {
         0 => tag.valid = !tag.valid,
         1 => tag.dirty = !tag.dirty,
@@ -350,15 +350,15 @@ fn odd_call(rng: &mut Rng) -> Call {
     }
 }
 
-/// The bench in the middle of the run of a seed.
-fn middle_of_run(seed: u64, rng: &mut Rng) -> Bench {
+/// The machine in the middle of the run of a seed.
+fn middle_of_run(seed: u64, rng: &mut Rng) -> Judged {
     let run = random::run(seed);
     let (mut state, mut cache, mut memory) = run.begin(Right::step);
     let length = rng.below(run.calls.len() as u64) as usize;
     for &call in &run.calls[..length] {
         Right::step(&mut state, &mut cache, &mut memory, call);
     }
-    Bench { state, cache, memory }
+    Judged { state, cache, memory }
 }
 
 #[test]
@@ -366,76 +366,76 @@ fn random_damage() {
     let mut seen = [0u32; 3];
     for seed in 0..3000 {
         let mut rng = Rng::new(seed ^ 0xDA3A_6E00);
-        let mut bench = middle_of_run(seed, &mut rng);
+        let mut judged = middle_of_run(seed, &mut rng);
         for _ in 0..1 + rng.below(2) {
-            damage_at_random(&mut bench, &mut rng);
+            damage_at_random(&mut judged, &mut rng);
         }
-        one_by_one(&bench, seed);
-        match check::refusal(&bench.state, &bench.cache, &bench.memory) {
+        one_by_one(&judged, seed);
+        match check::refusal(&judged.state, &judged.cache, &judged.memory) {
             None => seen[0] += 1,
             Some(1) => seen[1] += 1,
             _ => seen[2] += 1,
         }
         for _ in 0..6 {
-            judged(&bench, odd_call(&mut rng), seed);
+            check_call(&judged, odd_call(&mut rng), seed);
         }
     }
     assert!(seen.iter().all(|count| *count > 200), "{seen:?}");
 }
 
 /// Well-formedness is all the clauses one by one, once check 1 has passed.
-fn one_by_one(bench: &Bench, seed: u64) {
-    let Bench { state, cache, memory } = bench;
+fn one_by_one(judged: &Judged, seed: u64) {
+    let Judged { state, cache, memory } = judged;
     if check::figures_agree(state, cache, memory) {
         let all = CLAUSES.iter().all(|(_, clause)| clause(state, cache, memory));
         assert_eq!(check::well_formed(state, cache, memory), all, "seed {seed}");
     }
 }
 
-/// The model's answer on a damaged bench is what the plain rules say.
-fn judged(bench: &Bench, call: Call, seed: u64) {
-    let mut after = bench.clone();
+/// The model's answer on a damaged machine is what the plain rules say.
+fn check_call(judged: &Judged, call: Call, seed: u64) {
+    let mut after = judged.clone();
     let answer = Right::step(&mut after.state, &mut after.cache, &mut after.memory, call);
     let now = Snapshot { state: &after.state, cache: &after.cache, memory: &after.memory };
-    if let Err(what) = rules::judge(bench.snapshot(), call, answer, now) {
+    if let Err(what) = rules::judge(judged.snapshot(), call, answer, now) {
         panic!("seed {seed}, {call:?}: {what}");
     }
 }
 
-/// A bench with rubbish in every field, and figures that often agree.
-fn rubbish(rng: &mut Rng) -> Bench {
-    let mut bench = Bench {
+/// A machine with rubbish in every field, and figures that often agree.
+fn rubbish(rng: &mut Rng) -> Judged {
+    let mut judged = Judged {
         state: State::zero(),
         cache: vec![1; rng.below(300) as usize],
         memory: vec![1; rng.below(300) as usize],
     };
     for _ in 0..400 {
         let number = odd_number(rng);
-        damage_entry(&mut bench, number, rng);
+        damage_entry(&mut judged, number, rng);
     }
-    bench.state.last = odd_number(rng);
-    bench.state.committed = odd_number(rng);
-    bench.state.request = Request::Line(odd_number(rng));
-    (bench.state.sets, bench.state.ways) = (odd_number(rng), odd_number(rng));
-    bench.state.memory_length = odd_number(rng);
+    judged.state.last = odd_number(rng);
+    judged.state.committed = odd_number(rng);
+    judged.state.request = Request::Line(odd_number(rng));
+    (judged.state.sets, judged.state.ways) = (odd_number(rng), odd_number(rng));
+    judged.state.memory_length = odd_number(rng);
     if rng.one_in(2) {
         let (sets, ways) = (rng.pick(&[1, 2, 4, 64]), 1 + rng.below(4) as u32);
-        (bench.state.sets, bench.state.ways) = (sets, ways);
-        bench.cache.resize((sets * ways * 16) as usize, 1);
-        bench.state.memory_length = 64;
-        bench.memory.resize(64, 1);
+        (judged.state.sets, judged.state.ways) = (sets, ways);
+        judged.cache.resize((sets * ways * 16) as usize, 1);
+        judged.state.memory_length = 64;
+        judged.memory.resize(64, 1);
     }
-    bench
+    judged
 }
 
 #[test]
 fn rubbish_is_refused() {
     for seed in 0..2000 {
         let mut rng = Rng::new(seed ^ 0x0B15);
-        let bench = rubbish(&mut rng);
-        broken(&bench);
+        let judged = rubbish(&mut rng);
+        broken(&judged);
         for _ in 0..4 {
-            judged(&bench, odd_call(&mut rng), seed);
+            check_call(&judged, odd_call(&mut rng), seed);
         }
     }
 }

@@ -1,11 +1,11 @@
 //! The worked script and every bench example of the paper.
 
-mod bench;
+mod judged;
 
-use bench::{value, Bench};
 use compare::check;
 use compare::script;
 use compare::types::{Answer, Request};
+use judged::{value, Judged};
 
 #[test]
 fn worked_script() {
@@ -17,31 +17,31 @@ fn worked_script() {
 
 #[test]
 fn two_stores_give_one_value() {
-    let mut bench = Bench::new(1, 1, 32);
-    bench.store(4, 2, 43707);
-    bench.store(5, 1, 17);
-    assert_eq!(bench.load(4, 2), value(3, 4539));
+    let mut judged = Judged::new(1, 1, 32);
+    judged.store(4, 2, 43707);
+    judged.store(5, 1, 17);
+    assert_eq!(judged.load(4, 2), value(3, 4539));
 }
 
 #[test]
 fn address_52_of_two_sets() {
-    let mut bench = Bench::new(2, 1, 64);
-    bench.bring(3);
-    assert!(bench.state.tags[1].valid);
-    assert_eq!(bench.state.tags[1].line, 3);
-    assert!(!bench.state.tags[0].valid);
-    let number = bench.state.last + 1;
-    assert_eq!(bench.load(52, 1), value(number, 53));
+    let mut judged = Judged::new(2, 1, 64);
+    judged.bring(3);
+    assert!(judged.state.tags[1].valid);
+    assert_eq!(judged.state.tags[1].line, 3);
+    assert!(!judged.state.tags[0].valid);
+    let number = judged.state.last + 1;
+    assert_eq!(judged.load(52, 1), value(number, 53));
 }
 
-/// A bench with h 2 and last 4.
-fn two_of_four() -> Bench {
-    let mut bench = Bench::new(1, 1, 32);
+/// A machine with h 2 and last 4.
+fn two_of_four() -> Judged {
+    let mut judged = Judged::new(1, 1, 32);
     for at in 0..4 {
-        bench.store(at, 1, at);
+        judged.store(at, 1, at);
     }
-    bench.commit(2);
-    bench
+    judged.commit(2);
+    judged
 }
 
 #[test]
@@ -66,86 +66,86 @@ fn commits_at_h_2_last_4() {
 
 #[test]
 fn words_at_the_end_of_memory() {
-    let mut bench = Bench::new(1, 1, 32);
-    assert_eq!(bench.load(28, 4), Answer::Waits(1));
-    assert_eq!(bench.load(30, 4), Answer::Refused(3));
-    assert_eq!(bench.load(32, 4), Answer::Refused(4));
+    let mut judged = Judged::new(1, 1, 32);
+    assert_eq!(judged.load(28, 4), Answer::Waits(1));
+    assert_eq!(judged.load(30, 4), Answer::Refused(3));
+    assert_eq!(judged.load(32, 4), Answer::Refused(4));
     assert_eq!(check::access(32, 28, 4), None);
-    assert_eq!(bench.store(28, 4, 0), Answer::Stored(2));
-    assert_eq!(bench.store(30, 4, 0), Answer::Refused(3));
-    assert_eq!(bench.store(32, 4, 0), Answer::Refused(4));
+    assert_eq!(judged.store(28, 4, 0), Answer::Stored(2));
+    assert_eq!(judged.store(30, 4, 0), Answer::Refused(3));
+    assert_eq!(judged.store(32, 4, 0), Answer::Refused(4));
 }
 
 #[test]
 fn byte_values() {
-    let mut bench = Bench::new(1, 1, 32);
-    assert_eq!(bench.store(0, 1, 255), Answer::Stored(1));
-    assert_eq!(bench.store(0, 1, 256), Answer::Refused(5));
+    let mut judged = Judged::new(1, 1, 32);
+    assert_eq!(judged.store(0, 1, 255), Answer::Stored(1));
+    assert_eq!(judged.store(0, 1, 256), Answer::Refused(5));
 }
 
 #[test]
 fn older_load_before_younger_store() {
-    let mut bench = Bench::new(1, 1, 32);
-    assert_eq!(bench.load(0, 1), Answer::Waits(1));
-    assert_eq!(bench.store(0, 1, 99), Answer::Stored(2));
-    bench.commit(2);
-    assert_eq!(bench.idle(), Answer::Requested(0));
-    assert_eq!(bench.reply(), Answer::Filled(0));
-    assert_eq!(bench.idle(), Answer::Idle);
-    assert_eq!(bench.retry(1), value(1, 1));
-    assert_eq!(bench.idle(), Answer::Drained(2));
+    let mut judged = Judged::new(1, 1, 32);
+    assert_eq!(judged.load(0, 1), Answer::Waits(1));
+    assert_eq!(judged.store(0, 1, 99), Answer::Stored(2));
+    judged.commit(2);
+    assert_eq!(judged.idle(), Answer::Requested(0));
+    assert_eq!(judged.reply(), Answer::Filled(0));
+    assert_eq!(judged.idle(), Answer::Idle);
+    assert_eq!(judged.retry(1), value(1, 1));
+    assert_eq!(judged.idle(), Answer::Drained(2));
 }
 
 #[test]
 fn used_line_stays() {
-    let mut bench = Bench::new(1, 2, 48);
-    bench.bring(0);
-    bench.bring(1);
-    let number = bench.state.last + 1;
-    assert_eq!(bench.load(0, 1), value(number, 1));
-    bench.commit(number);
-    bench.bring(2);
-    assert_eq!(bench.shown(0).len(), 16);
-    assert!(bench.shown(16).is_empty());
-    assert_eq!(bench.shown(32), &bench.memory[32..48]);
+    let mut judged = Judged::new(1, 2, 48);
+    judged.bring(0);
+    judged.bring(1);
+    let number = judged.state.last + 1;
+    assert_eq!(judged.load(0, 1), value(number, 1));
+    judged.commit(number);
+    judged.bring(2);
+    assert_eq!(judged.shown(0).len(), 16);
+    assert!(judged.shown(16).is_empty());
+    assert_eq!(judged.shown(32), &judged.memory[32..48]);
 }
 
 #[test]
 fn queues_fill_up() {
-    let mut bench = Bench::new(1, 1, 32);
+    let mut judged = Judged::new(1, 1, 32);
     for number in 1..=16 {
-        assert_eq!(bench.store(0, 1, 1), Answer::Stored(number));
+        assert_eq!(judged.store(0, 1, 1), Answer::Stored(number));
     }
-    assert_eq!(bench.store(0, 1, 1), Answer::Refused(11));
+    assert_eq!(judged.store(0, 1, 1), Answer::Refused(11));
     for number in 17..=24 {
-        assert_eq!(bench.load(16, 1), Answer::Waits(number));
+        assert_eq!(judged.load(16, 1), Answer::Waits(number));
     }
-    assert_eq!(bench.load(16, 1), Answer::Refused(12));
+    assert_eq!(judged.load(16, 1), Answer::Refused(12));
 }
 
 #[test]
 fn dirty_line_is_written_first() {
-    let mut bench = Bench::new(1, 1, 32);
-    bench.store(3, 1, 200);
-    bench.commit(1);
-    assert_eq!(bench.idle(), Answer::Requested(0));
-    assert_eq!(bench.reply(), Answer::Filled(0));
-    assert_eq!(bench.idle(), Answer::Drained(1));
-    assert_eq!(bench.memory[3], 4);
-    bench.bring(1);
-    assert_eq!(bench.memory[3], 200);
-    assert_eq!(bench.shown(16), &bench.memory[16..32]);
+    let mut judged = Judged::new(1, 1, 32);
+    judged.store(3, 1, 200);
+    judged.commit(1);
+    assert_eq!(judged.idle(), Answer::Requested(0));
+    assert_eq!(judged.reply(), Answer::Filled(0));
+    assert_eq!(judged.idle(), Answer::Drained(1));
+    assert_eq!(judged.memory[3], 4);
+    judged.bring(1);
+    assert_eq!(judged.memory[3], 200);
+    assert_eq!(judged.shown(16), &judged.memory[16..32]);
 }
 
 #[test]
 fn aborted_load_leaves_the_line() {
-    let mut bench = Bench::new(1, 1, 32);
-    bench.bring(0);
-    let before = bench.clone();
-    assert_eq!(bench.load(16, 1), Answer::Waits(2));
-    assert_eq!(bench.idle(), Answer::Idle);
-    assert_eq!(bench.state.request, Request::Free);
-    assert_eq!(bench.abort(2), Answer::Kept(1));
-    assert_eq!(bench, before);
-    assert_eq!(bench.load(0, 1), value(2, 1));
+    let mut judged = Judged::new(1, 1, 32);
+    judged.bring(0);
+    let before = judged.clone();
+    assert_eq!(judged.load(16, 1), Answer::Waits(2));
+    assert_eq!(judged.idle(), Answer::Idle);
+    assert_eq!(judged.state.request, Request::Free);
+    assert_eq!(judged.abort(2), Answer::Kept(1));
+    assert_eq!(judged, before);
+    assert_eq!(judged.load(0, 1), value(2, 1));
 }

@@ -1,10 +1,10 @@
 //! Every refusal and the order of refusals: all the conditions that can hold at
 //! once are made to hold together, and the first in the paper's order wins.
 
-mod bench;
+mod judged;
 
-use bench::Bench;
 use compare::types::{Answer, Call, LoadEntry, Part, State, StoreEntry};
+use judged::Judged;
 
 /// Every list of some of the numbers, in their order.
 fn subsets(numbers: &[u32]) -> Vec<Vec<u32>> {
@@ -20,27 +20,27 @@ fn subsets(numbers: &[u32]) -> Vec<Vec<u32>> {
 }
 
 /// Makes the state refuse by 13, 11 or 12, and last by 10 and 1.
-fn spoil(bench: &mut Bench, bad: &[u32]) {
+fn spoil(judged: &mut Judged, bad: &[u32]) {
     let has = |no| bad.contains(&no);
     if has(13) {
-        bench.state.last = u32::MAX;
+        judged.state.last = u32::MAX;
     }
     let first = if has(13) { u32::MAX - 15 } else { 1 };
     for place in 0..if has(11) { 16 } else { 0 } {
         let number = first + place as u32;
-        bench.state.stores[place] = StoreEntry { number, address: 0, width: 1, value: 1 };
-        bench.state.last = bench.state.last.max(number);
+        judged.state.stores[place] = StoreEntry { number, address: 0, width: 1, value: 1 };
+        judged.state.last = judged.state.last.max(number);
     }
     for place in 0..if has(12) { 8 } else { 0 } {
         let number = first + place as u32;
-        bench.state.loads[place] = LoadEntry { number, address: 0, width: 1, answered: false };
-        bench.state.last = bench.state.last.max(number);
+        judged.state.loads[place] = LoadEntry { number, address: 0, width: 1, answered: false };
+        judged.state.last = judged.state.last.max(number);
     }
     if has(10) {
-        bench.state.tags[200].age = 1;
+        judged.state.tags[200].age = 1;
     }
     if has(1) {
-        bench.memory.push(0);
+        judged.memory.push(0);
     }
 }
 
@@ -55,13 +55,13 @@ fn access(bad: &[u32]) -> (u32, u32, u32) {
 }
 
 /// A refusal of the first number, or an accepted call, and nothing else.
-fn expect(mut bench: Bench, call: Call, bad: &[u32]) {
-    let before = bench.clone();
-    let answer = bench.call(call);
+fn expect(mut judged: Judged, call: Call, bad: &[u32]) {
+    let before = judged.clone();
+    let answer = judged.call(call);
     match bad.first() {
         Some(no) => {
             assert_eq!(answer, Answer::Refused(*no), "{call:?} {bad:?}");
-            assert_eq!(bench, before, "{call:?} {bad:?}");
+            assert_eq!(judged, before, "{call:?} {bad:?}");
         }
         None => assert!(answer.accepted(), "{call:?} {answer:?}"),
     }
@@ -70,34 +70,34 @@ fn expect(mut bench: Bench, call: Call, bad: &[u32]) {
 #[test]
 fn store_refusals_in_order() {
     for bad in subsets(&[1, 10, 2, 3, 4, 5, 13, 11]) {
-        let mut bench = Bench::new(1, 1, 32);
-        spoil(&mut bench, &bad);
+        let mut judged = Judged::new(1, 1, 32);
+        spoil(&mut judged, &bad);
         let (address, width, value) = access(&bad);
         let call = Call::Store { address, width, value };
-        expect(bench, call, &bad);
+        expect(judged, call, &bad);
     }
 }
 
 #[test]
 fn load_refusals_in_order() {
     for bad in subsets(&[1, 10, 2, 3, 4, 13, 12]) {
-        let mut bench = Bench::new(1, 1, 32);
-        spoil(&mut bench, &bad);
+        let mut judged = Judged::new(1, 1, 32);
+        spoil(&mut judged, &bad);
         let (address, width, _) = access(&bad);
-        expect(bench, Call::Load { address, width }, &bad);
+        expect(judged, Call::Load { address, width }, &bad);
     }
 }
 
-/// A bench with h 1 and last 3, whose load 1 waits, whose store 2 is held and
+/// A machine with h 1 and last 3, whose load 1 waits, whose store 2 is held and
 /// whose load 3 is answered; the register names line 1.
-fn busy() -> Bench {
-    let mut bench = Bench::new(1, 1, 48);
-    bench.load(16, 1);
-    bench.store(0, 1, 7);
-    bench.load(0, 1);
-    bench.commit(1);
-    bench.idle();
-    bench
+fn busy() -> Judged {
+    let mut judged = Judged::new(1, 1, 48);
+    judged.load(16, 1);
+    judged.store(0, 1, 7);
+    judged.load(0, 1);
+    judged.commit(1);
+    judged.idle();
+    judged
 }
 
 #[test]
@@ -112,29 +112,29 @@ fn other_refusals_in_order() {
 /// A call with a number: good numbers, and bad ones that add a refusal.
 fn expect_others(bad: &[u32], no: u32, good: &[u32], wrong: &[u32], call: fn(u32) -> Call) {
     for &number in good {
-        let mut bench = busy();
-        spoil(&mut bench, bad);
-        expect(bench, call(number), bad);
+        let mut judged = busy();
+        spoil(&mut judged, bad);
+        expect(judged, call(number), bad);
     }
     for &number in wrong {
-        let mut bench = busy();
-        spoil(&mut bench, bad);
+        let mut judged = busy();
+        spoil(&mut judged, bad);
         let with: Vec<u32> = bad.iter().copied().chain([no]).collect();
-        expect(bench, call(number), &with);
+        expect(judged, call(number), &with);
     }
 }
 
 #[test]
 fn idle_reply_and_flush_refusals_in_order() {
     for bad in subsets(&[1, 10]) {
-        let spoilt = |mut bench: Bench| {
-            spoil(&mut bench, &bad);
-            bench
+        let spoilt = |mut judged: Judged| {
+            spoil(&mut judged, &bad);
+            judged
         };
         let with = |no| bad.iter().copied().chain([no]).collect::<Vec<u32>>();
         expect(spoilt(busy()), Call::Idle, &bad);
         expect(spoilt(busy()), Call::Reply, &bad);
-        expect(spoilt(Bench::new(1, 1, 32)), Call::Reply, &with(17));
+        expect(spoilt(Judged::new(1, 1, 32)), Call::Reply, &with(17));
         expect(spoilt(busy()), Call::Flush, &bad);
         let mut committed = busy();
         committed.commit(2);
@@ -144,23 +144,23 @@ fn idle_reply_and_flush_refusals_in_order() {
 
 #[test]
 fn show_line_names_no_refusal() {
-    let mut bench = Bench::new(2, 2, 64);
-    bench.bring(1);
-    bench.bring(3);
-    let shown = |bench: &Bench, address| {
-        let mut bench = bench.clone();
-        bench.call(Call::ShowLine { address })
+    let mut judged = Judged::new(2, 2, 64);
+    judged.bring(1);
+    judged.bring(3);
+    let shown = |judged: &Judged, address| {
+        let mut judged = judged.clone();
+        judged.call(Call::ShowLine { address })
     };
     let part = |place, length| Answer::Shown(Part { place, length });
     for address in 16..32 {
-        assert_eq!(shown(&bench, address), part(32, 16));
+        assert_eq!(shown(&judged, address), part(32, 16));
     }
-    assert_eq!(shown(&bench, 63), part(48, 16));
+    assert_eq!(shown(&judged, 63), part(48, 16));
     for address in [0, 47, 64, 80, u32::MAX] {
-        assert_eq!(shown(&bench, address), part(0, 0));
+        assert_eq!(shown(&judged, address), part(0, 0));
     }
     for bad in [1, 10] {
-        let mut spoilt = bench.clone();
+        let mut spoilt = judged.clone();
         spoil(&mut spoilt, &[bad]);
         assert_eq!(shown(&spoilt, 16), part(0, 0));
         assert!(spoilt.shown(16).is_empty());
@@ -187,37 +187,37 @@ fn start_refuses_by_1_alone() {
 
 /// A start over a state that holds rubbish, judged; refused, it leaves all zero.
 fn start_with(sets: u32, ways: u32, cache: usize, memory: usize) {
-    let mut bench = Bench { state: busy().state, cache: vec![9; cache], memory: vec![9; memory] };
+    let mut judged = Judged { state: busy().state, cache: vec![9; cache], memory: vec![9; memory] };
     let allowed = [1, 2, 4, 8, 16, 32, 64].contains(&sets)
         && (1..=4).contains(&ways)
         && [16, 32, 65536].contains(&memory)
         && cache == (sets * ways * 16) as usize;
-    let answer = bench.call(Call::Start { sets, ways });
+    let answer = judged.call(Call::Start { sets, ways });
     if allowed {
         assert_eq!(answer, Answer::Ready);
-        assert_eq!(bench.memory, vec![9; memory]);
+        assert_eq!(judged.memory, vec![9; memory]);
     } else {
         assert_eq!(answer, Answer::Refused(1), "{sets} {ways} {cache} {memory}");
-        assert_eq!(bench.state, State::zero());
-        assert_eq!(bench.cache, vec![9; cache]);
-        assert_eq!(bench.call(Call::Idle), Answer::Refused(1));
-        assert_eq!(bench.call(Call::ShowLine { address: 0 }), Answer::Shown(Part::default()));
+        assert_eq!(judged.state, State::zero());
+        assert_eq!(judged.cache, vec![9; cache]);
+        assert_eq!(judged.call(Call::Idle), Answer::Refused(1));
+        assert_eq!(judged.call(Call::ShowLine { address: 0 }), Answer::Shown(Part::default()));
     }
 }
 
 #[test]
 fn numbers_end_at_the_last_one() {
-    let mut bench = Bench::new(1, 1, 32);
-    bench.state.last = u32::MAX - 2;
-    bench.state.committed = u32::MAX - 2;
-    assert_eq!(bench.store(0, 1, 1), Answer::Stored(u32::MAX - 1));
-    assert_eq!(bench.load(0, 1), bench::value(u32::MAX, 1));
-    assert_eq!(bench.load(0, 1), Answer::Refused(13));
-    assert_eq!(bench.store(0, 1, 1), Answer::Refused(13));
-    assert_eq!(bench.abort(u32::MAX - 2), Answer::Refused(16));
-    assert_eq!(bench.clone().abort(u32::MAX - 1), Answer::Kept(u32::MAX - 2));
-    assert_eq!(bench.abort(u32::MAX), Answer::Kept(u32::MAX - 1));
-    assert_eq!(bench.store(1, 1, 2), Answer::Stored(u32::MAX));
-    assert_eq!(bench.commit(u32::MAX), Answer::Committed(u32::MAX));
-    assert_eq!(bench.abort(u32::MAX), Answer::Refused(16));
+    let mut judged = Judged::new(1, 1, 32);
+    judged.state.last = u32::MAX - 2;
+    judged.state.committed = u32::MAX - 2;
+    assert_eq!(judged.store(0, 1, 1), Answer::Stored(u32::MAX - 1));
+    assert_eq!(judged.load(0, 1), judged::value(u32::MAX, 1));
+    assert_eq!(judged.load(0, 1), Answer::Refused(13));
+    assert_eq!(judged.store(0, 1, 1), Answer::Refused(13));
+    assert_eq!(judged.abort(u32::MAX - 2), Answer::Refused(16));
+    assert_eq!(judged.clone().abort(u32::MAX - 1), Answer::Kept(u32::MAX - 2));
+    assert_eq!(judged.abort(u32::MAX), Answer::Kept(u32::MAX - 1));
+    assert_eq!(judged.store(1, 1, 2), Answer::Stored(u32::MAX));
+    assert_eq!(judged.commit(u32::MAX), Answer::Committed(u32::MAX));
+    assert_eq!(judged.abort(u32::MAX), Answer::Refused(16));
 }

@@ -6,6 +6,8 @@
 
 #[path = "../tests/beside/mod.rs"]
 mod beside;
+#[path = "../tests/numbered/mod.rs"]
+mod numbered;
 
 use std::hint::black_box;
 use std::ops::Range;
@@ -70,7 +72,7 @@ trait Machine: Clone {
 /// A call of the library.
 #[derive(Clone, Copy)]
 enum Made {
-    Start(u32, u32),
+    Start(nicoisetarn::Figures),
     Call(nicoisetarn::Call),
     /// A number that no call has.
     NoCall,
@@ -82,7 +84,7 @@ impl Machine for Image {
     fn call_of(call: Call) -> Made {
         match (call, beside::call_of(call)) {
             (_, Some(call)) => Made::Call(call),
-            (Call::Start { sets, ways }, None) => Made::Start(sets, ways),
+            (Call::Start { sets, ways }, None) => Made::Start(nicoisetarn::Figures { sets, ways }),
             (_, None) => Made::NoCall,
         }
     }
@@ -93,9 +95,16 @@ impl Machine for Image {
 
     fn step(&mut self, cache: &mut [u8], memory: &mut [u8], call: Made) -> bool {
         match call {
-            Made::Start(sets, ways) => black_box(self.restart(sets, ways, cache, memory)).is_ok(),
-            Made::Call(call) => black_box(self.call(cache, memory, call)).accepted(),
-            Made::NoCall => black_box(self.call_numbered(cache, memory, 9, [0; 3])).accepted(),
+            Made::Start(figures) => black_box(self.restart(figures, cache, memory)).is_ok(),
+            Made::Call(nicoisetarn::Call::ShowLine(address)) => {
+                black_box(self.show_line(cache, memory, address));
+                true
+            }
+            Made::Call(call) => black_box(self.call(cache, memory, call)).is_ok(),
+            Made::NoCall => {
+                let told = black_box(numbered::step(self, cache, memory, 9, [0; 3]));
+                told != numbered::NO_SUCH_CALL
+            }
         }
     }
 }

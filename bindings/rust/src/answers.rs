@@ -2,27 +2,28 @@
 
 use std::fmt;
 
-use crate::boundary::Reply;
+use crate::boundary::{self, AnswerImage};
 
-/// Why a call was refused, with the scope paper's number. They are looked for in
-/// the order 6, 1, 10, 2, 3, 4, 5, 13, then 11 or 12, or one of 14 to 18.
+/// Why a call was refused, with the scope paper's number. A refused call has
+/// changed nothing.
+///
+/// The first that applies is given, in the order 1, 10, 2, 3, 4, 5, 13, then 11 or
+/// 12; each of 14 to 18 follows 10. (6 is the script player's.)
 #[derive(Clone, Copy, Debug, PartialEq, Eq, Hash)]
 #[repr(u32)]
 pub enum Refusal {
     /// Sets, ways or a length is not allowed, or a lent length disagrees with the image.
-    Lengths = 1,
-    /// The width is not 1, 2 or 4.
+    Figures = 1,
+    /// Load or store: the width is not 1, 2 or 4.
     Width = 2,
-    /// The address is not a multiple of the width.
+    /// Load or store: the address is not a multiple of the width.
     Alignment = 3,
-    /// Address + width exceeds the memory length.
+    /// Load or store: address + width exceeds the memory length.
     Address = 4,
-    /// The stored value needs more bytes than the width has.
+    /// Store: the value is 256 to the power width or more.
     Value = 5,
-    /// There is no call of that number.
-    Call = 6,
-    /// The image with its cache and memory is not well formed.
-    Image = 10,
+    /// The state is not well formed: it was damaged, or never started.
+    State = 10,
     /// Store: 16 are held.
     StoresFull = 11,
     /// Load: 8 are listed.
@@ -35,7 +36,7 @@ pub enum Refusal {
     Commit = 15,
     /// Abort: the number is at most the committed one, or above last + 1.
     Abort = 16,
-    /// Reply: the request register is free.
+    /// Reply: the miss register is free.
     NoRequest = 17,
     /// Flush: a committed store is held.
     Flush = 18,
@@ -43,14 +44,13 @@ pub enum Refusal {
 
 impl Refusal {
     /// All refusals, by rising numbers.
-    pub const ALL: [Refusal; 15] = [
-        Refusal::Lengths,
+    pub const ALL: [Refusal; 14] = [
+        Refusal::Figures,
         Refusal::Width,
         Refusal::Alignment,
         Refusal::Address,
         Refusal::Value,
-        Refusal::Call,
-        Refusal::Image,
+        Refusal::State,
         Refusal::StoresFull,
         Refusal::LoadsFull,
         Refusal::Numbers,
@@ -70,21 +70,42 @@ impl Refusal {
     pub fn of_number(number: u32) -> Option<Refusal> {
         Refusal::ALL.into_iter().find(|refusal| refusal.number() == number)
     }
+
+    /// When it is given, in the scope paper's words.
+    pub const fn reason(self) -> &'static str {
+        match self {
+            Refusal::Figures => {
+                "sets, ways, memory or cache length is not allowed, \
+                 or a lent length disagrees with the state"
+            }
+            Refusal::Width => "width is not 1, 2 or 4",
+            Refusal::Alignment => "address is not a multiple of width",
+            Refusal::Address => "address + width exceeds memory length",
+            Refusal::Value => "a stored value is 256 to the power width or more",
+            Refusal::State => "state not well formed",
+            Refusal::StoresFull => "store: 16 are held",
+            Refusal::LoadsFull => "load: 8 are listed",
+            Refusal::Numbers => "load or store: last is 4294967295",
+            Refusal::Retry => "inquiry: no waiting load of that number",
+            Refusal::Commit => "commit: k is below h or above last",
+            Refusal::Abort => "abort: n is at most h or above last + 1",
+            Refusal::NoRequest => "reply: register free",
+            Refusal::Flush => "flush: a committed store is held",
+        }
+    }
 }
 
 impl fmt::Display for Refusal {
     fn fmt(&self, f: &mut fmt::Formatter) -> fmt::Result {
-        write!(f, "refused {}", self.number())
+        write!(f, "refused {}: {}", self.number(), self.reason())
     }
 }
 
 impl std::error::Error for Refusal {}
 
-/// What a call answers.
+/// What an accepted call answers.
 #[derive(Clone, Copy, Debug, PartialEq, Eq, Hash)]
 pub enum Answer {
-    /// The call has changed nothing.
-    Refused(Refusal),
     /// The store's number.
     Stored(u32),
     /// A load or a retry has its value.
@@ -96,17 +117,17 @@ pub enum Answer {
     },
     /// The number of a load that waits.
     Waits(u32),
-    /// The committed number now in force.
+    /// The committed number that is in force.
     Committed(u32),
-    /// The last number now in force.
+    /// The last number that is in force.
     Kept(u32),
     /// The number of the store that was written to the cache.
     Drained(u32),
-    /// The first address of the line now requested.
+    /// The first address of the requested line.
     Requested(u32),
     /// An idle call had nothing to do.
     Idle,
-    /// The first address of the line now present.
+    /// The first address of the line that was filled.
     Filled(u32),
     /// The lines written to memory.
     Flushed(u32),
@@ -121,32 +142,26 @@ pub enum Answer {
     Ready,
 }
 
-impl Answer {
-    /// Accepted: no refusal.
-    pub fn accepted(self) -> bool {
-        !matches!(self, Answer::Refused(_))
-    }
-
-    /// The answer that a reply of the library stands for.
-    pub(crate) fn of(reply: Reply) -> Answer {
-        let Reply { kind, first, second } = reply;
-        match kind {
-            0 => Answer::Refused(refusal_of(first)),
-            1 => Answer::Stored(first),
-            2 => Answer::Value { number: first, value: second },
-            3 => Answer::Waits(first),
-            4 => Answer::Committed(first),
-            5 => Answer::Kept(first),
-            6 => Answer::Drained(first),
-            7 => Answer::Requested(first),
-            8 => Answer::Idle,
-            9 => Answer::Filled(first),
-            10 => Answer::Flushed(first),
-            11 => Answer::Shown { place: first, length: second },
-            12 => Answer::Ready,
-            _ => panic!("the library has no reply of kind {kind}"),
-        }
-    }
+/// What an answer of the library stands for.
+pub(crate) fn told(answer: AnswerImage) -> Result<Answer, Refusal> {
+    let AnswerImage { kind, first, second } = answer;
+    Ok(match kind {
+        boundary::KIND_REFUSED => return Err(refusal_of(first)),
+        boundary::KIND_STORED => Answer::Stored(first),
+        boundary::KIND_VALUE => Answer::Value { number: first, value: second },
+        boundary::KIND_WAITS => Answer::Waits(first),
+        boundary::KIND_COMMITTED => Answer::Committed(first),
+        boundary::KIND_KEPT => Answer::Kept(first),
+        boundary::KIND_DRAINED => Answer::Drained(first),
+        boundary::KIND_REQUEST => Answer::Requested(first),
+        boundary::KIND_IDLE => Answer::Idle,
+        boundary::KIND_FILLED => Answer::Filled(first),
+        boundary::KIND_FLUSHED => Answer::Flushed(first),
+        boundary::KIND_SHOWN => Answer::Shown { place: first, length: second },
+        boundary::KIND_READY => Answer::Ready,
+        // "No such call" among them: this crate makes only calls that there are.
+        _ => panic!("the library answers no call of this crate by kind {kind}"),
+    })
 }
 
 /// The refusal of a number that the library gave.

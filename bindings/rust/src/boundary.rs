@@ -1,27 +1,53 @@
-//! The two functions of the library, made safe, and images as bytes. All the
-//! unsafe code of this crate stands here.
+//! The functions of the library, made safe, its numbers, and images as bytes. All
+//! the unsafe code of this crate stands here.
 
 use std::mem::{align_of, offset_of, size_of, transmute};
 
 use crate::image::Image;
 
-/// What a call answers, as the library lays it out.
+// Kinds of answers.
+pub const KIND_REFUSED: u32 = 0;
+pub const KIND_STORED: u32 = 1;
+pub const KIND_VALUE: u32 = 2;
+pub const KIND_WAITS: u32 = 3;
+pub const KIND_COMMITTED: u32 = 4;
+pub const KIND_KEPT: u32 = 5;
+pub const KIND_DRAINED: u32 = 6;
+pub const KIND_REQUEST: u32 = 7;
+pub const KIND_IDLE: u32 = 8;
+pub const KIND_FILLED: u32 = 9;
+pub const KIND_FLUSHED: u32 = 10;
+pub const KIND_SHOWN: u32 = 11;
+pub const KIND_READY: u32 = 12;
+
+// Calls by their numbers.
+pub const CALL_LOAD: u32 = 0;
+pub const CALL_STORE: u32 = 1;
+pub const CALL_RETRY: u32 = 2;
+pub const CALL_COMMIT: u32 = 3;
+pub const CALL_ABORT: u32 = 4;
+pub const CALL_IDLE: u32 = 5;
+pub const CALL_REPLY: u32 = 6;
+pub const CALL_FLUSH: u32 = 7;
+pub const CALL_SHOW_LINE: u32 = 8;
+
+/// An answer, as the library lays it out.
 #[derive(Clone, Copy, Debug)]
 #[repr(C)]
-pub struct Reply {
+pub struct AnswerImage {
     pub kind: u32,
     pub first: u32,
     pub second: u32,
 }
 
 const _: () = {
-    assert!(size_of::<Reply>() == 12 && align_of::<Reply>() == 4);
-    assert!(offset_of!(Reply, kind) == 0);
-    assert!(offset_of!(Reply, first) == 4 && offset_of!(Reply, second) == 8);
+    assert!(size_of::<AnswerImage>() == 12 && align_of::<AnswerImage>() == 4);
+    assert!(offset_of!(AnswerImage, kind) == 0);
+    assert!(offset_of!(AnswerImage, first) == 4 && offset_of!(AnswerImage, second) == 8);
 };
 
 extern "C" {
-    fn nicoisetarn_start(
+    fn nicoisetarn_start_in(
         image: *mut Image,
         sets: u32,
         ways: u32,
@@ -29,9 +55,9 @@ extern "C" {
         cache_length: usize,
         memory: *const u8,
         memory_length: usize,
-    ) -> Reply;
+    ) -> AnswerImage;
 
-    fn nicoisetarn_step(
+    fn nicoisetarn_step_in(
         image: *mut Image,
         call: u32,
         x: u32,
@@ -41,26 +67,32 @@ extern "C" {
         cache_length: usize,
         memory: *mut u8,
         memory_length: usize,
-    ) -> Reply;
+    ) -> AnswerImage;
+
+    fn nicoisetarn_show_line_in(
+        image: *const Image,
+        address: u32,
+        cache: *const u8,
+        cache_length: usize,
+        memory: *const u8,
+        memory_length: usize,
+    ) -> AnswerImage;
 }
 
 /// A start on an image.
-pub fn start(image: &mut Image, sets: u32, ways: u32, cache: &mut [u8], memory: &[u8]) -> Reply {
+pub fn start(
+    image: &mut Image,
+    sets: u32,
+    ways: u32,
+    cache: &mut [u8],
+    memory: &[u8],
+) -> AnswerImage {
     let (cache_length, memory_length) = (cache.len(), memory.len());
+    let (cache, memory) = (cache.as_mut_ptr(), memory.as_ptr());
     // SAFETY: the three references are live and not null, and do not overlap, as
     // two of them are exclusive; each slice goes with its own length; the library
     // reads the memory only and keeps no pointer; any bytes are an image.
-    unsafe {
-        nicoisetarn_start(
-            image,
-            sets,
-            ways,
-            cache.as_mut_ptr(),
-            cache_length,
-            memory.as_ptr(),
-            memory_length,
-        )
-    }
+    unsafe { nicoisetarn_start_in(image, sets, ways, cache, cache_length, memory, memory_length) }
 }
 
 /// A call by its number on an image.
@@ -70,14 +102,24 @@ pub fn step(
     operands: [u32; 3],
     cache: &mut [u8],
     memory: &mut [u8],
-) -> Reply {
+) -> AnswerImage {
     let [x, y, z] = operands;
     let (cache_length, memory_length) = (cache.len(), memory.len());
     let (cache, memory) = (cache.as_mut_ptr(), memory.as_mut_ptr());
     // SAFETY: the three references are live, not null and exclusive, so they do
     // not overlap; each slice goes with its own length; the library keeps no
     // pointer; any bytes are an image, and it writes whole images only.
-    unsafe { nicoisetarn_step(image, call, x, y, z, cache, cache_length, memory, memory_length) }
+    unsafe { nicoisetarn_step_in(image, call, x, y, z, cache, cache_length, memory, memory_length) }
+}
+
+/// Show line on an image and bytes that are only read.
+pub fn show_line(image: &Image, address: u32, cache: &[u8], memory: &[u8]) -> AnswerImage {
+    let (cache_length, memory_length) = (cache.len(), memory.len());
+    let (cache, memory) = (cache.as_ptr(), memory.as_ptr());
+    // SAFETY: the three references are live and not null, and each slice goes with
+    // its own length; the library only reads them and keeps no pointer; any bytes
+    // are an image.
+    unsafe { nicoisetarn_show_line_in(image, address, cache, cache_length, memory, memory_length) }
 }
 
 /// The image with these bytes.

@@ -6,12 +6,25 @@ use crate::boundary;
 
 /// Bytes of a line.
 pub const LINE: usize = 16;
+/// The most sets that a start may choose.
+pub const MAX_SETS: u32 = 64;
+/// The most ways that a start may choose.
+pub const MAX_WAYS: u32 = 4;
 /// Places of the tag table.
 pub const RECORDS: usize = 256;
 /// Places of the store queue.
 pub const STORES: usize = 16;
 /// Places of the load queue.
 pub const LOADS: usize = 8;
+
+/// The figures that a start chooses.
+#[derive(Clone, Copy, Debug, Default, PartialEq, Eq, Hash)]
+pub struct Figures {
+    /// Sets of the cache: 1, 2, 4, 8, 16, 32 or 64.
+    pub sets: u32,
+    /// Ways of each set: 1 to 4.
+    pub ways: u32,
+}
 
 /// A held store; all zero where the place is free.
 #[derive(Clone, Copy, Debug, Default, PartialEq, Eq, Hash)]
@@ -79,7 +92,7 @@ struct TagImage {
 /// An image goes with its cache and its memory; all three together can be copied
 /// and stored. Any bytes are an image, but one that is not well formed (damaged, or
 /// never started) is refused by every call but a start (show line gives the empty
-/// part), and never repaired.
+/// part), and never repaired. [`Unit`](crate::Unit) holds all three.
 #[derive(Clone, Debug, PartialEq, Eq, Hash)]
 #[repr(C)]
 pub struct Image {
@@ -127,14 +140,9 @@ impl Image {
         boundary::bytes_of(self)
     }
 
-    /// Sets of the cache.
-    pub fn sets(&self) -> u32 {
-        self.sets
-    }
-
-    /// Ways of each set.
-    pub fn ways(&self) -> u32 {
-        self.ways
+    /// Sets and ways of the cache.
+    pub fn figures(&self) -> Figures {
+        Figures { sets: self.sets, ways: self.ways }
     }
 
     /// Bytes of the memory.
@@ -152,7 +160,7 @@ impl Image {
         self.committed
     }
 
-    /// The line that the request register names, or none where it is free.
+    /// The line that the miss register names, or none where it is free.
     pub fn requested(&self) -> Option<u32> {
         (self.requested != 0).then_some(self.line)
     }

@@ -1,25 +1,32 @@
-//! The proved load/store unit for benches in Rust.
+//! The proved load/store unit for benches in Rust: a data cache, a store queue, a
+//! load queue, one miss register and a main memory.
 //!
-//! A bench owns an [`Image`] of the unit's state, the cache bytes and the memory
-//! bytes, and lends all three to each call. The library keeps nothing between
-//! calls. A refused call has changed nothing: image, cache and memory are as
-//! before, byte for byte.
-//!
-//! The cache has exactly sets × ways × 16 bytes; the memory is a multiple of 16
-//! bytes, 16 to 65,536, and as long as it was at the start.
+//! A [`Unit`] owns all that it works on, and has a method for each call. A call
+//! that is refused says why and has changed nothing, byte for byte.
 //!
 //! ```
-//! use nicoisetarn::{Answer, Image, Refusal};
+//! use nicoisetarn::{Answer, Figures, Refusal, Unit};
+//!
+//! let mut unit = Unit::start(Figures { sets: 1, ways: 1 }, vec![0; 32])?;
+//! assert_eq!(unit.store(4, 1, 7)?, Answer::Stored(1));
+//! assert_eq!(unit.load(4, 1)?, Answer::Value { number: 2, value: 7 });
+//! assert_eq!(unit.load(5, 1)?, Answer::Waits(3));
+//! assert_eq!(unit.load(5, 3), Err(Refusal::Width));
+//! assert_eq!((unit.image().last(), unit.image().committed()), (3, 0));
+//! # Ok::<(), Refusal>(())
+//! ```
+//!
+//! A bench with a memory of its own lends it to each call, with the cache bytes and
+//! an [`Image`] of the state. The library keeps nothing between calls.
+//!
+//! ```
+//! use nicoisetarn::{Answer, Call, Figures, Image, Refusal};
 //!
 //! let (mut cache, mut memory) = ([0; 16], [0; 32]);
-//! let mut image = Image::start(1, 1, &mut cache, &memory)?;
-//! assert_eq!(image.store(&mut cache, &mut memory, 4, 1, 7), Answer::Stored(1));
-//! let value = Answer::Value { number: 2, value: 7 };
-//! assert_eq!(image.load(&mut cache, &mut memory, 4, 1), value);
-//! assert_eq!(image.load(&mut cache, &mut memory, 5, 1), Answer::Waits(3));
-//! let refused = Answer::Refused(Refusal::Width);
-//! assert_eq!(image.load(&mut cache, &mut memory, 5, 3), refused);
-//! assert_eq!((image.last(), image.committed()), (3, 0));
+//! let mut image = Image::start(Figures { sets: 1, ways: 1 }, &mut cache, &memory)?;
+//! let stored = image.call(&mut cache, &mut memory, Call::Store(4, 1, 7))?;
+//! assert_eq!(stored, Answer::Stored(1));
+//! assert!(image.show_line(&cache, &memory, 4).bytes.is_empty());
 //! # Ok::<(), Refusal>(())
 //! ```
 
@@ -32,7 +39,11 @@ mod answers;
 mod boundary;
 mod calls;
 mod image;
+mod unit;
 
 pub use answers::{Answer, Refusal};
 pub use calls::{Call, Part};
-pub use image::{HeldStore, Image, ListedLoad, Tag, LINE, LOADS, RECORDS, STORES};
+pub use image::{
+    Figures, HeldStore, Image, ListedLoad, Tag, LINE, LOADS, MAX_SETS, MAX_WAYS, RECORDS, STORES,
+};
+pub use unit::Unit;

@@ -5,12 +5,13 @@
 //! NICOISETARN_TIMES=N in the environment makes N times as many calls.
 
 mod beside;
+mod numbered;
 
 use beside::{each_call, figures_agree, judge, odd_number, stands, times, Bench, Beside};
 use compare::counts::{refused, Counts};
 use compare::random::Rng;
 use compare::types::{Answer, Call};
-use nicoisetarn::{Image, Refusal};
+use nicoisetarn::{Figures, Image, Refusal};
 
 /// Where a damage is done: fields of the image by the place of the first, how
 /// many there are, how far apart and of how many bytes; or what is lent.
@@ -86,7 +87,7 @@ fn places_in_use(image: &Image, places: usize) -> u64 {
     let in_use = match places {
         16 => stores,
         8 => loads,
-        256 => (image.sets() * image.ways()) as usize,
+        256 => (image.figures().sets * image.figures().ways) as usize,
         _ => 0,
     };
     (in_use + 1).min(places) as u64
@@ -127,12 +128,12 @@ fn damage(bench: &mut Bench, field: Field, rng: &mut Rng) {
     }
 }
 
-/// A call number that there is not: refused, whatever the image is.
-fn play_no_call(bench: &mut Bench, rng: &mut Rng) -> Answer {
+/// A number that no call has, whatever the image is.
+fn play_no_call(bench: &mut Bench, rng: &mut Rng) -> numbered::Numbers {
     let call = rng.pick(&[9, 10, 256, u32::MAX]);
     let operands = [rng.word() as u32, rng.word() as u32, 1];
     let Bench { image, cache, memory } = bench;
-    beside::answer_of(image.call_numbered(cache, memory, call, operands))
+    numbered::step(image, cache, memory, call, operands)
 }
 
 /// Plays every call on a bench, each from the beginning; a refused one has left
@@ -153,10 +154,11 @@ fn play_each(bench: &Bench, rng: &mut Rng, counts: &mut Counts) -> Result<Answer
         }
     }
     let answer = play_no_call(&mut beside.library, rng);
-    count(counts, Call::Idle, answer);
-    if answer != Answer::Refused(6) || beside.library != *bench {
-        return Err(format!("a call that there is not: {answer:?}"));
+    counts.calls += 1;
+    if answer != numbered::NO_SUCH_CALL || beside.library != *bench {
+        return Err(format!("a number that no call has: {answer:?}"));
     }
+    counts.met("no such call", true);
     counts.met("image that stands for no state", !stands(&bench.image));
     Ok(idle)
 }
@@ -214,7 +216,7 @@ const NEEDED_OF_FIELDS: [(&str, u64); 19] = [
     ("refused 3", 2_000),
     ("refused 4", 5_000),
     ("refused 5", 5_000),
-    ("refused 6", 20),
+    ("no such call", 20),
     ("refused 10", 10),
     ("refused 11", 10_000),
     ("refused 12", 10_000),
@@ -321,7 +323,7 @@ fn random_images() {
         ("state, refused 1", 120),
         ("state, refused 10", 60),
         ("accepted start", 200),
-        ("refused 6", 20),
+        ("no such call", 20),
     ];
     judge("random images", &counts, &needed);
 }
@@ -365,14 +367,15 @@ fn lengths_beyond_32_bits() {
         return;
     }
     let (mut cache, mut memory) = (vec![0; 32], vec![0; 32]);
-    let mut image = Image::start(2, 1, &mut cache, &memory).unwrap();
+    let figures = Figures { sets: 2, ways: 1 };
+    let mut image = Image::start(figures, &mut cache, &memory).unwrap();
     let before = image.clone();
-    let refused = nicoisetarn::Answer::Refused(Refusal::Lengths);
+    let load = nicoisetarn::Call::Load(0, 1);
     let mut long = vec![0; beyond];
-    assert_eq!(image.load(&mut long, &mut memory, 0, 1), refused);
-    assert_eq!(image.load(&mut cache, &mut long, 0, 1), refused);
-    assert_eq!(Image::start(2, 1, &mut long, &memory), Err(Refusal::Lengths));
-    assert_eq!(Image::start(2, 1, &mut cache, &long), Err(Refusal::Lengths));
-    assert!(image.show_line(&mut long, &mut memory, 0).bytes.is_empty());
+    assert_eq!(image.call(&mut long, &mut memory, load), Err(Refusal::Figures));
+    assert_eq!(image.call(&mut cache, &mut long, load), Err(Refusal::Figures));
+    assert_eq!(Image::start(figures, &mut long, &memory), Err(Refusal::Figures));
+    assert_eq!(Image::start(figures, &mut cache, &long), Err(Refusal::Figures));
+    assert!(image.show_line(&long, &memory, 0).bytes.is_empty());
     assert_eq!(image, before);
 }

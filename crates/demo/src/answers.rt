@@ -26,6 +26,22 @@ pub(crate) fn is_committed(r: Step, k: u32) -> bool {
     }
 }
 
+pub(crate) fn is_kept(r: Step, k: u32) -> bool {
+    let a = r.answer;
+    match a {
+        Answer::Kept(n) => n == k,
+        _ => false,
+    }
+}
+
+pub(crate) fn is_idle(r: Step) -> bool {
+    let a = r.answer;
+    match a {
+        Answer::Idled => true,
+        _ => false,
+    }
+}
+
 pub(crate) fn is_requested(r: Step, address: u32) -> bool {
     let a = r.answer;
     match a {

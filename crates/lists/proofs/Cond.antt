@@ -1,9 +1,10 @@
 -- Laws of `cond` and of tests.
-use Prim.Native.Nat.{ℕ}
+use Prim.Native.Nat.{ℕ, _≤_, _<_}
 use mathlib.Core.Path.{_≡_, refl, sym, _∙_}
 use mathlib.Core.Bool.{Bool, true, false, cond, _&&_, _||_}
 use native.Mathlib.Omega.{arith}
-use lib.Dec.{T}
+use lib.Dec.{T, leb}
+use borrow.Author.Tests.{le-leb, lt-leb}
 
 -- two choices by equal tests, the first the image of the second
 pub both : {A B : Type 0} (f : B → A) {s t : Bool} {x y : A} {u v : B} → s ≡ t → (t ≡ true → x ≡ f u) → (t ≡ false → y ≡ f v) → cond s x y ≡ f (cond t u v)
@@ -66,3 +67,19 @@ none-or a b e f = rw (e, f)
 -- a test that passes and fails
 pub wrong : {P : Type 0} {t : Bool} → t ≡ true → t ≡ false → P
 wrong p q = let z : true ≡ false = sym p ∙ q in let y : _≡_ {A = ℕ} 0 1 = cc in let no : ⊥ = omega arith in absurd no
+
+-- ---- choices by a test that is known
+
+module _ {A : Type 0} {t : Bool} (x y : A) where
+  pub cond-then : t ≡ true → x ≡ cond t x y
+  cond-then e = rw e
+
+  pub cond-else : t ≡ false → y ≡ cond t x y
+  cond-else e = rw e
+
+module _ {A : Type 0} (n k : ℕ) (x y : A) where
+  pub leb-then : n ≤ k → x ≡ cond (leb n k) x y
+  leb-then h = cond-then x y (le-leb n k h)
+
+  pub leb-else : k < n → y ≡ cond (leb n k) x y
+  leb-else h = cond-else x y (lt-leb n k h)

@@ -1,5 +1,5 @@
 -- The changes of a queue keep its length.
-use Prim.Native.Nat.{suc, _+_}
+use Prim.Native.Nat.{suc}
 use mathlib.Core.Path.{_≡_, refl, _∙_, ap}
 use mathlib.Core.Bool.{Bool}
 use mathlib.Core.List.{List, [], _∷_, _++_}

@@ -65,9 +65,9 @@ module _ {A : Type 0} (p : A → Bool) (d : A) (l : List A) (i : ℕ) where
   unfolding position
   position-end h = rw (rest-none h) (omega arith)
 
-  pub final-step : (x : A) → i < length l → final p x (drop i l) ≡ final p (cond (p (getD l i d)) (getD l i d) x) (drop (i + 1) l)
+  pub final-step : (x y : A) → i < length l → y ≡ cond (p (getD l i d)) (getD l i d) x → final p x (drop i l) ≡ final p y (drop (i + 1) l)
   unfolding final
-  final-step x h = rw (rest-cons h)
+  final-step x y h e = rw (rest-cons h, e)
 
   pub final-end : (x : A) → length l ≤ i → final p x (drop i l) ≡ x
   unfolding final

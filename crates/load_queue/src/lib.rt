@@ -5,28 +5,18 @@ ghost use mathlib.Core.Bool.{cond};
 ghost use Prim.Native.Nat.{_+_, _<_};
 ghost use lib.ListN.{set};
 ghost use Rattle.lists.specs.Padded.{any, first, position, without, placed, changed};
-ghost use Rattle.rules.specs.Shape.{noLoad, isFreeLoad};
+ghost use Rattle.rules.specs.Shape.{loadPlaces, noLoad, isFreeLoad};
 ghost use Rattle.rules.specs.Calls.{waitingAt, answered, answeredBy, youngLoad, waitsBelow};
+use rules::LOAD_PLACES;
 use rules::LoadEntry;
+use rules::NO_LOAD;
 
-// A free place: all zero.
-fn no_load() -> LoadEntry
-    ensures { λ r. ⌜ r ≡ noLoad ⌝ }
-{
-    LoadEntry {
-        number: 0,
-        address: 0,
-        width: 0,
-        waiting: false,
-    }
-}
-
-// The first free place, or 8.
-fn free_load(loads: [LoadEntry; 8]) -> usize
+// The first free place, or the number of places.
+fn free_load(loads: [LoadEntry; LOAD_PLACES]) -> usize
     ensures { λ r. ⌜ r ≡ position isFreeLoad loads ⌝ }
 {
     let mut j: usize = 0;
-    while j < 8 {
+    while j < LOAD_PLACES {
         let l = loads[j];
         if l.number == 0 {
             return j;
@@ -37,18 +27,18 @@ fn free_load(loads: [LoadEntry; 8]) -> usize
 }
 
 // Whether one more load can be listed.
-pub fn has_free_load(loads: [LoadEntry; 8]) -> bool
+pub fn has_free_load(loads: [LoadEntry; LOAD_PLACES]) -> bool
     ensures { λ r. ⌜ r ≡ any isFreeLoad loads ⌝ }
 {
-    free_load(loads) < 8
+    free_load(loads) < LOAD_PLACES
 }
 
 // The load joins the list of loads, in the first free place; a full queue stays as it is.
-pub fn place_load(loads: [LoadEntry; 8], e: LoadEntry) -> [LoadEntry; 8]
+pub fn place_load(loads: [LoadEntry; LOAD_PLACES], e: LoadEntry) -> [LoadEntry; LOAD_PLACES]
     ensures { λ r. ⌜ r ≡ placed isFreeLoad e loads ⌝ }
 {
     let at = free_load(loads);
-    if at < 8 {
+    if at < LOAD_PLACES {
         let mut next = loads;
         next[at] = e;
         return next;
@@ -61,18 +51,18 @@ fn squash_load(l: LoadEntry, n: u32) -> LoadEntry
     ensures { λ r. ⌜ r ≡ cond (youngLoad n l) noLoad l ⌝ }
 {
     if n <= l.number {
-        return no_load();
+        return NO_LOAD;
     }
     l
 }
 
 // Abort n removes every load numbered n or more.
-pub fn squash_loads(loads: [LoadEntry; 8], n: u32) -> [LoadEntry; 8]
+pub fn squash_loads(loads: [LoadEntry; LOAD_PLACES], n: u32) -> [LoadEntry; LOAD_PLACES]
     ensures { λ r. ⌜ r ≡ changed (youngLoad n) (λ l. noLoad) loads ⌝ }
 {
     let mut next = loads;
     let mut i: usize = 0;
-    while i < 8 {
+    while i < LOAD_PLACES {
         let l = next[i];
         let u = squash_load(l, n);
         next[i] = u;
@@ -94,12 +84,12 @@ fn is_waiting_at(l: LoadEntry, i: u32) -> bool
     false
 }
 
-// The place of the first waiting load of number i, or 8.
-fn waiting_place(loads: [LoadEntry; 8], i: u32) -> usize
+// The place of the first waiting load of number i, or the number of places.
+fn waiting_place(loads: [LoadEntry; LOAD_PLACES], i: u32) -> usize
     ensures { λ r. ⌜ r ≡ position (waitingAt i) loads ⌝ }
 {
     let mut k: usize = 0;
-    while k < 8 {
+    while k < LOAD_PLACES {
         let l = loads[k];
         if is_waiting_at(l, i) {
             return k;
@@ -110,32 +100,32 @@ fn waiting_place(loads: [LoadEntry; 8], i: u32) -> usize
 }
 
 // Whether an inquiry about number i finds a waiting load.
-pub fn has_waiting(loads: [LoadEntry; 8], i: u32) -> bool
+pub fn has_waiting(loads: [LoadEntry; LOAD_PLACES], i: u32) -> bool
     ensures { λ r. ⌜ r ≡ any (waitingAt i) loads ⌝ }
 {
-    waiting_place(loads, i) < 8
+    waiting_place(loads, i) < LOAD_PLACES
 }
 
 // The load that an inquiry about number i tries again; a free entry if none waits.
-pub fn waiting_load(loads: [LoadEntry; 8], i: u32) -> LoadEntry
+pub fn waiting_load(loads: [LoadEntry; LOAD_PLACES], i: u32) -> LoadEntry
     ensures { λ r. ⌜ r ≡ first (waitingAt i) noLoad loads ⌝ }
 {
     let k = waiting_place(loads, i);
-    if k < 8 {
+    if k < LOAD_PLACES {
         return loads[k];
     }
-    no_load()
+    NO_LOAD
 }
 
 // Loads that were kept so far, and how many.
 struct Packed {
-    out: [LoadEntry; 8],
+    out: [LoadEntry; LOAD_PLACES],
     count: usize,
 }
 
 // The load goes to the next place.
 fn packed_with(p: Packed, l: LoadEntry) -> Packed
-    requires { ⌜ p .count < 8 ⌝ }
+    requires { ⌜ p .count < loadPlaces ⌝ }
     ensures { λ r. ⌜ (r .out ≡ set (p .out) (p .count) l) × (r .count ≡ p .count + 1) ⌝ }
 {
     let mut next = p;
@@ -147,7 +137,7 @@ fn packed_with(p: Packed, l: LoadEntry) -> Packed
 
 // The load is kept, unless it is the waiting load of number i.
 fn keep_unless_waiting(p: Packed, l: LoadEntry, i: u32) -> Packed
-    requires { ⌜ p .count < 8 ⌝ }
+    requires { ⌜ p .count < loadPlaces ⌝ }
     ensures { λ r. ⌜ (r .out ≡ cond (waitingAt i l) (p .out) (set (p .out) (p .count) l))
         × (r .count ≡ cond (waitingAt i l) (p .count) (p .count + 1)) ⌝ }
 {
@@ -158,16 +148,15 @@ fn keep_unless_waiting(p: Packed, l: LoadEntry, i: u32) -> Packed
 }
 
 // The committed load that an inquiry about number i answered leaves the list.
-pub fn remove_waiting(loads: [LoadEntry; 8], i: u32) -> [LoadEntry; 8]
+pub fn remove_waiting(loads: [LoadEntry; LOAD_PLACES], i: u32) -> [LoadEntry; LOAD_PLACES]
     ensures { λ r. ⌜ r ≡ without (waitingAt i) noLoad loads ⌝ }
 {
-    let free = no_load();
     let mut kept = Packed {
-        out: [free; 8],
+        out: [NO_LOAD; LOAD_PLACES],
         count: 0,
     };
     let mut k: usize = 0;
-    while k < 8 {
+    while k < LOAD_PLACES {
         let l = loads[k];
         kept = keep_unless_waiting(kept, l, i);
         k += 1;
@@ -191,12 +180,12 @@ fn answer_load(l: LoadEntry, i: u32) -> LoadEntry
 }
 
 // The uncommitted load that an inquiry about number i answered is marked answered.
-pub fn answer_waiting(loads: [LoadEntry; 8], i: u32) -> [LoadEntry; 8]
+pub fn answer_waiting(loads: [LoadEntry; LOAD_PLACES], i: u32) -> [LoadEntry; LOAD_PLACES]
     ensures { λ r. ⌜ r ≡ changed (waitingAt i) answered loads ⌝ }
 {
     let mut next = loads;
     let mut k: usize = 0;
-    while k < 8 {
+    while k < LOAD_PLACES {
         let l = next[k];
         let t = answer_load(l, i);
         next[k] = t;
@@ -220,7 +209,7 @@ pub fn is_answered_by(l: LoadEntry, k: u32) -> bool
 
 // The load is kept, unless it is answered and numbered k or less.
 fn keep_unless_answered(p: Packed, l: LoadEntry, k: u32) -> Packed
-    requires { ⌜ p .count < 8 ⌝ }
+    requires { ⌜ p .count < loadPlaces ⌝ }
     ensures { λ r. ⌜ (r .out ≡ cond (answeredBy k l) (p .out) (set (p .out) (p .count) l))
         × (r .count ≡ cond (answeredBy k l) (p .count) (p .count + 1)) ⌝ }
 {
@@ -231,16 +220,15 @@ fn keep_unless_answered(p: Packed, l: LoadEntry, k: u32) -> Packed
 }
 
 // Commit k: the answered loads numbered k or less leave the list.
-pub fn remove_answered(loads: [LoadEntry; 8], k: u32) -> [LoadEntry; 8]
+pub fn remove_answered(loads: [LoadEntry; LOAD_PLACES], k: u32) -> [LoadEntry; LOAD_PLACES]
     ensures { λ r. ⌜ r ≡ without (answeredBy k) noLoad loads ⌝ }
 {
-    let free = no_load();
     let mut left = Packed {
-        out: [free; 8],
+        out: [NO_LOAD; LOAD_PLACES],
         count: 0,
     };
     let mut at: usize = 0;
-    while at < 8 {
+    while at < LOAD_PLACES {
         let l = loads[at];
         left = keep_unless_answered(left, l, k);
         at += 1;
@@ -262,11 +250,11 @@ fn is_waiting_below(l: LoadEntry, i: u32) -> bool
 }
 
 // Whether some waiting load has a smaller number than i.
-pub fn waits_below(loads: [LoadEntry; 8], i: u32) -> bool
+pub fn waits_below(loads: [LoadEntry; LOAD_PLACES], i: u32) -> bool
     ensures { λ r. ⌜ r ≡ any (waitsBelow i) loads ⌝ }
 {
     let mut k: usize = 0;
-    while k < 8 {
+    while k < LOAD_PLACES {
         let l = loads[k];
         if is_waiting_below(l, i) {
             return true;

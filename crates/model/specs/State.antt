@@ -9,10 +9,9 @@ use Rattle.lists.specs.Padded.{any}
 use Rattle.rules.specs.declared.Request.{Request}
 use Rattle.rules.specs.declared.Request.the-variants.{Free}
 use Rattle.rules.specs.Shape.{Queues, Hierarchy, World, world, tableSize, storePlaces, loadPlaces, noStore, noLoad, noTag, noFigures, isFreeStore}
-use Rattle.rules.specs.Calls.{Outcome, guarded, accessChecks}
+use Rattle.rules.specs.Calls.{Outcome, guarded}
 use Rattle.rules.specs.Calls as rules
 use Rattle.rules.specs.Runs.{outcome}
-use Rattle.access.specs.AccessChecks.{sized}
 use Rattle.model.specs.declared.State.{State}
 use Rattle.model.specs.declared.Step.{Step}
 use Rattle.model.specs.declared.Call.{Call}

@@ -1,7 +1,6 @@
 // Flush.
 ghost use mathlib.Core.Path.{_≡_};
 ghost use mathlib.Core.Bool.{true};
-ghost use Prim.Native.Nat.{_*_};
 ghost use Rattle.rules.specs.Calls.{flushRule};
 ghost use Rattle.rules.specs.Calls as rules;
 ghost use Rattle.rules.specs.WellFormed.{wellFormed};

@@ -12,7 +12,7 @@ use rules::Tag;
 
 mod abort;
 mod cache;
-mod check;
+mod checks;
 mod commit;
 mod flush;
 mod idle;

@@ -1,7 +1,7 @@
 // Reply: a line comes from memory.
 ghost use mathlib.Core.Path.{_≡_};
 ghost use mathlib.Core.Bool.{true};
-ghost use Prim.Native.Nat.{_+_, _*_, _<_, _≤_};
+ghost use Prim.Native.Nat.{_+_, _<_, _≤_};
 ghost use Rattle.rules.specs.Calls.{replyRule};
 ghost use Rattle.rules.specs.Calls as rules;
 ghost use Rattle.rules.specs.WellFormed.{wellFormed};

@@ -1,7 +1,7 @@
 // Inquiry.
 ghost use mathlib.Core.Path.{_≡_};
 ghost use mathlib.Core.List.{List};
-ghost use Prim.Native.Nat.{ℕ, _*_, _<_};
+ghost use Prim.Native.Nat.{ℕ, _*_};
 ghost use lib.ListN.{length};
 ghost use Rattle.lists.specs.Padded.{first};
 ghost use Rattle.rules.specs.Shape.{noLoad};
@@ -12,7 +12,6 @@ use crate::Answer;
 use crate::State;
 use crate::Step;
 use crate::cache;
-use crate::read;
 use crate::read::Read;
 use rules::LINE_BYTES;
 use rules::LoadEntry;

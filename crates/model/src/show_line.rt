@@ -1,6 +1,6 @@
 // Show line.
 ghost use mathlib.Core.Path.{_≡_};
-ghost use Prim.Native.Nat.{_+_, _*_, _<_, _≤_};
+ghost use Prim.Native.Nat.{_+_, _*_, _≤_};
 ghost use lib.ListN.{length};
 ghost use Rattle.model.specs.State.{worldOf};
 ghost use Rattle.model.specs.Shows.{shownPart, PartOf};

@@ -25,7 +25,7 @@ impl State {
     }
 
     // Show line as a step: the place and the length of the part.
-    fn show(self, cache: &[u8], memory: &[u8], address: u32) -> Step
+    pub fn show(self, cache: &[u8], memory: &[u8], address: u32) -> Step
         ensures { λ r. ⌜ Does (rules.show address) (worldOf self (now (cache .entry)) (now (memory .entry))) r (now (cache .entry)) (now (memory .entry)) ⌝ }
     {
         let p = self.show_part(cache, memory, address);

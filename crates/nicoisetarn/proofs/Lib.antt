@@ -1,4 +1,5 @@
 pub mod Mapped
 pub mod Standing
 pub mod ShownPart
+pub mod CallNumbers
 pub mod Outcomes

@@ -1,19 +1,16 @@
 -- What the functions leave is what the definitions say; and a refusal leaves everything as it was.
 use Prim.Native.Nat.{ℕ, _<_, _≤_}
 use mathlib.Core.Path.{_≡_, refl, sym, _∙_, ap}
-use mathlib.Core.Bool.{true, false, cond}
-use mathlib.Core.List.{List, map}
+use mathlib.Core.Bool.{true, false}
+use mathlib.Core.List.{List, [], map}
 use mathlib.Core.Option.{Option, some, none}
 use native.Mathlib.Omega.{arith}
 use lib.ListN.{drop}
 use Rattle.lists.proofs.Cond.{cases, wrong}
-use Rattle.rules.specs.declared.Tag.{Tag}
-use Rattle.rules.specs.Shape.{Queues, Hierarchy, World, fits}
+use Rattle.rules.specs.Shape.{Queues, Hierarchy, World}
 use Rattle.rules.specs.Calls as rules
-use Rattle.rules.specs.WellFormed.{wellFormed}
 use Rattle.rules.specs.Runs.{ready, startRefused, startAllowed, startAnswer, startWorld, unstarted, refusal, outcome}
-use Rattle.rules.proofs.QueueView.{parts}
-use Rattle.rules.proofs.Checks.{shut, malformed, outcome-by, rule-accepts}
+use Rattle.rules.proofs.Checks.{outcome-by, rule-accepts}
 use Rattle.model.specs.State.{queuesOf, hierarchyOf, worldOf, answerOf, outcomeOf, callOf}
 use Rattle.model.specs.Starts.{startAnswerOf}
 use Rattle.model.specs.declared.Call.{Call}
@@ -22,14 +19,17 @@ use Rattle.model.specs.declared.Step.{Step}
 use Rattle.model.specs.declared.Started.{Started}
 use Rattle.model.specs.declared.StartAnswer.the-variants.{Ready, NotAllowed}
 use Rattle.nicoisetarn.specs.declared.Image.{Image}
+use Rattle.nicoisetarn.specs.declared.AnswerImage.{AnswerImage}
 use Rattle.nicoisetarn.specs.declared.ImageStep.{ImageStep}
 use Rattle.nicoisetarn.specs.declared.answers.Numbered.{Numbered}
 use Rattle.nicoisetarn.specs.declared.answers.Numbered.the-variants.{Known, Unknown}
-use Rattle.nicoisetarn.specs.Images.{imagedTag, openedOf, imagedOf, standsFor}
-use Rattle.nicoisetarn.specs.Answers.{callNumbered, numberedOf, reply, imagedAnswer, readyAnswer}
-use Rattle.nicoisetarn.specs.Steps.{Left, leftOf, kept, leaves, startedBy, started, imageRefusal, outcomeFrom, unformed, called, stepped, recordsChanged}
-use Rattle.nicoisetarn.specs.Claims.{Keeps, RefusedImagesKept}
+use Rattle.nicoisetarn.specs.Images.{imagedTag, figuresWith, openedOf, imagedOf, standsFor}
+use Rattle.nicoisetarn.specs.Answers.{callNumbered, numberedOf, coded, imagedAnswer, readyAnswer, noSuchCall}
+use Rattle.nicoisetarn.specs.Steps.{Left, leftOf, kept, leaves, startedBy, started, imageRefusal, outcomeFrom, called, stepped, lineShown, recordsChanged}
+use Rattle.nicoisetarn.specs.Claims.{Keeps, RefusedImagesKept, UnknownCallsKept, LooksKept}
+use Rattle.nicoisetarn.proofs.CallNumbers.{no-number, some-number}
 use Rattle.nicoisetarn.proofs.Standing.{imaged-opened}
+use Rattle.nicoisetarn.proofs.ShownPart.{image-over}
 
 -- ---- a call
 
@@ -40,38 +40,23 @@ module _ (c : rules.Call) (i : Image) (cache memory : List ℕ) where
   abbrev outcomeAt : State → rules.Outcome
   outcomeAt s = outcome c (queuesOf s) (hierarchyOf s cache memory)
 
-  -- h above last: refused with 1 or 10
-  unformed-outcome : (s : State) → outcomeAt (unformed s) ≡ rules.unchanged (refusal c (cond (fits (hierarchyOf s cache memory)) 10 1)) (queuesOf (unformed s)) (hierarchyOf s cache memory)
-  unformed-outcome s =
-      cases (fits b) (λ f. rw f (malformed c q b f (cases (wellFormed q b) (λ g. absurd (no g)) (λ g. g)))) (λ f. rw f (shut c q b f))
-    where
-      q : Queues
-      q = queuesOf (unformed s)
+  -- the state that the image stands for is stepped
+  pub state-stepped :
+      (r : Step) (cache′ memory′ : List ℕ) (s : State) → outcomeOf r cache′ memory′ ≡ outcomeAt s → (t : ImageStep) → t .answer ≡ imagedAnswer (answerOf (r .answer) [])
+      → s ≡ openedOf i → standsFor i ≡ true → t .next ≡ imagedOf (r .next) → leftOf t cache′ memory′ ≡ called (some c) i cache memory
+  unfolding called outcomeFrom
+  state-stepped r cache′ memory′ s e t answer o stands next =
+      (λ j. record { answer = image-over (t .answer) (r .answer) cache′ answer j; image = next j; cache = cache′; memory = memory′ })
+      ∙ ap Leaves (e ∙ ap outcomeAt o) ∙ rw stands
 
-      b : Hierarchy
-      b = hierarchyOf s cache memory
-
-      no : wellFormed q b ≡ true → ⊥
-      no g = let order : 1 ≤ 0 = parts q b g .order in omega arith
-
-  module _ (r : Step) (cache′ memory′ : List ℕ) (s : State) (e : outcomeOf r cache′ memory′ ≡ outcomeAt s) (t : ImageStep) (answer_image : t .reply ≡ imagedAnswer (answerOf (r .answer) cache′)) where
-    pub state-stepped : s ≡ openedOf i → standsFor i ≡ true → t .next ≡ imagedOf (r .next) → leftOf t cache′ memory′ ≡ called (some c) i cache memory
-    unfolding called outcomeFrom
-    state-stepped o stands next =
-        (λ j. record { reply = answer_image j; image = next j; cache = cache′; memory = memory′ })
-        ∙ ap Leaves (e ∙ ap outcomeAt o) ∙ rw stands
-
-    pub image-refused : s ≡ unformed (openedOf i) → standsFor i ≡ false → t .next ≡ i → leftOf t cache′ memory′ ≡ called (some c) i cache memory
-    unfolding called imageRefusal
-    image-refused o stands next =
-        let u = e ∙ (ap outcomeAt o ∙ unformed-outcome (openedOf i)) in
-        (λ j. record {
-          reply = (answer_image ∙ ap (λ (o : rules.Outcome). imagedAnswer (o .answer)) u) j;
-          image = next j;
-          cache = ap (λ (o : rules.Outcome). o .hierarchy .cache) u j;
-          memory = ap (λ (o : rules.Outcome). o .hierarchy .memory) u j;
-        })
-        ∙ rw stands
+  -- the image stands for none: refused, and it stays
+  pub image-refused :
+      standsFor i ≡ false → (k : ℕ) → k ≡ imageRefusal i cache memory → (t : ImageStep) → t .answer ≡ imagedAnswer (refusal c k) → t .next ≡ i
+      → leftOf t cache memory ≡ called (some c) i cache memory
+  unfolding called
+  image-refused stands k e t answer next =
+      (λ j. record { answer = (answer ∙ ap (λ (k : ℕ). imagedAnswer (refusal c k)) e) j; image = next j; cache = cache; memory = memory })
+      ∙ rw stands
 
 -- ---- the records that a call may change
 
@@ -106,14 +91,20 @@ module _ (q : Queues) (b : Hierarchy) where
 -- the others have their images in the image before the call
 module _ (c : rules.Call) (i : Image) (cache memory : List ℕ) (stands : standsFor i ≡ true) where
   pub image-rest :
-      (n : ℕ) (s : State) (next : List Tag) → n ≡ recordsChanged c → s ≡ openedOf i
-      → next ≡ outcome c (queuesOf s) (hierarchyOf s cache memory) .hierarchy .tags → n < 256 → drop n (i .tags) ≡ map imagedTag (drop n next)
+      (n : ℕ) (s : State) (r : Step) (cache′ memory′ : List ℕ) → n ≡ recordsChanged c → s ≡ openedOf i
+      → outcomeOf r cache′ memory′ ≡ outcome c (queuesOf s) (hierarchyOf s cache memory) → n < 256 → drop n (i .tags) ≡ map imagedTag (drop n (r .next .tags))
   unfolding imagedOf
-  image-rest n s next m o e =
+  image-rest n s r cache′ memory′ m o e =
       rw m
-      (none-or-all c (λ n. n < 256 → drop n (i .tags) ≡ map imagedTag (drop n next))
-      (λ z h. sym (ap (map imagedTag) (e ∙ (outcome-keeps (queuesOf s) (hierarchyOf s cache memory) c z ∙ ap (λ (s : State). s .tags) o)) ∙ ap (λ (j : Image). j .tags) (imaged-opened i stands)))
+      (none-or-all c (λ n. n < 256 → drop n (i .tags) ≡ map imagedTag (drop n (r .next .tags)))
+      (λ z h. sym (ap (map imagedTag) (tags-kept z) ∙ ap (λ (j : Image). j .tags) (imaged-opened i stands)))
       (λ h. let no : ⊥ = omega arith in absurd no))
+    where
+      tags-kept : recordsChanged c ≡ 0 → r .next .tags ≡ openedOf i .tags
+      tags-kept z =
+          ap (λ (o : rules.Outcome). o .hierarchy .tags) e
+          ∙ outcome-keeps (queuesOf s) (hierarchyOf s cache memory) c z
+          ∙ ap (λ (s : State). s .tags) o
 
 -- ---- a call by its number
 
@@ -122,34 +113,34 @@ module _ (call x y z : ℕ) (i : Image) (cache memory : List ℕ) (n : Numbered)
   unfolding stepped
   known-stepped c f l g = g ∙ ap (λ (o : Option rules.Call). called o i cache memory) (sym (ap numberedOf f) ∙ e)
 
-  pub unknown-stepped : n ≡ Unknown → (t : ImageStep) → t .reply ≡ reply 0 6 0 → t .next ≡ i → leftOf t cache memory ≡ stepped call x y z i cache memory
+  pub unknown-stepped : n ≡ Unknown → (t : ImageStep) → t .answer ≡ noSuchCall → t .next ≡ i → leftOf t cache memory ≡ stepped call x y z i cache memory
   unfolding called stepped
-  unknown-stepped f t answer_image next =
-      (λ j. record { reply = answer_image j; image = next j; cache = cache; memory = memory })
+  unknown-stepped f t answer next =
+      (λ j. record { answer = answer j; image = next j; cache = cache; memory = memory })
       ∙ ap (λ (o : Option rules.Call). called o i cache memory) (sym (ap numberedOf f) ∙ e)
 
 -- ---- start
 
 module _ (sets ways : ℕ) (i : Image) (cache memory : List ℕ) where
-  refused-cache : (k : ℕ) → startRefused k ≡ startAnswer sets ways cache memory → startWorld sets ways cache memory .hierarchy .cache ≡ cache
+  refused-cache : (k : ℕ) → startRefused k ≡ startAnswer (figuresWith sets ways) cache memory → startWorld (figuresWith sets ways) cache memory .hierarchy .cache ≡ cache
   unfolding startAnswer startWorld unstarted
-  refused-cache k e = cases (startAllowed sets ways cache memory)
+  refused-cache k e = cases (startAllowed (figuresWith sets ways) cache memory)
       (λ t. let f : startRefused k ≡ ready = rw t at e in let z : _≡_ {A = ℕ} 0 1 = cc in let no : ⊥ = omega arith in absurd no)
       (λ t. rw t)
 
-  module _ (r : Started) (cache′ : List ℕ) (a : startAnswerOf (r .answer) ≡ startAnswer sets ways cache memory) (w : worldOf (r .state) cache′ memory ≡ startWorld sets ways cache memory) (t : ImageStep) where
-    pub start-ready : r .answer ≡ Ready → t .reply ≡ readyAnswer → t .next ≡ imagedOf (r .state) → leftOf t cache′ memory ≡ started sets ways i cache memory
+  module _ (r : Started) (cache′ : List ℕ) (a : startAnswerOf (r .answer) ≡ startAnswer (figuresWith sets ways) cache memory) (w : worldOf (r .state) cache′ memory ≡ startWorld (figuresWith sets ways) cache memory) (t : ImageStep) where
+    pub start-ready : r .answer ≡ Ready → t .answer ≡ readyAnswer → t .next ≡ imagedOf (r .state) → leftOf t cache′ memory ≡ started sets ways i cache memory
     unfolding started
-    start-ready told answer_image next =
-        (λ j. record { reply = answer_image j; image = next j; cache = cache′; memory = memory })
+    start-ready told answer next =
+        (λ j. record { answer = answer j; image = next j; cache = cache′; memory = memory })
         ∙ (λ j. startedBy ((sym (ap startAnswerOf told) ∙ a) j) (w j) i cache memory)
 
-    pub start-refused : (k : ℕ) → r .answer ≡ NotAllowed k → t .reply ≡ reply 0 k 0 → t .next ≡ i → leftOf t cache′ memory ≡ started sets ways i cache memory
+    pub start-refused : (k : ℕ) → r .answer ≡ NotAllowed k → t .answer ≡ coded 0 k 0 → t .next ≡ i → leftOf t cache′ memory ≡ started sets ways i cache memory
     unfolding started
-    start-refused k told answer_image next =
-        let b : startRefused k ≡ startAnswer sets ways cache memory = sym (ap startAnswerOf told) ∙ a in
+    start-refused k told answer next =
+        let b : startRefused k ≡ startAnswer (figuresWith sets ways) cache memory = sym (ap startAnswerOf told) ∙ a in
         (λ j. record {
-          reply = answer_image j;
+          answer = answer j;
           image = next j;
           cache = (ap (λ (v : World). v .hierarchy .cache) w ∙ refused-cache k b) j;
           memory = memory;
@@ -158,6 +149,7 @@ module _ (sets ways : ℕ) (i : Image) (cache memory : List ℕ) where
 
 -- ---- a refusal leaves everything as it was
 
+-- a refusal by its kind
 kind-refused : (a : rules.Answer) → imagedAnswer a .kind ≡ 0 → rules.isAccepted a ≡ false
 kind-refused (rules.refused k) e = refl
 kind-refused (rules.stored i) e = let no : ⊥ = omega arith in absurd no
@@ -189,7 +181,7 @@ module _ (i : Image) (cache memory : List ℕ) where
 
   started-keeps : (sets ways : ℕ) → Keeps (started sets ways i cache memory) i cache memory
   unfolding started startAnswer
-  started-keeps sets ways = cases (startAllowed sets ways cache memory)
+  started-keeps sets ways = cases (startAllowed (figuresWith sets ways) cache memory)
       (λ t. rw t (λ e. let no : ⊥ = omega arith in absurd no)) (λ t. rw t (λ e. (refl, refl, refl)))
 
 pub refused-kept : RefusedImagesKept
@@ -197,4 +189,76 @@ unfolding stepped
 refused-kept = record {
   by-start = λ sets ways i cache memory. started-keeps i cache memory sets ways;
   by-call = λ call x y z i cache memory. called-keeps i cache memory (callNumbered call x y z);
+}
+
+-- ---- numbers that no call has
+
+kind-known : (a : rules.Answer) → imagedAnswer a .kind ≤ 11
+kind-known (rules.refused k) = omega arith
+kind-known (rules.stored i) = omega arith
+kind-known (rules.value i v) = omega arith
+kind-known (rules.waits i) = omega arith
+kind-known (rules.committed k) = omega arith
+kind-known (rules.kept k) = omega arith
+kind-known (rules.drained i) = omega arith
+kind-known (rules.requested a) = omega arith
+kind-known rules.idled = omega arith
+kind-known (rules.filled a) = omega arith
+kind-known (rules.flushed k) = omega arith
+kind-known (rules.shown p bs) = omega arith
+
+module _ (i : Image) (cache memory : List ℕ) where
+  called-known : (o : Option rules.Call) → called o i cache memory .answer ≡ noSuchCall → o ≡ none
+  unfolding called
+  called-known none e = refl
+  called-known (some c) e = cases (standsFor i)
+      (λ t. no (outcomeFrom c i cache memory .answer) (rw t at e))
+      (λ t. no (refusal c (imageRefusal i cache memory)) (rw t at e))
+    where
+      no : (a : rules.Answer) → imagedAnswer a ≡ noSuchCall → some c ≡ none
+      no a f = let w : ⊥ = omega (arith, kind-known a, ap (λ (r : AnswerImage). r .kind) f) in absurd w
+
+pub unknown-kept : UnknownCallsKept
+unfolding stepped called
+unknown-kept = record {
+  told = λ call x y z i cache memory h. ap (λ (o : Option rules.Call). called o i cache memory) (no-number call x y z h);
+  known = λ call x y z i cache memory h e. let w = some-number call x y z (called-known i cache memory (callNumbered call x y z) e) in omega arith;
+}
+
+-- ---- show line
+
+module _ (address : ℕ) (i : Image) (cache memory : List ℕ) where
+  -- of the state that the image stands for
+  pub state-shown :
+      (r : Step) (s : State) → outcomeOf r cache memory ≡ outcome (rules.show address) (queuesOf s) (hierarchyOf s cache memory) → s ≡ openedOf i → standsFor i ≡ true
+      → (t : AnswerImage) → t ≡ imagedAnswer (answerOf (r .answer) []) → t ≡ lineShown address i cache memory
+  unfolding lineShown outcomeFrom
+  state-shown r s e o stands t f =
+      image-over t (r .answer) cache f
+      ∙ ap (λ (o : rules.Outcome). imagedAnswer (o .answer)) (e ∙ ap (λ (s : State). outcome (rules.show address) (queuesOf s) (hierarchyOf s cache memory)) o)
+      ∙ rw stands
+
+  -- of an image that stands for none
+  pub none-shown : standsFor i ≡ false → imagedAnswer rules.emptyPart ≡ lineShown address i cache memory
+  unfolding lineShown
+  none-shown stands = rw stands
+
+  -- nothing changes
+  show-keeps : standsFor i ≡ true → Leaves (outcomeFrom (rules.show address) i cache memory) ≡ kept (imagedAnswer (outcomeFrom (rules.show address) i cache memory .answer)) i cache memory
+  unfolding outcomeFrom rules.showRule
+  show-keeps stands = outcome-by (rules.show address) q b (λ o. Leaves o ≡ kept (imagedAnswer (o .answer)) i cache memory) (λ k. same (refusal (rules.show address) k)) (λ f g p. same (rules.rule (rules.show address) q b .answer))
+    where
+      q : Queues
+      q = queuesOf (openedOf i)
+
+      b : Hierarchy
+      b = hierarchyOf (openedOf i) cache memory
+
+      same : (a : rules.Answer) → Leaves (rules.unchanged a q b) ≡ kept (imagedAnswer a) i cache memory
+      same a = λ j. record { answer = imagedAnswer a; image = imaged-opened i stands j; cache = cache; memory = memory }
+
+pub looks-kept : LooksKept
+unfolding stepped called callNumbered lineShown
+looks-kept = record {
+  shown = λ address y z i cache memory. cases (standsFor i) (λ t. rw t (show-keeps address i cache memory t)) (λ t. rw t refl);
 }

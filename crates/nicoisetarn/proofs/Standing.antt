@@ -1,5 +1,5 @@
 -- Images stand for states: each comes back from the other.
-use Prim.Native.Nat.{ℕ, _+_, _*_, _-_, _<_, _≤_}
+use Prim.Native.Nat.{ℕ, _+_, _*_, _-_, _<_}
 use mathlib.Core.Path.{_≡_, refl, sym, ap, ap₂, _∙_}
 use mathlib.Core.List.{List, [], _∷_, map}
 use mathlib.Core.Bool.{Bool, true, false, _&&_}
@@ -175,8 +175,7 @@ module _ (n l : ℕ) (e : requestStands n l ≡ true) where
 pub opened-imaged : (s : State) → openedOf (imagedOf s) ≡ s
 unfolding openedOf imagedOf
 opened-imaged s = λ j. record {
-  sets = s .sets;
-  ways = s .ways;
+  figures = s .figures;
   size = s .size;
   last = s .last;
   committed = s .committed;

@@ -6,6 +6,7 @@ use mathlib.Core.List.{List, map}
 use lib.Dec.{leb, eqb}
 use lib.ListN.{drop}
 use Rattle.lists.specs.Padded.{every}
+use Rattle.rules.specs.declared.Figures.{Figures}
 use Rattle.rules.specs.declared.Tag.{Tag}
 use Rattle.rules.specs.declared.StoreEntry.{StoreEntry}
 use Rattle.rules.specs.declared.LoadEntry.{LoadEntry}
@@ -95,11 +96,18 @@ ZeroFrom n tags = (n ≤ 256) × (n < 256 → every zeroImage (drop n tags) ≡ 
 
 -- ---- the whole
 
+-- figures by their numbers
+abbrev pub figuresWith : ℕ → ℕ → Figures
+figuresWith sets ways = record { sets = sets; ways = ways }
+
+-- the figures that an image holds
+abbrev pub figuresOf : Image → Figures
+figuresOf i = figuresWith (i .sets) (i .ways)
+
 -- the state of an image
 unfoldable pub openedOf : Image → State
 openedOf i = record {
-  sets = i .sets;
-  ways = i .ways;
+  figures = figuresOf i;
   size = i .size;
   last = i .last;
   committed = i .committed;
@@ -112,8 +120,8 @@ openedOf i = record {
 -- the image of a state
 unfoldable pub imagedOf : State → Image
 imagedOf s = record {
-  sets = s .sets;
-  ways = s .ways;
+  sets = s .figures .sets;
+  ways = s .figures .ways;
   size = s .size;
   last = s .last;
   committed = s .committed;

@@ -1,9 +1,30 @@
 // Calls and answers by numbers.
 ghost use mathlib.Core.Path.{_≡_};
-ghost use Prim.Native.Nat.{_-_, min};
+ghost use mathlib.Core.List.{[]};
 ghost use Rattle.model.specs.State.{answerOf};
-ghost use Rattle.nicoisetarn.specs.Answers.{callNumbered, numberedOf, reply, imagedAnswer, PartSmall};
+ghost use Rattle.nicoisetarn.specs.Answers.{callNumbered, numberedOf, coded, imagedAnswer, PartSmall};
 use crate::AnswerImage;
+use crate::CALL_ABORT;
+use crate::CALL_COMMIT;
+use crate::CALL_FLUSH;
+use crate::CALL_IDLE;
+use crate::CALL_LOAD;
+use crate::CALL_REPLY;
+use crate::CALL_RETRY;
+use crate::CALL_SHOW_LINE;
+use crate::CALL_STORE;
+use crate::KIND_COMMITTED;
+use crate::KIND_DRAINED;
+use crate::KIND_FILLED;
+use crate::KIND_FLUSHED;
+use crate::KIND_IDLE;
+use crate::KIND_KEPT;
+use crate::KIND_REFUSED;
+use crate::KIND_REQUEST;
+use crate::KIND_SHOWN;
+use crate::KIND_STORED;
+use crate::KIND_VALUE;
+use crate::KIND_WAITS;
 use model::Answer;
 use model::Call;
 
@@ -17,21 +38,22 @@ pub(crate) fn call_numbered(call: u32, x: u32, y: u32, z: u32) -> Numbered
     ensures { λ r. ⌜ numberedOf r ≡ callNumbered call x y z ⌝ }
 {
     match call {
-        0 => Numbered::Known(Call::Load(x, y)),
-        1 => Numbered::Known(Call::Store(x, y, z)),
-        2 => Numbered::Known(Call::Retry(x)),
-        3 => Numbered::Known(Call::Commit(x)),
-        4 => Numbered::Known(Call::Abort(x)),
-        5 => Numbered::Known(Call::Idle),
-        6 => Numbered::Known(Call::Reply),
-        7 => Numbered::Known(Call::Flush),
-        8 => Numbered::Known(Call::Show(x)),
+        CALL_LOAD => Numbered::Known(Call::Load(x, y)),
+        CALL_STORE => Numbered::Known(Call::Store(x, y, z)),
+        CALL_RETRY => Numbered::Known(Call::Retry(x)),
+        CALL_COMMIT => Numbered::Known(Call::Commit(x)),
+        CALL_ABORT => Numbered::Known(Call::Abort(x)),
+        CALL_IDLE => Numbered::Known(Call::Idle),
+        CALL_REPLY => Numbered::Known(Call::Reply),
+        CALL_FLUSH => Numbered::Known(Call::Flush),
+        CALL_SHOW_LINE => Numbered::Known(Call::Show(x)),
         _ => Numbered::Unknown,
     }
 }
 
+// An answer by its three numbers.
 pub(crate) fn coded(kind: u32, first: u32, second: u32) -> AnswerImage
-    ensures { λ r. ⌜ r ≡ reply kind first second ⌝ }
+    ensures { λ r. ⌜ r ≡ coded kind first second ⌝ }
 {
     AnswerImage {
         kind,
@@ -40,40 +62,23 @@ pub(crate) fn coded(kind: u32, first: u32, second: u32) -> AnswerImage
     }
 }
 
-// How many of the n bytes from place start on there are, in a cache of so many bytes.
-fn part_length(start: usize, n: usize, count: usize) -> usize
-    ensures { λ r. ⌜ r ≡ min n (count - start) ⌝ }
-{
-    if count <= start {
-        return 0;
-    }
-    let rest = count - start;
-    if n < rest {
-        return n;
-    }
-    rest
-}
-
-// The reply to a call that gave this answer and left this cache.
-pub(crate) fn answer_image(a: Answer, cache: &[u8]) -> AnswerImage
-    requires { ⌜ PartSmall (answerOf a (now cache)) ⌝ }
-    ensures { λ r. ⌜ r ≡ imagedAnswer (answerOf a (now (cache .entry))) ⌝ }
+// The image of an answer. A part of the cache goes by its place and its length, which have 32 bits.
+pub(crate) fn answer_image(a: Answer) -> AnswerImage
+    requires { ⌜ PartSmall (answerOf a []) ⌝ }
+    ensures { λ r. ⌜ r ≡ imagedAnswer (answerOf a []) ⌝ }
 {
     match a {
-        Answer::Refused(k) => coded(0, k, 0),
-        Answer::Stored(i) => coded(1, i, 0),
-        Answer::Value(i, v) => coded(2, i, v),
-        Answer::Waits(i) => coded(3, i, 0),
-        Answer::Committed(k) => coded(4, k, 0),
-        Answer::Kept(k) => coded(5, k, 0),
-        Answer::Drained(i) => coded(6, i, 0),
-        Answer::Requested(at) => coded(7, at, 0),
-        Answer::Idled => coded(8, 0, 0),
-        Answer::Filled(at) => coded(9, at, 0),
-        Answer::Flushed(k) => coded(10, k, 0),
-        Answer::Shown(start, n) => {
-            let length = part_length(start, n, cache.len());
-            coded(11, start as u32, length as u32)
-        }
+        Answer::Refused(k) => coded(KIND_REFUSED, k, 0),
+        Answer::Stored(i) => coded(KIND_STORED, i, 0),
+        Answer::Value(i, v) => coded(KIND_VALUE, i, v),
+        Answer::Waits(i) => coded(KIND_WAITS, i, 0),
+        Answer::Committed(k) => coded(KIND_COMMITTED, k, 0),
+        Answer::Kept(k) => coded(KIND_KEPT, k, 0),
+        Answer::Drained(i) => coded(KIND_DRAINED, i, 0),
+        Answer::Requested(at) => coded(KIND_REQUEST, at, 0),
+        Answer::Idled => coded(KIND_IDLE, 0, 0),
+        Answer::Filled(at) => coded(KIND_FILLED, at, 0),
+        Answer::Flushed(k) => coded(KIND_FLUSHED, k, 0),
+        Answer::Shown(start, n) => coded(KIND_SHOWN, start as u32, n as u32),
     }
 }

@@ -11,10 +11,34 @@ use crate::LoadImage;
 use crate::StoreImage;
 use crate::TagImage;
 use model::State;
+use rules::Figures;
+use rules::LOAD_PLACES;
 use rules::LoadEntry;
+use rules::MAX_SETS;
+use rules::NO_LOAD;
+use rules::NO_STORE;
+use rules::NO_TAG;
 use rules::Request;
+use rules::STORE_PLACES;
 use rules::StoreEntry;
+use rules::TAG_RECORDS;
 use rules::Tag;
+
+// ---- free places, all zero
+
+const FREE_STORE: StoreImage = StoreImage {
+    number: 0,
+    address: 0,
+    width: 0,
+    value: 0,
+};
+
+const FREE_LOAD: LoadImage = LoadImage {
+    number: 0,
+    address: 0,
+    width: 0,
+    waiting: 0,
+};
 
 // ---- the miss register
 
@@ -67,18 +91,12 @@ fn open_store(s: StoreImage) -> StoreEntry
     }
 }
 
-fn open_stores(stores: [StoreImage; 16]) -> [StoreEntry; 16]
+fn open_stores(stores: [StoreImage; STORE_PLACES]) -> [StoreEntry; STORE_PLACES]
     ensures { λ r. ⌜ r ≡ map openedStore stores ⌝ }
 {
-    let zero = StoreEntry {
-        number: 0,
-        address: 0,
-        width: 0,
-        value: 0,
-    };
-    let mut out = [zero; 16];
+    let mut out = [NO_STORE; STORE_PLACES];
     let mut i: usize = 0;
-    while i < 16 {
+    while i < STORE_PLACES {
         let s = stores[i];
         let e = open_store(s);
         out[i] = e;
@@ -98,18 +116,12 @@ fn image_store(s: StoreEntry) -> StoreImage
     }
 }
 
-fn image_stores(stores: [StoreEntry; 16]) -> [StoreImage; 16]
+fn image_stores(stores: [StoreEntry; STORE_PLACES]) -> [StoreImage; STORE_PLACES]
     ensures { λ r. ⌜ r ≡ map imagedStore stores ⌝ }
 {
-    let zero = StoreImage {
-        number: 0,
-        address: 0,
-        width: 0,
-        value: 0,
-    };
-    let mut out = [zero; 16];
+    let mut out = [FREE_STORE; STORE_PLACES];
     let mut i: usize = 0;
-    while i < 16 {
+    while i < STORE_PLACES {
         let s = stores[i];
         let e = image_store(s);
         out[i] = e;
@@ -143,18 +155,12 @@ fn open_load(l: LoadImage) -> LoadEntry
     }
 }
 
-fn open_loads(loads: [LoadImage; 8]) -> [LoadEntry; 8]
+fn open_loads(loads: [LoadImage; LOAD_PLACES]) -> [LoadEntry; LOAD_PLACES]
     ensures { λ r. ⌜ r ≡ map openedLoad loads ⌝ }
 {
-    let zero = LoadEntry {
-        number: 0,
-        address: 0,
-        width: 0,
-        waiting: false,
-    };
-    let mut out = [zero; 8];
+    let mut out = [NO_LOAD; LOAD_PLACES];
     let mut i: usize = 0;
-    while i < 8 {
+    while i < LOAD_PLACES {
         let l = loads[i];
         let e = open_load(l);
         out[i] = e;
@@ -174,18 +180,12 @@ fn image_load(l: LoadEntry) -> LoadImage
     }
 }
 
-fn image_loads(loads: [LoadEntry; 8]) -> [LoadImage; 8]
+fn image_loads(loads: [LoadEntry; LOAD_PLACES]) -> [LoadImage; LOAD_PLACES]
     ensures { λ r. ⌜ r ≡ map imagedLoad loads ⌝ }
 {
-    let zero = LoadImage {
-        number: 0,
-        address: 0,
-        width: 0,
-        waiting: 0,
-    };
-    let mut out = [zero; 8];
+    let mut out = [FREE_LOAD; LOAD_PLACES];
     let mut i: usize = 0;
-    while i < 8 {
+    while i < LOAD_PLACES {
         let l = loads[i];
         let e = image_load(l);
         out[i] = e;
@@ -200,11 +200,11 @@ fn load_stands(l: LoadImage) -> bool
     l.waiting <= 1
 }
 
-fn loads_stand(loads: [LoadImage; 8]) -> bool
+fn loads_stand(loads: [LoadImage; LOAD_PLACES]) -> bool
     ensures { λ r. ⌜ r ≡ every loadStands loads ⌝ }
 {
     let mut i: usize = 0;
-    while i < 8 {
+    while i < LOAD_PLACES {
         let l = loads[i];
         if load_stands(l) {
             i += 1;
@@ -242,13 +242,13 @@ fn zero_too(already: bool, t: TagImage) -> bool
 }
 
 // The records from n on are all zero. (The loop has no early exit: in a well-formed state none would be taken.)
-fn zero_from(tags: [TagImage; 256], n: usize) -> bool
+fn zero_from(tags: [TagImage; TAG_RECORDS], n: usize) -> bool
     requires { ⌜ n ≤ 256 ⌝ }
     ensures { λ r. ⌜ r ≡ every zeroImage (drop n tags) ⌝ }
 {
     let mut zero = true;
     let mut i = n;
-    while i < 256 {
+    while i < TAG_RECORDS {
         let t = tags[i];
         zero = zero_too(zero, t);
         i += 1;
@@ -260,8 +260,8 @@ fn zero_from(tags: [TagImage; 256], n: usize) -> bool
 fn figured(sets: u32, ways: u32) -> usize
     ensures { λ r. ⌜ r ≤ 256 ⌝ }
 {
-    if 64 < sets {
-        return 256;
+    if MAX_SETS < sets {
+        return TAG_RECORDS;
     }
     let n = sets as usize;
     match ways {
@@ -269,22 +269,16 @@ fn figured(sets: u32, ways: u32) -> usize
         2 => 2 * n,
         3 => 3 * n,
         4 => 4 * n,
-        _ => 256,
+        _ => TAG_RECORDS,
     }
 }
 
 // The first n records, which alone need a look: those after them, if there are any, are zero.
-fn open_tags(tags: [TagImage; 256], n: usize) -> [Tag; 256]
+fn open_tags(tags: [TagImage; TAG_RECORDS], n: usize) -> [Tag; TAG_RECORDS]
     requires { ⌜ ZeroFrom n tags ⌝ }
     ensures { λ r. ⌜ r ≡ map openedTag tags ⌝ }
 {
-    let zero = Tag {
-        valid: false,
-        dirty: false,
-        line: 0,
-        age: 0,
-    };
-    let mut out = [zero; 256];
+    let mut out = [NO_TAG; TAG_RECORDS];
     let mut i: usize = 0;
     while i < n {
         let t = tags[i];
@@ -308,7 +302,11 @@ fn image_tag(t: Tag) -> TagImage
 }
 
 // The images of the records: the first n are made, the others stand in the old image.
-fn image_tags(old: [TagImage; 256], tags: [Tag; 256], n: usize) -> [TagImage; 256]
+fn image_tags(
+    old: [TagImage; TAG_RECORDS],
+    tags: [Tag; TAG_RECORDS],
+    n: usize,
+) -> [TagImage; TAG_RECORDS]
     requires { ⌜ (n ≤ 256) × (n < 256 → drop n old ≡ map imagedTag (drop n tags)) ⌝ }
     ensures { λ r. ⌜ r ≡ map imagedTag tags ⌝ }
 {
@@ -335,7 +333,7 @@ fn tag_stands(t: TagImage) -> bool
     t.unused == 0
 }
 
-fn tags_stand(tags: [TagImage; 256], n: usize) -> bool
+fn tags_stand(tags: [TagImage; TAG_RECORDS], n: usize) -> bool
     requires { ⌜ ZeroFrom n tags ⌝ }
     ensures { λ r. ⌜ r ≡ every tagStands tags ⌝ }
 {
@@ -362,7 +360,7 @@ pub(crate) fn used_records(image: Image) -> usize
     if zero_from(tags, n) {
         return n;
     }
-    256
+    TAG_RECORDS
 }
 
 // The image stands for a state.
@@ -389,8 +387,10 @@ pub(crate) fn opened(image: Image, n: usize) -> State
     let loads = image.loads;
     let tags = image.tags;
     State {
-        sets: image.sets,
-        ways: image.ways,
+        figures: Figures {
+            sets: image.sets,
+            ways: image.ways,
+        },
         size: image.size,
         last: image.last,
         committed: image.committed,
@@ -406,14 +406,15 @@ pub(crate) fn imaged(old: Image, state: State, n: usize) -> Image
     requires { ⌜ (n ≤ 256) × (n < 256 → drop n (old .tags) ≡ map imagedTag (drop n (state .tags))) ⌝ }
     ensures { λ r. ⌜ r ≡ imagedOf state ⌝ }
 {
+    let figures = state.figures;
     let request = state.request;
     let stores = state.stores;
     let loads = state.loads;
     let tags = state.tags;
     let images = old.tags;
     Image {
-        sets: state.sets,
-        ways: state.ways,
+        sets: figures.sets,
+        ways: figures.ways,
         size: state.size,
         last: state.last,
         committed: state.committed,

@@ -1,13 +1,18 @@
-// The boundary for a bench in C or Rust: two functions that start and step an image of the state where the bench stores it.
+// The boundary for C and Rust: functions that start, step and look at an image of the state where the caller stores it.
 // The image is the state with numbers in place of its truth values and its miss register, so that any bytes are an image. One that
 // stands for no state is refused and never repaired. Calls and answers go by numbers.
 ghost use mathlib.Core.Path.{_≡_};
-ghost use Rattle.nicoisetarn.specs.Steps.{leftOf, started, stepped};
-ghost use Rattle.nicoisetarn.specs.Claims.{ImagesStandForStates, RefusedImagesKept};
+ghost use Rattle.nicoisetarn.specs.Steps.{leftOf, started, stepped, lineShown};
+ghost use Rattle.nicoisetarn.specs.Claims.{ImagesStandForStates, RefusedImagesKept, UnknownCallsKept, LooksKept};
+use rules::LOAD_PLACES;
+use rules::STORE_PLACES;
+use rules::TAG_RECORDS;
 
 mod answers;
 mod images;
 mod steps;
+
+// ---- the image
 
 // An entry of the store queue. No struct here has padding.
 #[repr(C)]
@@ -44,21 +49,47 @@ pub struct TagImage {
 // The image of a state.
 #[repr(C)]
 pub struct Image {
+    // the figures, one after the other
     pub sets: u32,
     pub ways: u32,
+    // the memory length
     pub size: u32,
+    // the last number given, and the committed number
     pub last: u32,
     pub committed: u32,
     // 0: the miss register is free; 1: it names a line
     pub requested: u32,
     // that line; 0 where the register is free
     pub line: u32,
-    pub stores: [StoreImage; 16],
-    pub loads: [LoadImage; 8],
-    pub tags: [TagImage; 256],
+    pub stores: [StoreImage; STORE_PLACES],
+    pub loads: [LoadImage; LOAD_PLACES],
+    pub tags: [TagImage; TAG_RECORDS],
 }
 
-// An answer: its kind and 01's numbers (specs/Replies.antt).
+// ---- calls by numbers, each with its operands (specs/Answers.antt)
+
+// address, width
+pub const CALL_LOAD: u32 = 0;
+// address, width, value
+pub const CALL_STORE: u32 = 1;
+// number
+pub const CALL_RETRY: u32 = 2;
+// number
+pub const CALL_COMMIT: u32 = 3;
+// number
+pub const CALL_ABORT: u32 = 4;
+
+pub const CALL_IDLE: u32 = 5;
+
+pub const CALL_REPLY: u32 = 6;
+
+pub const CALL_FLUSH: u32 = 7;
+// address
+pub const CALL_SHOW_LINE: u32 = 8;
+
+// ---- answers by numbers
+
+// An answer: its kind and 01's numbers, the others 0.
 #[repr(C)]
 pub struct AnswerImage {
     pub kind: u32,
@@ -66,31 +97,62 @@ pub struct AnswerImage {
     pub second: u32,
 }
 
-// What a call hands back by value: its reply and the next image.
+// the refusal's number
+pub const KIND_REFUSED: u32 = 0;
+// the store's number
+pub const KIND_STORED: u32 = 1;
+// the load's number, the value
+pub const KIND_VALUE: u32 = 2;
+// the load's number
+pub const KIND_WAITS: u32 = 3;
+// the committed number in force
+pub const KIND_COMMITTED: u32 = 4;
+// the last number in force
+pub const KIND_KEPT: u32 = 5;
+// the drained store's number
+pub const KIND_DRAINED: u32 = 6;
+// the requested line's first address
+pub const KIND_REQUEST: u32 = 7;
+// idle had nothing to do
+pub const KIND_IDLE: u32 = 8;
+// the filled line's first address
+pub const KIND_FILLED: u32 = 9;
+// the lines written
+pub const KIND_FLUSHED: u32 = 10;
+// the part's place in the cache, its length
+pub const KIND_SHOWN: u32 = 11;
+// an accepted start
+pub const KIND_READY: u32 = 12;
+// There is no such call: the boundary's own, no answer of 01. Kinds from 13 on are free for answers to come.
+pub const KIND_NO_SUCH_CALL: u32 = 255;
+
+// What a call hands back by value: its answer and the next image.
 pub struct ImageStep {
-    pub reply: AnswerImage,
+    pub answer: AnswerImage,
     pub next: Image,
 }
 
+// ---- the exported functions
+
 // Start: an accepted one stores the image of the started state, a refused one leaves image and cache as they were.
 #[no_mangle]
-pub extern "C" fn nicoisetarn_start(
+pub extern "C" fn nicoisetarn_start_in(
     image: &mut Image,
     sets: u32,
     ways: u32,
     cache: &mut [u8],
     memory: &[u8],
 ) -> AnswerImage
-    ensures { λ r. ⌜ leftOf (record { reply = r; next = now (image .exit) }) (now (cache .exit)) (now (memory .entry)) ≡ started sets ways (now (image .entry)) (now (cache .entry)) (now (memory .entry)) ⌝ }
+    ensures { λ r. ⌜ leftOf (record { answer = r; next = now (image .exit) }) (now (cache .exit)) (now (memory .entry)) ≡ started sets ways (now (image .entry)) (now (cache .entry)) (now (memory .entry)) ⌝ }
 {
     let r = steps::start_image(*image, sets, ways, cache, memory);
     *image = r.next;
-    r.reply
+    r.answer
 }
 
-// Any other call, by its number (specs/Replies.antt), with up to three operands.
+// Any other call, by its number, with up to three operands. For a number that no call has the answer says so, and nothing is looked at.
 #[no_mangle]
-pub extern "C" fn nicoisetarn_step(
+pub extern "C" fn nicoisetarn_step_in(
     image: &mut Image,
     call: u32,
     x: u32,
@@ -99,11 +161,24 @@ pub extern "C" fn nicoisetarn_step(
     cache: &mut [u8],
     memory: &mut [u8],
 ) -> AnswerImage
-    ensures { λ r. ⌜ leftOf (record { reply = r; next = now (image .exit) }) (now (cache .exit)) (now (memory .exit)) ≡ stepped call x y z (now (image .entry)) (now (cache .entry)) (now (memory .entry)) ⌝ }
+    ensures { λ r. ⌜ leftOf (record { answer = r; next = now (image .exit) }) (now (cache .exit)) (now (memory .exit)) ≡ stepped call x y z (now (image .entry)) (now (cache .entry)) (now (memory .entry)) ⌝ }
 {
     let r = steps::step_image(*image, call, x, y, z, cache, memory);
     *image = r.next;
-    r.reply
+    r.answer
+}
+
+// Show line on bytes that are only read: what call number 8 answers.
+#[no_mangle]
+pub extern "C" fn nicoisetarn_show_line_in(
+    image: &Image,
+    address: u32,
+    cache: &[u8],
+    memory: &[u8],
+) -> AnswerImage
+    ensures { λ r. ⌜ r ≡ lineShown address (now (image .entry)) (now (cache .entry)) (now (memory .entry)) ⌝ }
+{
+    steps::show_image(*image, address, cache, memory)
 }
 
 // ---- what is claimed of images: functions that do nothing and promise it
@@ -116,4 +191,14 @@ pub fn images_stand_for_states()
 // A start or a call that is refused leaves the image, the cache and the memory as they were.
 pub fn refused_images_kept()
     ensures { λ r. ⌜ RefusedImagesKept ⌝ }
+{}
+
+// "No such call" is answered exactly to the numbers that no call has, and everything stays as it was.
+pub fn unknown_calls_kept()
+    ensures { λ r. ⌜ UnknownCallsKept ⌝ }
+{}
+
+// Show line leaves everything as it was, so that call number 8 and the look on shared bytes are one.
+pub fn looks_kept()
+    ensures { λ r. ⌜ LooksKept ⌝ }
 {}

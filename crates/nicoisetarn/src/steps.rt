@@ -1,20 +1,32 @@
-// A start and a call on an image, by value.
+// A start, a call and a look on an image, by value.
 ghost use mathlib.Core.Path.{_≡_};
 ghost use Prim.Native.Nat.{_≤_};
-ghost use Rattle.model.specs.State.{callOf};
 ghost use mathlib.Core.Option.{some};
-ghost use mathlib.Core.Bool.{true, false};
-ghost use Rattle.nicoisetarn.specs.Images.{openedOf, standsFor, ZeroFrom};
-ghost use Rattle.nicoisetarn.specs.Steps.{leftOf, started, called, stepped, unformed, recordsChanged};
+ghost use mathlib.Core.Bool.{true};
+ghost use Rattle.rules.specs.Runs.{refusal};
+ghost use Rattle.model.specs.State.{callOf};
+ghost use Rattle.nicoisetarn.specs.Images.{standsFor, ZeroFrom};
+ghost use Rattle.nicoisetarn.specs.Answers.{imagedAnswer};
+ghost use Rattle.nicoisetarn.specs.Steps.{leftOf, started, imageRefusal, called, stepped, lineShown, recordsChanged};
+use crate::AnswerImage;
 use crate::Image;
 use crate::ImageStep;
+use crate::KIND_NO_SUCH_CALL;
+use crate::KIND_READY;
+use crate::KIND_REFUSED;
+use crate::KIND_SHOWN;
 use crate::answers;
 use crate::answers::Numbered;
 use crate::images;
 use model::Call;
-use model::Figures;
 use model::StartAnswer;
 use model::State;
+use rules::BAD_FIGURES;
+use rules::Figures;
+use rules::NOT_WELL_FORMED;
+use rules::TAG_RECORDS;
+
+// ---- start
 
 pub(crate) fn start_image(
     image: Image,
@@ -32,16 +44,18 @@ pub(crate) fn start_image(
         StartAnswer::Ready => {
             let state = r.state;
             ImageStep {
-                reply: answers::coded(12, 0, 0),
-                next: images::imaged(image, state, 256),
+                answer: answers::coded(KIND_READY, 0, 0),
+                next: images::imaged(image, state, TAG_RECORDS),
             }
         }
         StartAnswer::NotAllowed(k) => ImageStep {
-            reply: answers::coded(0, k, 0),
+            answer: answers::coded(KIND_REFUSED, k, 0),
             next: image,
         },
     }
 }
+
+// ---- a call
 
 // How many records a call may change: none or all.
 fn records_changed(call: Call) -> usize
@@ -50,12 +64,12 @@ fn records_changed(call: Call) -> usize
     match call {
         Call::Load(_, _) => 0,
         Call::Store(_, _, _) => 0,
-        Call::Retry(_) => 256,
-        Call::Commit(_) => 256,
+        Call::Retry(_) => TAG_RECORDS,
+        Call::Commit(_) => TAG_RECORDS,
         Call::Abort(_) => 0,
-        Call::Idle => 256,
-        Call::Reply => 256,
-        Call::Flush => 256,
+        Call::Idle => TAG_RECORDS,
+        Call::Reply => TAG_RECORDS,
+        Call::Flush => TAG_RECORDS,
         Call::Show(_) => 0,
     }
 }
@@ -77,42 +91,36 @@ fn step_state(
     let next = r.next;
     let n = records_changed(call);
     ImageStep {
-        reply: answers::answer_image(answer, cache),
+        answer: answers::answer_image(answer),
         next: images::imaged(image, next, n),
     }
 }
 
-// The image's state with a committed number above the last: not well formed, whatever the image is.
-fn unformed_state(image: Image, used: usize) -> State
-    requires { ⌜ ZeroFrom used (image .tags) ⌝ }
-    ensures { λ r. ⌜ r ≡ unformed (openedOf image) ⌝ }
+// Why a call on an image that stands for no state is refused.
+fn image_refusal(image: Image, cache: &[u8], memory: &[u8]) -> u32
+    ensures { λ r. ⌜ r ≡ imageRefusal image (now (cache .entry)) (now (memory .entry)) ⌝ }
 {
-    let mut state = images::opened(image, used);
-    state.last = 0;
-    state.committed = 1;
-    state
-}
-
-// A call on an image that stands for none: the state is refused, and the image stays.
-fn refuse_image(
-    image: Image,
-    used: usize,
-    call: Call,
-    cache: &mut [u8],
-    memory: &mut [u8],
-) -> ImageStep
-    requires { ⌜ (standsFor image ≡ false) × ZeroFrom used (image .tags) ⌝ }
-    ensures { λ r. ⌜ leftOf r (now (cache .exit)) (now (memory .exit)) ≡ called (some (callOf call)) image (now (cache .entry)) (now (memory .entry)) ⌝ }
-{
-    let state = unformed_state(image, used);
-    let r = state.step(call, cache, memory);
-    let answer = r.answer;
-    ImageStep {
-        reply: answers::answer_image(answer, cache),
-        next: image,
+    let figures = Figures {
+        sets: image.sets,
+        ways: image.ways,
+    };
+    if line_checks::is_fit(figures, image.size, cache, memory) {
+        return NOT_WELL_FORMED;
     }
+    BAD_FIGURES
 }
 
+// A call that is refused with k; show line names no refusal.
+fn refused_with(call: Call, k: u32) -> AnswerImage
+    ensures { λ r. ⌜ r ≡ imagedAnswer (refusal (callOf call) k) ⌝ }
+{
+    if let Call::Show(_) = call {
+        return answers::coded(KIND_SHOWN, 0, 0);
+    }
+    answers::coded(KIND_REFUSED, k, 0)
+}
+
+// A call by its number.
 pub(crate) fn step_image(
     image: Image,
     call: u32,
@@ -131,11 +139,30 @@ pub(crate) fn step_image(
             if images::stands(image, used) {
                 return step_state(image, used, c, cache, memory);
             }
-            refuse_image(image, used, c, cache, memory)
+            let k = image_refusal(image, cache, memory);
+            ImageStep {
+                answer: refused_with(c, k),
+                next: image,
+            }
         }
         Numbered::Unknown => ImageStep {
-            reply: answers::coded(0, 6, 0),
+            answer: answers::coded(KIND_NO_SUCH_CALL, 0, 0),
             next: image,
         },
     }
+}
+
+// ---- show line, on bytes that are only read
+
+pub(crate) fn show_image(image: Image, address: u32, cache: &[u8], memory: &[u8]) -> AnswerImage
+    ensures { λ r. ⌜ r ≡ lineShown address image (now (cache .entry)) (now (memory .entry)) ⌝ }
+{
+    let used = images::used_records(image);
+    if images::stands(image, used) {
+        let state = images::opened(image, used);
+        let r = state.show(cache, memory, address);
+        let answer = r.answer;
+        return answers::answer_image(answer);
+    }
+    answers::coded(KIND_SHOWN, 0, 0)
 }

@@ -1,8 +1,11 @@
-// Plays a script: standard input to standard output. All that a script means is in `play`; this reads and writes.
+// Plays a script: standard input to standard output. All that a script means is in `script_play`; this reads and writes.
 ghost use Prim.Native.Nat.{_≤_};
 ghost use lib.ListN.{length};
 use libc::STDOUT_FILENO;
 use script_play::Player;
+
+// The most bytes of input that are read at once: they print at most 65,536.
+const CHUNK_BYTES: usize = 2048;
 
 // What a read gave: whether there may be more, and the player after it.
 struct Reading {
@@ -49,27 +52,27 @@ fn read_and_play(
     }
 }
 
-// Until a read gives nothing. A proved loop ends, and nothing says that the input does: the turns count down from a number that no
+// Until a read gives nothing. A proved loop ends, and nothing says that the input does: the reads count down from a number that no
 // run uses up.
 fn run(input: &mut [u8], cache: &mut [u8], memory: &mut [u8], out: &mut [u8]) -> Player {
     let mut now = Reading {
         more: true,
         player: Player::new(),
     };
-    let mut turns = u64::MAX;
-    while turns > 0 && now.more {
+    let mut reads = u64::MAX;
+    while reads > 0 && now.more {
         let p = now.player;
         let next = read_and_play(p, input, cache, memory, out);
         now = next;
-        turns -= 1;
+        reads -= 1;
     }
     let last = now.player;
     last
 }
 
-// A part of 2,048 bytes prints at most 65,536.
+// Lends the player its buffers, and writes what the end of the input prints.
 fn main() {
-    let mut input = [0u8; 2048];
+    let mut input = [0u8; CHUNK_BYTES];
     let mut cache = io::buffer();
     let mut memory = io::large_buffer();
     let mut out = io::large_buffer();

@@ -1,13 +1,13 @@
 -- Well-formed queues, as the code tests them: one entry in use, one free place, the rest of a queue; and that the tests of both
 -- queues are the clauses of well-formed.
-use Prim.Native.Nat.{ℕ, _+_, _-_, _%_, _≤_, _<_}
+use Prim.Native.Nat.{ℕ, _+_, _%_, _^_, _≤_, _<_}
 use mathlib.Core.Path.{_≡_, refl, sym, _∙_, ap}
 use mathlib.Core.Bool.{Bool, true, false, not, _&&_, _||_}
 use mathlib.Core.List.{List}
 use native.Mathlib.Omega.{arith}
 use lib.Dec.{eqb, ltb, leb}
 use lib.ListN.{length, getD, drop}
-use borrow.Author.Tests.{eqb-true, ltb-true, ltb-false, leb-true, leb-false, lt-ltb, le-ltb, le-leb, lt-leb, ne-eqb, not-true, not-false}
+use borrow.Author.Tests.{eqb-true, ltb-true, ltb-false, lt-ltb, le-ltb, le-leb, lt-leb, ne-eqb, not-true}
 use Rattle.lists.specs.Padded.{any, every, ascending, freeLast, rising}
 use Rattle.lists.proofs.Cond.{cases, and-left, and-right, and-both, or-one}
 use Rattle.lists.proofs.Every.{every-imp}
@@ -21,7 +21,8 @@ use Rattle.rules.specs.Forward.{someUncovered}
 use Rattle.rules.specs.Calls.{widthAllowed, passes, accessChecks, valueCheck}
 use Rattle.rules.specs.WellFormed.{freeZero, freePlacesLast, committedUpToLast, numbersRise, numbersUpToLast, numbersApart, accessesPass, committedWait, waitingUncovered, freeStoreZero, freeLoadZero, storePasses, loadPasses, committedWaitAt, waitingUncoveredAt, alone}
 use Rattle.rules.proofs.QueueView.{goodStore, goodLoad, stores-join, loads-join, store-zero, store-given, store-passes, load-zero, load-given, load-passes, load-waits, load-exposed}
-use Rattle.queue_checks.specs.Good.{queuesOf, sized, queuesGood, zeroStore, zeroLoad, storeGood, loadGood, storesGood, loadsGood}
+use Rattle.access.specs.AccessChecks.{sized}
+use Rattle.queue_checks.specs.Good.{queuesFrom, queuesGood, zeroStore, zeroLoad, storeGood, loadGood, storesGood, loadsGood}
 
 -- ---- tests
 
@@ -36,40 +37,19 @@ iff false false f g = refl
 
 -- ---- accesses
 
--- a width is 1, 2 or 4
-pub by-width : {P : Type 0} (w : ℕ) → widthAllowed w ≡ true → (w ≡ 1 → P) → (w ≡ 2 → P) → (w ≡ 4 → P) → P
-by-width {P} w e one two four = cases (eqb w 1)
-    (λ t. one (eqb-true w 1 t))
-    (λ t.
-    let e′ : (eqb w 2 || eqb w 4) ≡ true = rw t at e in
-    cases (eqb w 2) (λ u. two (eqb-true w 2 u)) (λ u. four (eqb-true w 4 (rw u at e′))))
-
-pub width-some : (w : ℕ) → widthAllowed w ≡ true → 0 < w
-width-some w e = by-width w e (λ t. omega arith) (λ t. omega arith) (λ t. omega arith)
-
--- the end of an access, without a sum
-pub access-ends : (size a w : ℕ) → w ≤ size → leb a (size - w) ≡ (not (ltb size (a + w)) && true)
-access-ends size a w h = cases (leb a (size - w))
-    (λ e. rw (e, le-ltb size (a + w) (omega (arith, leb-true a (size - w) e))))
-    (λ e. rw (e, lt-ltb size (a + w) (omega (arith, leb-false a (size - w) e))))
-
 -- a value below a limit
-pub below-leb : (v n : ℕ) → ltb v n ≡ not (leb n v)
+below-leb : (v n : ℕ) → ltb v n ≡ not (leb n v)
 below-leb v n = cases (ltb v n)
     (λ e. e ∙ sym (ap not (lt-leb n v (ltb-true v n e))))
     (λ e. e ∙ sym (ap not (le-leb n v (ltb-false v n e))))
 
-module _ (size a w : ℕ) (e : passes (accessChecks (sized size) a w) ≡ true) where
-  pub passes-width : widthAllowed w ≡ true
-  unfolding every
-  passes-width = not-false (widthAllowed w) (not-true (not (widthAllowed w)) (and-left _ _ e))
-
-  pub passes-end : a + w ≤ size
-  unfolding every
-  passes-end =
-      ltb-false size (a + w)
-      (not-true (ltb size (a + w))
-      (and-left _ true (and-right (not (not (eqb (a % w) 0))) _ (and-right (not (not (widthAllowed w))) _ e))))
+-- an access that passes its checks ends in memory
+pub passes-end : (size a w : ℕ) → passes (accessChecks (sized size) a w) ≡ true → a + w ≤ size
+unfolding every
+passes-end size a w e =
+    ltb-false size (a + w)
+    (not-true (ltb size (a + w))
+    (and-left _ true (and-right (not (not (eqb (a % w) 0))) _ (and-right (not (not (widthAllowed w))) _ e))))
 
 -- ---- one entry in use
 
@@ -77,34 +57,65 @@ module _ (size a w : ℕ) (e : passes (accessChecks (sized size) a w) ≡ true) 
 used : {m n : ℕ} → m < n → eqb n 0 ≡ false
 used {m} {n} h = ne-eqb n 0 (λ z. omega arith)
 
-pub store-used :
-    (last size m : ℕ) (s : StoreEntry) → m < s .number
-    → (ltb m (s .number) && storeGood last size s)
-    ≡ (leb (s .number) last
-    && (passes (accessChecks (sized size) (s .address) (s .width)) && not (valueCheck (s .width) (s .value) .applies)))
-unfolding storeGood freeStoreZero storePasses
-store-used last size m s h = rw (lt-ltb m (s .number) h, used h)
+-- what is asked of a held store, test by test
+module _ (last size m : ℕ) (s : StoreEntry) where
+  abbrev goodStoreAbove : Bool
+  goodStoreAbove = ltb m (s .number) && storeGood last size s
 
-pub load-used :
-    (last h size m : ℕ) (ss : List StoreEntry) (l : LoadEntry) → m < l .number
-    → (ltb m (l .number) && loadGood last h size ss l)
-    ≡ (leb (l .number) last
-    && (passes (accessChecks (sized size) (l .address) (l .width))
-    && ((l .waiting || ltb h (l .number)) && (not (l .waiting) || someUncovered (l .number) ss (l .address) (l .width)))))
-unfolding loadGood freeLoadZero loadPasses committedWaitAt waitingUncoveredAt
-load-used last h size m ss l p = rw (lt-ltb m (l .number) p, used p)
+  pub store-low : s .number ≤ m → false ≡ goodStoreAbove
+  store-low h = rw (le-ltb m (s .number) h)
 
-module _
-    (last h size m : ℕ) (ss : List StoreEntry) (l : LoadEntry) (above : m < l .number) (low : l .number ≤ last)
-    (pass : passes (accessChecks (sized size) (l .address) (l .width)) ≡ true) where
-  -- what is asked of a waiting load
-  pub load-waiting : l .waiting ≡ true → (ltb m (l .number) && loadGood last h size ss l) ≡ someUncovered (l .number) ss (l .address) (l .width)
-  load-waiting w = load-used last h size m ss l above ∙ rw (le-leb (l .number) last low, pass, w)
+  module _ (above : m < s .number) where
+    store-used :
+        goodStoreAbove
+        ≡ (leb (s .number) last
+        && (passes (accessChecks (sized size) (s .address) (s .width)) && not (valueCheck (s .width) (s .value) .applies)))
+    unfolding storeGood freeStoreZero storePasses
+    store-used = rw (lt-ltb m (s .number) above, used above)
 
-  -- what is asked of an answered load
-  pub load-answered : l .waiting ≡ false → (ltb m (l .number) && loadGood last h size ss l) ≡ ltb h (l .number)
-  load-answered w =
-      load-used last h size m ss l above ∙ rw (le-leb (l .number) last low, pass, w) (and-true (ltb h (l .number)))
+    pub store-late : last < s .number → false ≡ goodStoreAbove
+    store-late h = sym (store-used ∙ rw (lt-leb (s .number) last h))
+
+    module _ (low : s .number ≤ last) where
+      pub store-astray : passes (accessChecks (sized size) (s .address) (s .width)) ≡ false → false ≡ goodStoreAbove
+      store-astray e = sym (store-used ∙ rw (le-leb (s .number) last low, e))
+
+      pub store-by-value :
+          passes (accessChecks (sized size) (s .address) (s .width)) ≡ true → ltb (s .value) (256 ^ s .width) ≡ goodStoreAbove
+      store-by-value e =
+          below-leb (s .value) (256 ^ s .width) ∙ sym (store-used ∙ rw (le-leb (s .number) last low, e))
+
+-- what is asked of a listed load, test by test
+module _ (last h size m : ℕ) (ss : List StoreEntry) (l : LoadEntry) where
+  abbrev goodLoadAbove : Bool
+  goodLoadAbove = ltb m (l .number) && loadGood last h size ss l
+
+  pub load-low : l .number ≤ m → false ≡ goodLoadAbove
+  load-low p = rw (le-ltb m (l .number) p)
+
+  module _ (above : m < l .number) where
+    load-used :
+        goodLoadAbove
+        ≡ (leb (l .number) last
+        && (passes (accessChecks (sized size) (l .address) (l .width))
+        && ((l .waiting || ltb h (l .number)) && (not (l .waiting) || someUncovered (l .number) ss (l .address) (l .width)))))
+    unfolding loadGood freeLoadZero loadPasses committedWaitAt waitingUncoveredAt
+    load-used = rw (lt-ltb m (l .number) above, used above)
+
+    pub load-late : last < l .number → false ≡ goodLoadAbove
+    load-late p = sym (load-used ∙ rw (lt-leb (l .number) last p))
+
+    module _ (low : l .number ≤ last) where
+      pub load-astray : passes (accessChecks (sized size) (l .address) (l .width)) ≡ false → false ≡ goodLoadAbove
+      load-astray e = sym (load-used ∙ rw (le-leb (l .number) last low, e))
+
+      module _ (pass : passes (accessChecks (sized size) (l .address) (l .width)) ≡ true) where
+        pub load-waiting : l .waiting ≡ true → someUncovered (l .number) ss (l .address) (l .width) ≡ goodLoadAbove
+        load-waiting w = sym (load-used ∙ rw (le-leb (l .number) last low, pass, w))
+
+        pub load-answered : l .waiting ≡ false → ltb h (l .number) ≡ goodLoadAbove
+        load-answered w =
+            sym (load-used ∙ rw (le-leb (l .number) last low, pass, w) (and-true (ltb h (l .number))))
 
 -- ---- one free place
 
@@ -173,7 +184,7 @@ module _ (last h size : ℕ) (ss : List StoreEntry) (ls : List LoadEntry) where
   tested = leb h last && (storesGood last size 0 ss && (loadsGood last h size ss 0 ls && every (alone ls) ss))
 
   abbrev q : Queues
-  q = queuesOf last h ss ls
+  q = queuesFrom last h ss ls
 
   abbrev b : Hierarchy
   b = sized size
@@ -235,5 +246,20 @@ module _ (last h size : ℕ) (ss : List StoreEntry) (ls : List LoadEntry) where
       (and-both (loadsGood last h size ss 0 ls) _ (and-both _ _ lr le) apart))
 
   -- the tests of the code are the clauses
-  pub tested-good : tested ≡ queuesGood q b
+  tested-good : tested ≡ queuesGood q b
   tested-good = iff tested (queuesGood q b) there back
+
+  -- and what each test leaves of them
+  pub queues-late : last < h → false ≡ queuesGood q b
+  queues-late e = sym (sym tested-good ∙ rw (lt-leb h last e))
+
+  module _ (order : h ≤ last) where
+    pub queues-by-stores : storesGood last size 0 ss ≡ false → false ≡ queuesGood q b
+    queues-by-stores s = sym (sym tested-good ∙ rw (le-leb h last order, s))
+
+    module _ (s : storesGood last size 0 ss ≡ true) where
+      pub queues-by-loads : loadsGood last h size ss 0 ls ≡ false → false ≡ queuesGood q b
+      queues-by-loads l = sym (sym tested-good ∙ rw (le-leb h last order, s, l))
+
+      pub queues-by-numbers : loadsGood last h size ss 0 ls ≡ true → every (alone ls) ss ≡ queuesGood q b
+      queues-by-numbers l = sym (sym tested-good ∙ rw (le-leb h last order, s, l))

@@ -9,22 +9,19 @@ use Rattle.lists.specs.Padded.{every, rising}
 use Rattle.rules.specs.declared.StoreEntry.{StoreEntry}
 use Rattle.rules.specs.declared.LoadEntry.{LoadEntry}
 use Rattle.rules.specs.declared.Request.the-variants.{Free}
-use Rattle.rules.specs.Shape.{Queues, Hierarchy, noFigures, isFreeStore, isFreeLoad}
+use Rattle.rules.specs.Shape.{Queues, Hierarchy, isFreeStore, isFreeLoad}
 use Rattle.rules.specs.WellFormed.{freeZero, freePlacesLast, committedUpToLast, numbersRise, numbersUpToLast, numbersApart, accessesPass, committedWait, waitingUncovered, freeStoreZero, freeLoadZero, storePasses, loadPasses, committedWaitAt, waitingUncoveredAt}
+use Rattle.access.specs.AccessChecks.{sized}
 
 -- ---- records from their fields
 
 -- last, h and the two queues
-abbrev pub queuesOf : ℕ → ℕ → List StoreEntry → List LoadEntry → Queues
-queuesOf last h ss ls = record { last = last; committed = h; request = Free; stores = ss; loads = ls }
+abbrev pub queuesFrom : ℕ → ℕ → List StoreEntry → List LoadEntry → Queues
+queuesFrom last h ss ls = record { last = last; committed = h; request = Free; stores = ss; loads = ls }
 
 -- h and the two queues
 abbrev pub queuesWith : ℕ → List StoreEntry → List LoadEntry → Queues
-queuesWith h ss ls = queuesOf 0 h ss ls
-
--- the memory length
-abbrev pub sized : ℕ → Hierarchy
-sized n = record { figures = noFigures; size = n; tags = []; cache = []; memory = [] }
+queuesWith h ss ls = queuesFrom 0 h ss ls
 
 -- ---- the clauses
 

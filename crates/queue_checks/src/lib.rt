@@ -1,23 +1,32 @@
 // Tests of the two queues together: whether the oldest store may drain, whether a requested line is wanted, and whether every
 // entry is well formed. A public function takes any queues, and its answer is a definition of the rules.
 ghost use mathlib.Core.Path.{_≡_};
-ghost use mathlib.Core.Bool.{true, not, _&&_};
+ghost use mathlib.Core.Bool.{true, _&&_};
 ghost use Prim.Native.Nat.{_+_, _<_, _≤_};
 ghost use lib.Dec.{ltb, eqb};
 ghost use lib.ListN.{drop};
 ghost use Rattle.lists.specs.Padded.{any, every, freeLast};
 ghost use Rattle.rules.specs.Forward.{olderCovers, someUncovered};
-ghost use Rattle.rules.specs.Calls.{passes, accessChecks, valueCheck, widthAllowed, storeReady};
+ghost use Rattle.rules.specs.Shape.{storePlaces, loadPlaces, topNumber};
+ghost use Rattle.rules.specs.Calls.{storeReady};
 ghost use Rattle.rules.specs.WellFormed.{alone, waitsFor, requestWanted};
-ghost use Rattle.queue_checks.specs.Good.{queuesOf, queuesWith, sized, queuesGood, zeroStore, zeroLoad, storeGood, loadGood, storesGood, loadsGood};
+ghost use Rattle.access.specs.AccessChecks.{sized};
+ghost use Rattle.queue_checks.specs.Good.{queuesFrom, queuesWith, queuesGood, zeroStore, zeroLoad, storeGood, loadGood, storesGood, loadsGood};
+use rules::LINE_BYTES;
+use rules::LOAD_PLACES;
 use rules::LoadEntry;
 use rules::Request;
+use rules::STORE_PLACES;
 use rules::StoreEntry;
 
 // ---- draining and requests
 
 // Whether the oldest held store is committed and no waiting load has a smaller number.
-pub fn store_ready(stores: [StoreEntry; 16], loads: [LoadEntry; 8], committed: u32) -> bool
+pub fn store_ready(
+    stores: [StoreEntry; STORE_PLACES],
+    loads: [LoadEntry; LOAD_PLACES],
+    committed: u32,
+) -> bool
     ensures { λ r. ⌜ r ≡ storeReady (queuesWith committed stores loads) ⌝ }
 {
     let s = stores[0];
@@ -41,17 +50,17 @@ fn is_waiting_for(l: LoadEntry, h: u32, line: u32) -> bool
         return false;
     }
     if l.waiting {
-        return l.address / 16 == line;
+        return l.address / LINE_BYTES == line;
     }
     false
 }
 
 // Whether a committed load waits for the line.
-fn has_waiting_for(loads: [LoadEntry; 8], h: u32, line: u32) -> bool
+fn has_waiting_for(loads: [LoadEntry; LOAD_PLACES], h: u32, line: u32) -> bool
     ensures { λ r. ⌜ r ≡ any (waitsFor h line) loads ⌝ }
 {
     let mut i: usize = 0;
-    while i < 8 {
+    while i < LOAD_PLACES {
         let l = loads[i];
         if is_waiting_for(l, h, line) {
             return true;
@@ -64,8 +73,8 @@ fn has_waiting_for(loads: [LoadEntry; 8], h: u32, line: u32) -> bool
 // Whether the requested line is wanted by a committed waiting load, or by the oldest store, committed and with no older waiting load.
 pub fn request_wanted(
     request: Request,
-    stores: [StoreEntry; 16],
-    loads: [LoadEntry; 8],
+    stores: [StoreEntry; STORE_PLACES],
+    loads: [LoadEntry; LOAD_PLACES],
     committed: u32,
 ) -> bool
     ensures { λ r. ⌜ r ≡ requestWanted request (queuesWith committed stores loads) ⌝ }
@@ -78,7 +87,7 @@ pub fn request_wanted(
             }
             if store_ready(stores, loads, committed) {
                 let s = stores[0];
-                return s.address / 16 == line;
+                return s.address / LINE_BYTES == line;
             }
             false
         }
@@ -86,47 +95,6 @@ pub fn request_wanted(
 }
 
 // ---- well-formed queues
-
-// A width of 1, 2 or 4.
-fn is_width(width: u32) -> bool
-    ensures { λ r. ⌜ r ≡ widthAllowed width ⌝ }
-{
-    if width == 1 {
-        return true;
-    }
-    if width == 2 {
-        return true;
-    }
-    width == 4
-}
-
-// An access passes the input checks: its width, its alignment, and its end within memory.
-fn access_passes(address: u32, width: u32, size: u32) -> bool
-    ensures { λ r. ⌜ r ≡ passes (accessChecks (sized size) address width) ⌝ }
-{
-    if is_width(width) {
-        if address % width == 0 {
-            if width <= size {
-                return address <= size - width;
-            }
-        }
-    }
-    false
-}
-
-// A stored value is below 256 to the power width.
-fn value_passes(width: u32, value: u32) -> bool
-    requires { ⌜ widthAllowed width ≡ true ⌝ }
-    ensures { λ r. ⌜ r ≡ not (valueCheck width value .applies) ⌝ }
-{
-    if width == 1 {
-        return value < 256;
-    }
-    if width == 2 {
-        return value < 65536;
-    }
-    true
-}
 
 // A held store with a number above m that is as it has to be.
 fn is_good_store(s: StoreEntry, m: u32, last: u32, size: u32) -> bool
@@ -138,8 +106,8 @@ fn is_good_store(s: StoreEntry, m: u32, last: u32, size: u32) -> bool
     if last < s.number {
         return false;
     }
-    if access_passes(s.address, s.width, size) {
-        return value_passes(s.width, s.value);
+    if access::access_passes(s.address, s.width, size) {
+        return access::value_fits(s.value, s.width);
     }
     false
 }
@@ -159,12 +127,12 @@ fn is_zero_store(s: StoreEntry) -> bool
 }
 
 // The places from k on are all zero.
-fn zero_stores(stores: [StoreEntry; 16], k: usize) -> bool
-    requires { ⌜ k ≤ 16 ⌝ }
+fn zero_stores(stores: [StoreEntry; STORE_PLACES], k: usize) -> bool
+    requires { ⌜ k ≤ storePlaces ⌝ }
     ensures { λ r. ⌜ r ≡ every zeroStore (drop k stores) ⌝ }
 {
     let mut i = k;
-    while i < 16 {
+    while i < STORE_PLACES {
         let s = stores[i];
         if is_zero_store(s) {
             i += 1;
@@ -176,12 +144,12 @@ fn zero_stores(stores: [StoreEntry; 16], k: usize) -> bool
 }
 
 // The held stores, each with a higher number than the one before, and behind them free places.
-fn stores_good(stores: [StoreEntry; 16], last: u32, size: u32) -> bool
+fn stores_good(stores: [StoreEntry; STORE_PLACES], last: u32, size: u32) -> bool
     ensures { λ r. ⌜ r ≡ storesGood last size 0 stores ⌝ }
 {
     let mut m: u32 = 0;
     let mut i: usize = 0;
-    while i < 16 {
+    while i < STORE_PLACES {
         let s = stores[i];
         if s.number == 0 {
             return zero_stores(stores, i);
@@ -197,11 +165,11 @@ fn stores_good(stores: [StoreEntry; 16], last: u32, size: u32) -> bool
 }
 
 // Whether a held store with a smaller number than i covers the byte at a.
-fn is_covered(stores: [StoreEntry; 16], i: u32, a: u32) -> bool
+fn is_covered(stores: [StoreEntry; STORE_PLACES], i: u32, a: u32) -> bool
     ensures { λ r. ⌜ r ≡ any (olderCovers i a) stores ⌝ }
 {
     let mut k: usize = 0;
-    while k < 16 {
+    while k < STORE_PLACES {
         let s = stores[k];
         if store_queue::is_older_cover(s, i, a) {
             return true;
@@ -212,8 +180,8 @@ fn is_covered(stores: [StoreEntry; 16], i: u32, a: u32) -> bool
 }
 
 // Whether some of the bytes from a on is covered by no held store with a smaller number than i.
-fn has_uncovered(stores: [StoreEntry; 16], i: u32, a: u32, width: u32) -> bool
-    requires { ⌜ a + width ≤ 4294967295 ⌝ }
+fn has_uncovered(stores: [StoreEntry; STORE_PLACES], i: u32, a: u32, width: u32) -> bool
+    requires { ⌜ a + width ≤ topNumber ⌝ }
     ensures { λ r. ⌜ r ≡ someUncovered i stores a width ⌝ }
 {
     let end = a + width;
@@ -235,7 +203,7 @@ fn is_good_load(
     last: u32,
     committed: u32,
     size: u32,
-    stores: [StoreEntry; 16],
+    stores: [StoreEntry; STORE_PLACES],
 ) -> bool
     ensures { λ r. ⌜ r ≡ (ltb m (l .number) && loadGood last committed size stores l) ⌝ }
 {
@@ -245,7 +213,7 @@ fn is_good_load(
     if last < l.number {
         return false;
     }
-    if access_passes(l.address, l.width, size) {
+    if access::access_passes(l.address, l.width, size) {
         if l.waiting {
             return has_uncovered(stores, l.number, l.address, l.width);
         }
@@ -269,12 +237,12 @@ fn is_zero_load(l: LoadEntry) -> bool
 }
 
 // The places from k on are all zero.
-fn zero_loads(loads: [LoadEntry; 8], k: usize) -> bool
-    requires { ⌜ k ≤ 8 ⌝ }
+fn zero_loads(loads: [LoadEntry; LOAD_PLACES], k: usize) -> bool
+    requires { ⌜ k ≤ loadPlaces ⌝ }
     ensures { λ r. ⌜ r ≡ every zeroLoad (drop k loads) ⌝ }
 {
     let mut i = k;
-    while i < 8 {
+    while i < LOAD_PLACES {
         let l = loads[i];
         if is_zero_load(l) {
             i += 1;
@@ -287,17 +255,17 @@ fn zero_loads(loads: [LoadEntry; 8], k: usize) -> bool
 
 // The listed loads, each with a higher number than the one before, and behind them free places.
 fn loads_good(
-    loads: [LoadEntry; 8],
+    loads: [LoadEntry; LOAD_PLACES],
     last: u32,
     committed: u32,
     size: u32,
-    stores: [StoreEntry; 16],
+    stores: [StoreEntry; STORE_PLACES],
 ) -> bool
     ensures { λ r. ⌜ r ≡ loadsGood last committed size stores 0 loads ⌝ }
 {
     let mut m: u32 = 0;
     let mut i: usize = 0;
-    while i < 8 {
+    while i < LOAD_PLACES {
         let l = loads[i];
         if l.number == 0 {
             return zero_loads(loads, i);
@@ -313,13 +281,13 @@ fn loads_good(
 }
 
 // Whether a load of number n is listed; behind a free place there is none.
-fn is_listed(loads: [LoadEntry; 8], n: u32) -> bool
+fn is_listed(loads: [LoadEntry; LOAD_PLACES], n: u32) -> bool
     requires { ⌜ freeLast (λ l. l .number) loads ≡ true ⌝ }
     requires { ⌜ 0 < n ⌝ }
     ensures { λ r. ⌜ r ≡ any (λ l. eqb (l .number) n) loads ⌝ }
 {
     let mut i: usize = 0;
-    while i < 8 {
+    while i < LOAD_PLACES {
         let l = loads[i];
         if l.number == 0 {
             return false;
@@ -333,13 +301,13 @@ fn is_listed(loads: [LoadEntry; 8], n: u32) -> bool
 }
 
 // No number is in both queues.
-fn numbers_apart(stores: [StoreEntry; 16], loads: [LoadEntry; 8]) -> bool
+fn numbers_apart(stores: [StoreEntry; STORE_PLACES], loads: [LoadEntry; LOAD_PLACES]) -> bool
     requires { ⌜ freeLast (λ s. s .number) stores ≡ true ⌝ }
     requires { ⌜ freeLast (λ l. l .number) loads ≡ true ⌝ }
     ensures { λ r. ⌜ r ≡ every (alone loads) stores ⌝ }
 {
     let mut i: usize = 0;
-    while i < 16 {
+    while i < STORE_PLACES {
         let s = stores[i];
         if s.number == 0 {
             return true;
@@ -354,13 +322,13 @@ fn numbers_apart(stores: [StoreEntry; 16], loads: [LoadEntry; 8]) -> bool
 
 // Whether the queues are well formed, by last, h and the memory length: one pass over each queue, then no number twice.
 pub fn queues_good(
-    stores: [StoreEntry; 16],
-    loads: [LoadEntry; 8],
+    stores: [StoreEntry; STORE_PLACES],
+    loads: [LoadEntry; LOAD_PLACES],
     last: u32,
     committed: u32,
     size: u32,
 ) -> bool
-    ensures { λ r. ⌜ r ≡ queuesGood (queuesOf last committed stores loads) (sized size) ⌝ }
+    ensures { λ r. ⌜ r ≡ queuesGood (queuesFrom last committed stores loads) (sized size) ⌝ }
 {
     if last < committed {
         return false;

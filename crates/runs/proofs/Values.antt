@@ -1,11 +1,11 @@
 -- Demand 2 for runs of the code: the claims of the rules, carried over call by call.
 use Prim.Native.Nat.{ℕ}
 use mathlib.Core.Path.{_≡_, refl, sym, _∙_, ap, subst}
-use mathlib.Core.Bool.{true, false, false≢true}
+use mathlib.Core.Bool.{true, false≢true}
 use mathlib.Core.List.{[], _∷_, _++_}
 use Rattle.rules.specs.Shape.{World}
 use Rattle.rules.specs.Calls as rules
-use Rattle.rules.specs.Calls.{Answer, Outcome, isAccepted, flushRule}
+use Rattle.rules.specs.Calls.{Outcome, isAccepted, flushRule}
 use Rattle.rules.specs.Lines.{dirtyLines}
 use Rattle.rules.specs.Runs.{answer, next}
 use Rattle.rules.specs.Flat.{History, flatOf, appliedAll, heldStores, flatWithHeld, flatCommitted}

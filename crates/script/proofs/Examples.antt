@@ -8,15 +8,15 @@ use Rattle.rules.specs.Computed.{computed}
 use Rattle.script.specs.Commands.{make, words, decimal, numbers, commandOf}
 use Rattle.script.specs.Words.{digits, said, answerLine}
 use Rattle.script.specs.Play.{effect, byteOutput, afterByte, output, afterBytes, atEnd, played}
-use Rattle.script.specs.Example.{ended, exampleLines, exampleAnswers, edgeInput, edgeAnswers, badLines, longLine, largestLine}
+use Rattle.script.specs.Example.{exampleInput, exampleOutput, edgeInput, edgeOutput, badLines, longLine, largestLine}
 use Rattle.script.specs.Claims.{isBad, ExamplesPlayed}
 
-example-played : played (ended exampleLines) ≡ ended exampleAnswers
-unfolding computed words decimal numbers commandOf digits said answerLine effect byteOutput afterByte output afterBytes atEnd played ended
+example-played : played exampleInput ≡ exampleOutput
+unfolding computed words decimal numbers commandOf digits said answerLine effect byteOutput afterByte output afterBytes atEnd played
 example-played = refl
 
-edge-played : played edgeInput ≡ ended edgeAnswers
-unfolding computed words decimal numbers commandOf digits said answerLine effect byteOutput afterByte output afterBytes atEnd played ended
+edge-played : played edgeInput ≡ edgeOutput
+unfolding computed words decimal numbers commandOf digits said answerLine effect byteOutput afterByte output afterBytes atEnd played
 edge-played = refl
 
 bad-lines : every (λ l. isBad (commandOf l)) badLines ≡ true

@@ -1,4 +1,4 @@
--- The laws of the script player, and its examples, computed.
+-- The laws of the script player: an input may be cut anywhere, and the bytes held of a line are enough.
 use Prim.Native.Nat.{ℕ}
 use mathlib.Core.Path.{refl, sym, _∙_, ap}
 use mathlib.Core.List.{List, [], _∷_, _++_, append-assoc}
@@ -8,7 +8,7 @@ use lib.ListN.{length, take, length-take}
 use lib.Seq.{take-all}
 use borrow.Author.Tests.{lt-ltb, ltb-true, ltb-false}
 use Rattle.lists.proofs.Cond.{cases}
-use Rattle.script.specs.Commands.{commandOf}
+use Rattle.script.specs.Commands.{longestLine, heldBytes, commandOf}
 use Rattle.script.specs.Play.{byteOutput, afterByte, output, afterBytes}
 use Rattle.script.specs.Claims.{CutsDoNotMatter, LinesHeldShort}
 
@@ -21,6 +21,6 @@ cuts (b ∷ xs) ys p =
 
 pub held-short : LinesHeldShort
 unfolding commandOf
-held-short line = cases (ltb 64 (length line))
-    (λ t. rw (t, lt-ltb 64 (length (take 65 line)) (omega (arith, length-take 65 line, ltb-true 64 (length line) t))))
-    (λ t. rw (take-all 65 line (omega (arith, ltb-false 64 (length line) t))))
+held-short line = cases (ltb longestLine (length line))
+    (λ t. rw (t, lt-ltb longestLine (length (take heldBytes line)) (omega (arith, length-take heldBytes line, ltb-true longestLine (length line) t))))
+    (λ t. rw (take-all heldBytes line (omega (arith, ltb-false longestLine (length line) t))))

@@ -1,34 +1,46 @@
 -- The script language: a line, as bytes before its LF, taken apart.
 use Prim.Native.Nat.{ℕ, _+_, _*_, _-_}
+use Prim.Native.Char.{code}
 use mathlib.Core.Bool.{Bool, cond, _&&_}
 use mathlib.Core.List.{List, [], _∷_}
 use mathlib.Core.Option.{Option, some, none}
 use lib.Dec.{ltb, leb, eqb}
 use lib.ListN.{length}
 use Rattle.lists.specs.Padded.{every}
-use Rattle.rules.specs.Shape.{topNumber}
+use Rattle.rules.specs.Shape.{topNumber, geometry}
 use Rattle.rules.specs.Calls.{Call, load, store, retry, commit, abort, idle, reply, flush}
+use Rattle.rules.specs.declared.Figures.{Figures}
 
--- what a line asks for: a start (sets, ways, memory), or a call
+-- what a line asks for: a start (its figures and the memory length), or a call
 pub data Command : Type 0 where
-  start : ℕ → ℕ → ℕ → Command
+  start : Figures → ℕ → Command
   make : Call → Command
 
 -- ---- bytes
 
 abbrev pub lineFeed : ℕ
-lineFeed = 10
+lineFeed = code "\n"
 
 abbrev pub space : ℕ
-space = 32
+space = code " "
 
 -- 0 to 9
+abbrev pub firstDigit : ℕ
+firstDigit = code "0"
+
+abbrev pub lastDigit : ℕ
+lastDigit = code "9"
+
 abbrev pub isDigit : ℕ → Bool
-isDigit b = leb 48 b && leb b 57
+isDigit b = leb firstDigit b && leb b lastDigit
 
 -- "at most 64 bytes before it"
 abbrev pub longestLine : ℕ
 longestLine = 64
+
+-- what is held of a line: one byte more than the longest has, which tells that it is longer
+abbrev pub heldBytes : ℕ
+heldBytes = longestLine + 1
 
 -- ---- words: "separated by one space"
 
@@ -46,7 +58,7 @@ words (b ∷ bs) = cond (eqb b space) ([] ∷ words bs) (joined b (words bs))
 -- the value of digits that follow the number v
 unfoldable pub decimal : ℕ → List ℕ → ℕ
 decimal v [] = v
-decimal v (b ∷ bs) = decimal (10 * v + (b - 48)) bs
+decimal v (b ∷ bs) = decimal (10 * v + (b - firstDigit)) bs
 
 abbrev pub isNumber : List ℕ → Bool
 isNumber w = ltb 0 (length w) && (every isDigit w && leb (decimal 0 w) topNumber)
@@ -64,20 +76,20 @@ numbers (w ∷ ws) = cond (isNumber w) (alsoNumber (decimal 0 w) (numbers ws)) n
 
 -- a letter with no number: I (idle), R (reply), F (flush)
 abbrev pub withNone : ℕ → Option Command
-withNone c = cond (eqb c 73) (some (make idle)) (cond (eqb c 82) (some (make reply)) (cond (eqb c 70) (some (make flush)) none))
+withNone c = cond (eqb c (code "I")) (some (make idle)) (cond (eqb c (code "R")) (some (make reply)) (cond (eqb c (code "F")) (some (make flush)) none))
 
 -- with one: A number (inquiry), C number (commit), X number (abort)
 abbrev pub withOne : ℕ → ℕ → Option Command
 withOne c n =
-    cond (eqb c 65) (some (make (retry n))) (cond (eqb c 67) (some (make (commit n))) (cond (eqb c 88) (some (make (abort n))) none))
+    cond (eqb c (code "A")) (some (make (retry n))) (cond (eqb c (code "C")) (some (make (commit n))) (cond (eqb c (code "X")) (some (make (abort n))) none))
 
 -- with two: L (load) address width
 abbrev pub withTwo : ℕ → ℕ → ℕ → Option Command
-withTwo c a w = cond (eqb c 76) (some (make (load a w))) none
+withTwo c a w = cond (eqb c (code "L")) (some (make (load a w))) none
 
 -- with three: G sets ways memory, S (store) address width value
 abbrev pub withThree : ℕ → ℕ → ℕ → ℕ → Option Command
-withThree c x y z = cond (eqb c 71) (some (start x y z)) (cond (eqb c 83) (some (make (store x y z))) none)
+withThree c x y z = cond (eqb c (code "G")) (some (start (geometry x y) z)) (cond (eqb c (code "S")) (some (make (store x y z))) none)
 
 abbrev pub named : ℕ → Option (List ℕ) → Option Command
 named c none = none

@@ -1,67 +1,26 @@
--- 01's example, whole lines that are no line, and lines that just are.
+-- 01's example, an input at the edges, lines that are no command, and lines that just are one.
 use Prim.Native.Nat.{ℕ}
+use Prim.Native.Char.{code}
 use mathlib.Core.List.{List, [], _∷_, _++_}
 use lib.ListN.{replicate}
-use Rattle.script.specs.Commands.{lineFeed}
-
--- lines, each with its LF
-unfoldable pub ended : List (List ℕ) → List ℕ
-ended [] = []
-ended (l ∷ ls) = l ++ (lineFeed ∷ ended ls)
+use Rattle.script.specs.Text.{bytesOf}
 
 -- ---- 01's example
 
--- G 1 1 32 / S 4 1 7 / L 4 1 / L 5 1 / X 3 / C 2 / I / R / I / F / L 5 1
-abbrev pub exampleLines : List (List ℕ)
-exampleLines =
-    (71 ∷ 32 ∷ 49 ∷ 32 ∷ 49 ∷ 32 ∷ 51 ∷ 50 ∷ []) ∷
-    (83 ∷ 32 ∷ 52 ∷ 32 ∷ 49 ∷ 32 ∷ 55 ∷ []) ∷
-    (76 ∷ 32 ∷ 52 ∷ 32 ∷ 49 ∷ []) ∷
-    (76 ∷ 32 ∷ 53 ∷ 32 ∷ 49 ∷ []) ∷
-    (88 ∷ 32 ∷ 51 ∷ []) ∷
-    (67 ∷ 32 ∷ 50 ∷ []) ∷
-    (73 ∷ []) ∷
-    (82 ∷ []) ∷
-    (73 ∷ []) ∷
-    (70 ∷ []) ∷
-    (76 ∷ 32 ∷ 53 ∷ 32 ∷ 49 ∷ []) ∷ []
+abbrev pub exampleInput : List ℕ
+exampleInput = bytesOf "G 1 1 32\nS 4 1 7\nL 4 1\nL 5 1\nX 3\nC 2\nI\nR\nI\nF\nL 5 1\n"
 
--- ready / stored 1 / value 2 7 / waits 3 / kept 2 / committed 2 / request 0 / filled 0 / drained 1 / flushed 1 / value 3 0
-abbrev pub exampleAnswers : List (List ℕ)
-exampleAnswers =
-    (114 ∷ 101 ∷ 97 ∷ 100 ∷ 121 ∷ []) ∷
-    (115 ∷ 116 ∷ 111 ∷ 114 ∷ 101 ∷ 100 ∷ 32 ∷ 49 ∷ []) ∷
-    (118 ∷ 97 ∷ 108 ∷ 117 ∷ 101 ∷ 32 ∷ 50 ∷ 32 ∷ 55 ∷ []) ∷
-    (119 ∷ 97 ∷ 105 ∷ 116 ∷ 115 ∷ 32 ∷ 51 ∷ []) ∷
-    (107 ∷ 101 ∷ 112 ∷ 116 ∷ 32 ∷ 50 ∷ []) ∷
-    (99 ∷ 111 ∷ 109 ∷ 109 ∷ 105 ∷ 116 ∷ 116 ∷ 101 ∷ 100 ∷ 32 ∷ 50 ∷ []) ∷
-    (114 ∷ 101 ∷ 113 ∷ 117 ∷ 101 ∷ 115 ∷ 116 ∷ 32 ∷ 48 ∷ []) ∷
-    (102 ∷ 105 ∷ 108 ∷ 108 ∷ 101 ∷ 100 ∷ 32 ∷ 48 ∷ []) ∷
-    (100 ∷ 114 ∷ 97 ∷ 105 ∷ 110 ∷ 101 ∷ 100 ∷ 32 ∷ 49 ∷ []) ∷
-    (102 ∷ 108 ∷ 117 ∷ 115 ∷ 104 ∷ 101 ∷ 100 ∷ 32 ∷ 49 ∷ []) ∷
-    (118 ∷ 97 ∷ 108 ∷ 117 ∷ 101 ∷ 32 ∷ 51 ∷ 32 ∷ 48 ∷ []) ∷ []
+abbrev pub exampleOutput : List ℕ
+exampleOutput =
+    bytesOf "ready\nstored 1\nvalue 2 7\nwaits 3\nkept 2\ncommitted 2\nrequest 0\nfilled 0\ndrained 1\nflushed 1\nvalue 3 0\n"
 
 -- ---- a call before an accepted G, a refused G in a run, a last line without LF
 
--- I / G 1 1 32 / S 4 1 7 / G 3 1 32 / L 4 1, then I without LF
 abbrev pub edgeInput : List ℕ
-edgeInput =
-    ended
-    ((73 ∷ []) ∷
-    (71 ∷ 32 ∷ 49 ∷ 32 ∷ 49 ∷ 32 ∷ 51 ∷ 50 ∷ []) ∷
-    (83 ∷ 32 ∷ 52 ∷ 32 ∷ 49 ∷ 32 ∷ 55 ∷ []) ∷
-    (71 ∷ 32 ∷ 51 ∷ 32 ∷ 49 ∷ 32 ∷ 51 ∷ 50 ∷ []) ∷
-    (76 ∷ 32 ∷ 52 ∷ 32 ∷ 49 ∷ []) ∷ []) ++ (73 ∷ [])
+edgeInput = bytesOf "I\nG 1 1 32\nS 4 1 7\nG 3 1 32\nL 4 1\nI"
 
--- refused 6 / ready / stored 1 / refused 1 / value 2 7 / refused 6
-abbrev pub edgeAnswers : List (List ℕ)
-edgeAnswers =
-    (114 ∷ 101 ∷ 102 ∷ 117 ∷ 115 ∷ 101 ∷ 100 ∷ 32 ∷ 54 ∷ []) ∷
-    (114 ∷ 101 ∷ 97 ∷ 100 ∷ 121 ∷ []) ∷
-    (115 ∷ 116 ∷ 111 ∷ 114 ∷ 101 ∷ 100 ∷ 32 ∷ 49 ∷ []) ∷
-    (114 ∷ 101 ∷ 102 ∷ 117 ∷ 115 ∷ 101 ∷ 100 ∷ 32 ∷ 49 ∷ []) ∷
-    (118 ∷ 97 ∷ 108 ∷ 117 ∷ 101 ∷ 32 ∷ 50 ∷ 32 ∷ 55 ∷ []) ∷
-    (114 ∷ 101 ∷ 102 ∷ 117 ∷ 115 ∷ 101 ∷ 100 ∷ 32 ∷ 54 ∷ []) ∷ []
+abbrev pub edgeOutput : List ℕ
+edgeOutput = bytesOf "refused 6\nready\nstored 1\nrefused 1\nvalue 2 7\nrefused 6\n"
 
 -- ---- lines that give 6
 
@@ -69,46 +28,46 @@ abbrev pub badLines : List (List ℕ)
 badLines =
     -- an empty line
     [] ∷
-    -- a small letter: 'i'
-    (105 ∷ []) ∷
-    -- another letter: 'Q'
-    (81 ∷ []) ∷
-    -- two letters: 'II'
-    (73 ∷ 73 ∷ []) ∷
-    -- a space behind: 'I '
-    (73 ∷ 32 ∷ []) ∷
-    -- a space before: ' I'
-    (32 ∷ 73 ∷ []) ∷
-    -- two spaces: 'L  4 1'
-    (76 ∷ 32 ∷ 32 ∷ 52 ∷ 32 ∷ 49 ∷ []) ∷
-    -- a tab: 'L\t4 1'
-    (76 ∷ 9 ∷ 52 ∷ 32 ∷ 49 ∷ []) ∷
-    -- a number too many: 'I 1'
-    (73 ∷ 32 ∷ 49 ∷ []) ∷
-    -- one too few: 'L 4'
-    (76 ∷ 32 ∷ 52 ∷ []) ∷
-    -- four numbers: 'S 1 1 1 1'
-    (83 ∷ 32 ∷ 49 ∷ 32 ∷ 49 ∷ 32 ∷ 49 ∷ 32 ∷ 49 ∷ []) ∷
-    -- a sign: 'L +4 1'
-    (76 ∷ 32 ∷ 43 ∷ 52 ∷ 32 ∷ 49 ∷ []) ∷
-    -- a letter in a number: 'L 4x 1'
-    (76 ∷ 32 ∷ 52 ∷ 120 ∷ 32 ∷ 49 ∷ []) ∷
-    -- 2^32: 'A 4294967296'
-    (65 ∷ 32 ∷ 52 ∷ 50 ∷ 57 ∷ 52 ∷ 57 ∷ 54 ∷ 55 ∷ 50 ∷ 57 ∷ 54 ∷ []) ∷
-    -- no space: 'L4 1'
-    (76 ∷ 52 ∷ 32 ∷ 49 ∷ []) ∷
-    -- a carriage return: 'I\r'
-    (73 ∷ 13 ∷ []) ∷
+    -- a small letter
+    bytesOf "i" ∷
+    -- another letter
+    bytesOf "Q" ∷
+    -- two letters
+    bytesOf "II" ∷
+    -- a space behind
+    bytesOf "I " ∷
+    -- a space before
+    bytesOf " I" ∷
+    -- two spaces
+    bytesOf "L  4 1" ∷
+    -- a tab
+    bytesOf "L\t4 1" ∷
+    -- a number too many
+    bytesOf "I 1" ∷
+    -- one too few
+    bytesOf "L 4" ∷
+    -- four numbers
+    bytesOf "S 1 1 1 1" ∷
+    -- a sign
+    bytesOf "L +4 1" ∷
+    -- a letter in a number
+    bytesOf "L 4x 1" ∷
+    -- 2^32
+    bytesOf "A 4294967296" ∷
+    -- no space
+    bytesOf "L4 1" ∷
+    -- a carriage return
+    bytesOf "I\r" ∷
     -- 65 bytes: A, a space, 62 zeros and 1
-    (65 ∷ 32 ∷ replicate 62 48 ++ (49 ∷ [])) ∷
+    (bytesOf "A " ++ replicate 62 (code "0") ++ bytesOf "1") ∷
     []
 
--- ---- lines that just are
+-- ---- lines that just are commands
 
 -- 64 bytes: A, a space, 61 zeros and 1
 abbrev pub longLine : List ℕ
-longLine = 65 ∷ 32 ∷ replicate 61 48 ++ (49 ∷ [])
+longLine = bytesOf "A " ++ replicate 61 (code "0") ++ bytesOf "1"
 
 -- the largest number
 abbrev pub largestLine : List ℕ
-largestLine = 65 ∷ 32 ∷ 52 ∷ 50 ∷ 57 ∷ 52 ∷ 57 ∷ 54 ∷ 55 ∷ 50 ∷ 57 ∷ 53 ∷ []
+largestLine = bytesOf "A 4294967295"

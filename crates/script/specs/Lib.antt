@@ -1,3 +1,4 @@
+pub mod Text
 pub mod Commands
 pub mod Words
 pub mod Play

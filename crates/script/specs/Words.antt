@@ -4,14 +4,15 @@ use mathlib.Core.Bool.{cond}
 use mathlib.Core.List.{List, [], _∷_, _++_}
 use lib.Dec.{ltb}
 use Rattle.rules.specs.Calls.{Answer, stored, value, waits, committed, kept, drained, requested, idled, filled, flushed, shown, refused}
-use Rattle.script.specs.Commands.{lineFeed, space}
+use Rattle.script.specs.Text.{bytesOf}
+use Rattle.script.specs.Commands.{lineFeed, space, firstDigit}
 
 -- ---- numbers
 
 -- the digits of n, at most k of them
 unfoldable pub digits : ℕ → ℕ → List ℕ
 digits zero n = []
-digits (suc k) n = cond (ltb n 10) ((48 + n) ∷ []) (digits k (n / 10) ++ ((48 + n % 10) ∷ []))
+digits (suc k) n = cond (ltb n 10) ((firstDigit + n) ∷ []) (digits k (n / 10) ++ ((firstDigit + n % 10) ∷ []))
 
 -- a number of 32 bits has at most 10
 abbrev pub printed : ℕ → List ℕ
@@ -20,40 +21,40 @@ printed n = digits 10 n
 -- ---- words
 
 abbrev pub readyWord : List ℕ
-readyWord = 114 ∷ 101 ∷ 97 ∷ 100 ∷ 121 ∷ []
+readyWord = bytesOf "ready"
 
 abbrev pub storedWord : List ℕ
-storedWord = 115 ∷ 116 ∷ 111 ∷ 114 ∷ 101 ∷ 100 ∷ []
+storedWord = bytesOf "stored"
 
 abbrev pub valueWord : List ℕ
-valueWord = 118 ∷ 97 ∷ 108 ∷ 117 ∷ 101 ∷ []
+valueWord = bytesOf "value"
 
 abbrev pub waitsWord : List ℕ
-waitsWord = 119 ∷ 97 ∷ 105 ∷ 116 ∷ 115 ∷ []
+waitsWord = bytesOf "waits"
 
 abbrev pub keptWord : List ℕ
-keptWord = 107 ∷ 101 ∷ 112 ∷ 116 ∷ []
+keptWord = bytesOf "kept"
 
 abbrev pub committedWord : List ℕ
-committedWord = 99 ∷ 111 ∷ 109 ∷ 109 ∷ 105 ∷ 116 ∷ 116 ∷ 101 ∷ 100 ∷ []
+committedWord = bytesOf "committed"
 
 abbrev pub requestWord : List ℕ
-requestWord = 114 ∷ 101 ∷ 113 ∷ 117 ∷ 101 ∷ 115 ∷ 116 ∷ []
+requestWord = bytesOf "request"
 
 abbrev pub filledWord : List ℕ
-filledWord = 102 ∷ 105 ∷ 108 ∷ 108 ∷ 101 ∷ 100 ∷ []
+filledWord = bytesOf "filled"
 
 abbrev pub drainedWord : List ℕ
-drainedWord = 100 ∷ 114 ∷ 97 ∷ 105 ∷ 110 ∷ 101 ∷ 100 ∷ []
+drainedWord = bytesOf "drained"
 
 abbrev pub flushedWord : List ℕ
-flushedWord = 102 ∷ 108 ∷ 117 ∷ 115 ∷ 104 ∷ 101 ∷ 100 ∷ []
+flushedWord = bytesOf "flushed"
 
 abbrev pub idleWord : List ℕ
-idleWord = 105 ∷ 100 ∷ 108 ∷ 101 ∷ []
+idleWord = bytesOf "idle"
 
 abbrev pub refusedWord : List ℕ
-refusedWord = 114 ∷ 101 ∷ 102 ∷ 117 ∷ 115 ∷ 101 ∷ 100 ∷ []
+refusedWord = bytesOf "refused"
 
 -- ---- a line
 

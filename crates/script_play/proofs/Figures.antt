@@ -1,4 +1,4 @@
--- No call changes the figures of a run: its sets, its ways and its memory's length.
+-- No call changes the figures of a run or the length of its memory.
 use Prim.Native.Nat.{ℕ, zero, suc}
 use mathlib.Core.Path.{_≡_, refl, _∙_}
 use mathlib.Core.List.{List, [], _∷_}
@@ -16,19 +16,18 @@ use Rattle.rules.specs.declared.LoadEntry.{LoadEntry}
 use Rattle.rules.proofs.Checks.{outcome-by}
 
 pub record SameFigures (old new : Hierarchy) : Type 0 where
-  pub sets : new .sets ≡ old .sets
-  pub ways : new .ways ≡ old .ways
+  pub figures : new .figures ≡ old .figures
   pub size : new .size ≡ old .size
 
 same : (b : Hierarchy) → SameFigures b b
-same b = record { sets = refl; ways = refl; size = refl }
+same b = record { figures = refl; size = refl }
 
 then : {a b c : Hierarchy} → SameFigures a b → SameFigures b c → SameFigures a c
-then p q = record { sets = q .sets ∙ p .sets; ways = q .ways ∙ p .ways; size = q .size ∙ p .size }
+then p q = record { figures = q .figures ∙ p .figures; size = q .size ∙ p .size }
 
 use-line : (l : ℕ) (b : Hierarchy) → SameFigures b (useLine l b)
 unfolding useLine useSlot
-use-line l b = either (SameFigures b) (present b l) (λ _. record { sets = refl; ways = refl; size = refl }) (λ _. same b)
+use-line l b = either (SameFigures b) (present b l) (λ _. record { figures = refl; size = refl }) (λ _. same b)
 
 use-each : (ls : List LoadEntry) (b : Hierarchy) → SameFigures b (useEach ls b)
 unfolding useEach
@@ -38,7 +37,7 @@ use-each (l ∷ ls) b = then (use-line (lineOf (l .address)) b) (use-each ls (us
 write-backs : (n v : ℕ) (b : Hierarchy) → SameFigures b (stepsFrom writeBackSlot v n b)
 unfolding stepsFrom writeBackSlot
 write-backs zero v b = same b
-write-backs (suc n) v b = then (record { sets = refl; ways = refl; size = refl }) (write-backs n (suc v) (writeBackSlot v b))
+write-backs (suc n) v b = then (record { figures = refl; size = refl }) (write-backs n (suc v) (writeBackSlot v b))
 
 module _ (q : Queues) (b : Hierarchy) where
   abbrev Keeps : Outcome → Type 0
@@ -59,9 +58,9 @@ module _ (q : Queues) (b : Hierarchy) where
   ruled (commit k) = use-each (filter (answeredBy k) (q .loads)) b
   ruled (abort n) = same b
   ruled idle =
-      either Keeps (canDrain q b) (λ _. record { sets = refl; ways = refl; size = refl })
+      either Keeps (canDrain q b) (λ _. record { figures = refl; size = refl })
       (λ _. either Keeps (canRequestLoad q b) (λ _. same b) (λ _. either Keeps (canRequestStore q b) (λ _. same b) (λ _. same b)))
-  ruled reply = record { sets = refl; ways = refl; size = refl }
+  ruled reply = record { figures = refl; size = refl }
   ruled flush = write-backs (slots b) 0 b
   ruled (show a) = same b
 

@@ -1,23 +1,26 @@
-// A part of the input played, line by line.
+// A chunk of the input played, line by line.
 ghost use mathlib.Core.Path.{_≡_};
 ghost use mathlib.Core.Bool.{cond, _&&_};
-ghost use mathlib.Core.List.{List, [], _++_};
+ghost use mathlib.Core.List.{List, []};
 ghost use lib.Dec.{ltb, leb};
 ghost use Prim.Native.Nat.{ℕ, _+_, _-_, _*_, _/_, _≤_, _<_};
-ghost use lib.ListN.{length, take, drop};
+ghost use lib.ListN.{length, drop};
 ghost use Rattle.lists.specs.Padded.{position};
+ghost use Rattle.script.specs.Commands.{heldBytes};
 ghost use Rattle.script.specs.Play.{newPlayer, atEnd};
-ghost use Rattle.script_text.specs.Written.{Wrote, inRoom};
-ghost use Rattle.script_play.specs.Player.{isFeed, heldBytes, playerOf, lentOf, playable, Plays, Steps};
+ghost use Rattle.script_text.specs.Written.{Wrote, lineRoom, inRoom};
+ghost use Rattle.script_play.specs.Player.{largestCache, largestMemory, isFeed, playerOf, playerAt, afterChunk, RoomForLine, Plays, Holds, between, Steps, PlaysChunk};
 use crate::Played;
 use crate::Player;
 use crate::line;
 use model::Answer;
 use model::State;
-use rules::LoadEntry;
-use rules::Request;
-use rules::StoreEntry;
-use rules::Tag;
+use rules::MALFORMED_LINE;
+use rules::MAX_CACHE;
+use rules::MAX_MEMORY;
+use script_text::HELD_BYTES;
+use script_text::LINE_FEED;
+use script_text::LINE_ROOM;
 use script_text::reader;
 use script_text::writer;
 
@@ -27,7 +30,7 @@ fn line_end(input: &[u8], from: usize) -> usize
 {
     let mut i = from;
     while i < input.len() {
-        if input[i] == 10 {
+        if input[i] == LINE_FEED {
             return i;
         }
         i += 1;
@@ -37,25 +40,25 @@ fn line_end(input: &[u8], from: usize) -> usize
 
 // What is held of a line.
 pub struct Held {
-    line: [u8; 65],
+    line: [u8; HELD_BYTES],
     length: usize,
 }
 
 // How many of n bytes a line has room for that holds so many.
 fn room_for(held: usize, n: usize) -> usize
-    requires { ⌜ held ≤ 65 ⌝ }
-    ensures { λ r. ⌜ r ≡ cond (ltb (65 - held) n) (65 - held) n ⌝ }
+    requires { ⌜ held ≤ heldBytes ⌝ }
+    ensures { λ r. ⌜ r ≡ cond (ltb (heldBytes - held) n) (heldBytes - held) n ⌝ }
 {
-    if 65 - held < n {
-        return 65 - held;
+    if HELD_BYTES - held < n {
+        return HELD_BYTES - held;
     }
     n
 }
 
 // Holds the bytes of the input from one place to another behind those of the line, as far as there is room.
-fn hold(line: [u8; 65], held: usize, input: &[u8], from: usize, end: usize) -> Held
-    requires { ⌜ (held ≤ 65) × (from ≤ end) × (end ≤ length (now input)) ⌝ }
-    ensures { λ r. ⌜ (take (r .length) (r .line) ≡ take heldBytes (take held line ++ take (end - from) (drop from (now (input .entry))))) × (r .length ≤ 65) ⌝ }
+fn hold(line: [u8; HELD_BYTES], held: usize, input: &[u8], from: usize, end: usize) -> Held
+    requires { ⌜ (held ≤ heldBytes) × (from ≤ end) × (end ≤ length (now input)) ⌝ }
+    ensures { λ r. ⌜ Holds line held (between from end (now (input .entry))) r ⌝ }
 {
     let n = room_for(held, end - from);
     let mut bytes = line;
@@ -87,8 +90,10 @@ fn play_line(
     out: &mut [u8],
     at: usize,
 ) -> Moved
-    requires { ⌜ (player .length ≤ 65) × (from < length (now input)) × (4096 ≤ length (now cache)) × (65536 ≤ length (now memory)) × (at + 32 ≤ length (now out)) ⌝ }
-    ensures { λ r. ⌜ Steps from (now (input .entry)) at r × Plays (take (r .next - from) (drop from (now (input .entry)))) (playerOf player (now (cache .entry)) (now (memory .entry))) (lentOf (now (cache .entry)) (now (memory .entry))) (now (out .entry)) at (playerOf (r .player) (now (cache .exit)) (now (memory .exit))) (lentOf (now (cache .exit)) (now (memory .exit))) (now (out .exit)) (r .at) ⌝ }
+    requires { ⌜ (player .length ≤ heldBytes) × (from < length (now input)) × RoomForLine (now cache) (now memory) (now out) at ⌝ }
+    ensures { λ r. ⌜ Steps from (now (input .entry)) at r × Plays (between from (r .next) (now (input .entry)))
+        (playerAt player (now (cache .entry)) (now (memory .entry)) (now (out .entry)) at)
+        (playerAt (r .player) (now (cache .exit)) (now (memory .exit)) (now (out .exit)) (r .at)) ⌝ }
 {
     let end = line_end(input, from);
     let line = player.line;
@@ -110,17 +115,17 @@ fn play_line(
         };
     }
     let command = reader::command(&bytes[..n]);
-    let t = line::play_command(started, state, command, cache, memory, out, at);
-    let after = t.state;
+    let played = line::play_command(started, state, command, cache, memory, out, at);
+    let after = played.state;
     Moved {
         player: Player {
-            started: t.started,
+            started: played.started,
             state: after,
             length: 0,
             line: bytes,
         },
         next: end + 1,
-        at: t.at,
+        at: played.at,
     }
 }
 
@@ -132,8 +137,11 @@ fn play_lines(
     memory: &mut [u8],
     out: &mut [u8],
 ) -> Played
-    requires { ⌜ (player .length ≤ 65) × (4096 ≤ length (now cache)) × (65536 ≤ length (now memory)) × (32 * length (now input) ≤ length (now out)) ⌝ }
-    ensures { λ r. ⌜ (r .read ≡ length (now (input .entry))) × Plays (now (input .entry)) (playerOf player (now (cache .entry)) (now (memory .entry))) (lentOf (now (cache .entry)) (now (memory .entry))) (now (out .entry)) 0 (playerOf (r .player) (now (cache .exit)) (now (memory .exit))) (lentOf (now (cache .exit)) (now (memory .exit))) (now (out .exit)) (r .written) ⌝ }
+    requires { ⌜ (player .length ≤ heldBytes) × (largestCache ≤ length (now cache)) × (largestMemory ≤ length (now memory))
+        × (lineRoom * length (now input) ≤ length (now out)) ⌝ }
+    ensures { λ r. ⌜ (r .read ≡ length (now (input .entry))) × Plays (now (input .entry))
+        (playerAt player (now (cache .entry)) (now (memory .entry)) (now (out .entry)) 0)
+        (afterChunk r (now (cache .exit)) (now (memory .exit)) (now (out .exit))) ⌝ }
 {
     let mut p = player;
     let mut i: usize = 0;
@@ -154,48 +162,15 @@ fn play_lines(
 
 // Whether the buffers are long enough.
 fn is_roomy(input: usize, cache: usize, memory: usize, out: usize) -> bool
-    ensures { λ r. ⌜ r ≡ (leb 4096 cache && (leb 65536 memory && leb input (out / 32))) ⌝ }
+    ensures { λ r. ⌜ r ≡ (leb largestCache cache && (leb largestMemory memory && leb input (out / lineRoom))) ⌝ }
 {
-    if cache < 4096 {
+    if cache < MAX_CACHE {
         return false;
     }
-    if memory < 65536 {
+    if memory < MAX_MEMORY {
         return false;
     }
-    input <= out / 32
-}
-
-// A state that no run has: the player's before the first start.
-fn no_state() -> State {
-    let store = StoreEntry {
-        number: 0,
-        address: 0,
-        width: 0,
-        value: 0,
-    };
-    let load = LoadEntry {
-        number: 0,
-        address: 0,
-        width: 0,
-        waiting: false,
-    };
-    let tag = Tag {
-        valid: false,
-        dirty: false,
-        line: 0,
-        age: 0,
-    };
-    State {
-        sets: 0,
-        ways: 0,
-        size: 0,
-        last: 0,
-        committed: 0,
-        request: Request::Free,
-        stores: [store; 16],
-        loads: [load; 8],
-        tags: [tag; 256],
-    }
+    input <= out / LINE_ROOM
 }
 
 impl Player {
@@ -203,38 +178,40 @@ impl Player {
     pub fn new() -> Player
         ensures { λ r. ⌜ ((cache memory : List ℕ) → playerOf r cache memory ≡ newPlayer) ⌝ }
     {
-        let state = no_state();
+        let state = State::unstarted();
         let length: usize = 0;
         Player {
             started: false,
             state,
             length,
-            line: [0; 65],
+            line: [0; HELD_BYTES],
         }
     }
 
     // The same player, whose length is that of the bytes that it holds.
     fn bounded(self) -> Player
-        ensures { λ r. ⌜ (r .length ≤ 65) × ((cache memory : List ℕ) → playerOf r cache memory ≡ playerOf self cache memory) ⌝ }
+        ensures { λ r. ⌜ (r .length ≤ heldBytes) × ((cache memory : List ℕ) → playerOf r cache memory ≡ playerOf self cache memory) ⌝ }
     {
         let state = self.state;
         let line = self.line;
-        if 65 < self.length {
+        if HELD_BYTES < self.length {
             return Player {
                 started: self.started,
                 state,
-                length: 65,
+                length: HELD_BYTES,
                 line,
             };
         }
         self
     }
 
-    // Plays a part of the input, wherever it is cut, and writes what its lines print to the front of out. The run's cache and memory
+    // Plays a chunk of the input, wherever it is cut, and writes what its lines print to the front of out. The run's cache and memory
     // stand at the front of the lent ones. Nothing is played where the cache is shorter than 4,096 bytes, the memory shorter than
     // 65,536, or out shorter than 32 bytes for each byte of input.
     pub fn play(self, input: &[u8], cache: &mut [u8], memory: &mut [u8], out: &mut [u8]) -> Played
-        ensures { λ r. ⌜ (r .read ≡ length (playable (now (input .entry)) (lentOf (now (cache .entry)) (now (memory .entry))) (now (out .entry)))) × Plays (playable (now (input .entry)) (lentOf (now (cache .entry)) (now (memory .entry))) (now (out .entry))) (playerOf self (now (cache .entry)) (now (memory .entry))) (lentOf (now (cache .entry)) (now (memory .entry))) (now (out .entry)) 0 (playerOf (r .player) (now (cache .exit)) (now (memory .exit))) (lentOf (now (cache .exit)) (now (memory .exit))) (now (out .exit)) (r .written) ⌝ }
+        ensures { λ r. ⌜ PlaysChunk (now (input .entry))
+            (playerAt self (now (cache .entry)) (now (memory .entry)) (now (out .entry)) 0)
+            (afterChunk r (now (cache .exit)) (now (memory .exit)) (now (out .exit))) (r .read) ⌝ }
     {
         if is_roomy(input.len(), cache.len(), memory.len(), out.len()) {
             let p = self.bounded();
@@ -250,11 +227,12 @@ impl Player {
     // At the end of the input: a last line without LF is refused. Nothing is written where there is less room than 32 bytes from
     // place at on.
     pub fn end(self, out: &mut [u8], at: usize) -> usize
-        ensures { λ r. ⌜ Wrote at (inRoom at (now (out .entry)) (atEnd (playerOf self [] []))) (now (out .entry)) (now (out .exit)) r ⌝ }
+        ensures { λ r. ⌜ Wrote at (inRoom at (now (out .entry)) (atEnd (playerOf self [] [])))
+            (now (out .entry)) (now (out .exit)) r ⌝ }
     {
         if self.length == 0 {
             return at;
         }
-        writer::write_answer(out, at, Answer::Refused(6))
+        writer::write_answer(out, at, Answer::Refused(MALFORMED_LINE))
     }
 }

@@ -1,6 +1,7 @@
-// Scripts played on the load/store unit: the player between two parts of its input, and what a part does.
+// Scripts played on the load/store unit: the player between two chunks of its input, and what a chunk does.
 ghost use Rattle.script_play.specs.Player.{ChunksPlayed};
 use model::State;
+use script_text::HELD_BYTES;
 
 mod input;
 mod line;
@@ -9,12 +10,12 @@ mod line;
 pub struct Player {
     pub started: bool,
     pub state: State,
-    // how many bytes of the line are held: all, or the first 65, which tell that it is too long
+    // how many bytes of the line are held: all, or as many as tell that it is too long
     pub length: usize,
-    pub line: [u8; 65],
+    pub line: [u8; HELD_BYTES],
 }
 
-// What playing a part of the input hands back.
+// What playing a chunk of the input hands back.
 pub struct Played {
     pub player: Player,
     // how many bytes were played: all, or none where a buffer is too short
@@ -23,7 +24,7 @@ pub struct Played {
     pub written: usize,
 }
 
-// Wherever an input is cut into parts, playing them one after the other is playing it whole.
+// Wherever an input is cut into chunks, playing them one after the other is playing it whole.
 pub fn chunks_played()
     ensures { λ r. ⌜ ChunksPlayed ⌝ }
 {}

@@ -2,20 +2,24 @@
 ghost use mathlib.Core.Path.{_≡_};
 ghost use mathlib.Core.Option.{some};
 ghost use mathlib.Core.Bool.{true};
-ghost use mathlib.Core.List.{_++_};
 ghost use Prim.Native.Nat.{_+_, _≤_};
-ghost use lib.ListN.{length, replicate};
+ghost use lib.ListN.{length};
 ghost use Rattle.script_text.specs.Reader.{askedOf};
 ghost use Rattle.model.specs.State.{callOf};
 ghost use Rattle.script.specs.Commands.{start, make};
 ghost use Rattle.script.specs.Words.{refusedLine};
-ghost use Rattle.script_text.specs.Written.{Wrote};
-ghost use Rattle.script_play.specs.Player.{cacheUsed, memoryUsed, runOf, lentOf, PlaysCommand};
+ghost use Rattle.script_text.specs.Written.{Wrote, lineRoom};
+ghost use Rattle.script_play.specs.Player.{largestCache, largestMemory, cacheUsed, memoryUsed, runAt, afterLine, RoomForLine, PlaysCommand};
 use model::Answer;
 use model::Call;
-use model::Figures;
 use model::StartAnswer;
 use model::State;
+use rules::Figures;
+use rules::LINE_LENGTH;
+use rules::MALFORMED_LINE;
+use rules::MAX_MEMORY;
+use rules::MAX_SETS;
+use rules::MAX_WAYS;
 use script_text::Command;
 use script_text::writer;
 
@@ -27,26 +31,27 @@ pub struct AfterLine {
 }
 
 // How much of the lent cache a run uses.
-fn cache_used(sets: u32, ways: u32) -> usize
-    ensures { λ r. ⌜ (r ≡ cacheUsed sets ways) × (r ≤ 4096) ⌝ }
+fn cache_used(figures: Figures) -> usize
+    ensures { λ r. ⌜ (r ≡ cacheUsed figures) × (r ≤ largestCache) ⌝ }
 {
-    if 64 < sets {
+    if MAX_SETS < figures.sets {
         return 0;
     }
-    if 4 < ways {
+    if MAX_WAYS < figures.ways {
         return 0;
     }
-    ((sets * ways) as usize) * 16
+    ((figures.sets * figures.ways) as usize) * LINE_LENGTH
 }
 
 // How much of the lent memory a run uses.
 fn memory_used(size: u32) -> usize
-    ensures { λ r. ⌜ (r ≡ memoryUsed size) × (r ≤ 65536) ⌝ }
+    ensures { λ r. ⌜ (r ≡ memoryUsed size) × (r ≤ largestMemory) ⌝ }
 {
-    if 65536 < size {
+    let length = size as usize;
+    if MAX_MEMORY < length {
         return 0;
     }
-    size as usize
+    length
 }
 
 // A call on the run.
@@ -58,10 +63,13 @@ fn play_call(
     out: &mut [u8],
     at: usize,
 ) -> AfterLine
-    requires { ⌜ (4096 ≤ length (now cache)) × (65536 ≤ length (now memory)) × (at + 32 ≤ length (now out)) ⌝ }
-    ensures { λ r. ⌜ PlaysCommand (some (make (callOf call))) (runOf true state (now (cache .entry)) (now (memory .entry))) (lentOf (now (cache .entry)) (now (memory .entry))) (now (out .entry)) at r (lentOf (now (cache .exit)) (now (memory .exit))) (now (out .exit)) ⌝ }
+    requires { ⌜ RoomForLine (now cache) (now memory) (now out) at ⌝ }
+    ensures { λ r. ⌜ PlaysCommand (some (make (callOf call)))
+        (runAt true state (now (cache .entry)) (now (memory .entry)) (now (out .entry)) at)
+        (afterLine r (now (cache .exit)) (now (memory .exit)) (now (out .exit))) ⌝ }
 {
-    let c = cache_used(state.sets, state.ways);
+    let figures = state.figures;
+    let c = cache_used(figures);
     let m = memory_used(state.size);
     let r = state.step(call, &mut cache[..c], &mut memory[..m]);
     let answer = r.answer;
@@ -76,25 +84,15 @@ fn play_call(
 
 // A line that is refused, and leaves the run as it was.
 fn play_refused(started: bool, state: State, k: u32, out: &mut [u8], at: usize) -> AfterLine
-    requires { ⌜ at + 32 ≤ length (now out) ⌝ }
-    ensures { λ r. ⌜ (r ≡ record { started = started; state = state; at = r .at }) × Wrote at (refusedLine k) (now (out .entry)) (now (out .exit)) (r .at) ⌝ }
+    requires { ⌜ at + lineRoom ≤ length (now out) ⌝ }
+    ensures { λ r. ⌜ (r ≡ record { started = started; state = state; at = r .at })
+        × Wrote at (refusedLine k) (now (out .entry)) (now (out .exit)) (r .at) ⌝ }
 {
     let to = writer::write_answer(out, at, Answer::Refused(k));
     AfterLine {
         started,
         state,
         at: to,
-    }
-}
-
-// Makes every byte zero.
-fn zero_bytes(bytes: &mut [u8])
-    ensures { λ _. ⌜ now (bytes .exit) ≡ replicate (length (now (bytes .entry))) 0 ⌝ }
-{
-    let mut i: usize = 0;
-    while i < bytes.len() {
-        bytes[i] = 0;
-        i += 1;
     }
 }
 
@@ -109,17 +107,19 @@ fn play_start(
     out: &mut [u8],
     at: usize,
 ) -> AfterLine
-    requires { ⌜ (4096 ≤ length (now cache)) × (65536 ≤ length (now memory)) × (at + 32 ≤ length (now out)) ⌝ }
-    ensures { λ r. ⌜ PlaysCommand (some (start (figures .sets) (figures .ways) size)) (runOf started state (now (cache .entry)) (now (memory .entry))) (lentOf (now (cache .entry)) (now (memory .entry))) (now (out .entry)) at r (lentOf (now (cache .exit)) (now (memory .exit))) (now (out .exit)) ⌝ }
+    requires { ⌜ RoomForLine (now cache) (now memory) (now out) at ⌝ }
+    ensures { λ r. ⌜ PlaysCommand (some (start figures size))
+        (runAt started state (now (cache .entry)) (now (memory .entry)) (now (out .entry)) at)
+        (afterLine r (now (cache .exit)) (now (memory .exit)) (now (out .exit))) ⌝ }
 {
-    let c = cache_used(figures.sets, figures.ways);
+    let c = cache_used(figures);
     let m = memory_used(size);
     let s = State::start(figures, &mut cache[..c], &memory[..m]);
     let answer = s.answer;
     let begun = s.state;
     match answer {
         StartAnswer::Ready => {
-            zero_bytes(&mut memory[..m]);
+            lists::zero_bytes(&mut memory[..m]);
             let to = writer::write_ready(out, at);
             AfterLine {
                 started: true,
@@ -141,28 +141,21 @@ pub(crate) fn play_command(
     out: &mut [u8],
     at: usize,
 ) -> AfterLine
-    requires { ⌜ (4096 ≤ length (now cache)) × (65536 ≤ length (now memory)) × (at + 32 ≤ length (now out)) ⌝ }
-    ensures { λ r. ⌜ PlaysCommand (askedOf command) (runOf started state (now (cache .entry)) (now (memory .entry))) (lentOf (now (cache .entry)) (now (memory .entry))) (now (out .entry)) at r (lentOf (now (cache .exit)) (now (memory .exit))) (now (out .exit)) ⌝ }
+    requires { ⌜ RoomForLine (now cache) (now memory) (now out) at ⌝ }
+    ensures { λ r. ⌜ PlaysCommand (askedOf command)
+        (runAt started state (now (cache .entry)) (now (memory .entry)) (now (out .entry)) at)
+        (afterLine r (now (cache .exit)) (now (memory .exit)) (now (out .exit))) ⌝ }
 {
     match command {
-        Command::Malformed => play_refused(started, state, 6, out, at),
-        Command::Start(sets, ways, size) => {
-            play_start(
-                started,
-                state,
-                Figures { sets, ways },
-                size,
-                cache,
-                memory,
-                out,
-                at,
-            )
+        Command::Malformed => play_refused(started, state, MALFORMED_LINE, out, at),
+        Command::Start(figures, size) => {
+            play_start(started, state, figures, size, cache, memory, out, at)
         }
         Command::Make(call) => {
             if started {
                 play_call(state, call, cache, memory, out, at)
             } else {
-                play_refused(started, state, 6, out, at)
+                play_refused(started, state, MALFORMED_LINE, out, at)
             }
         }
     }

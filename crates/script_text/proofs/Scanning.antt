@@ -4,16 +4,15 @@ use mathlib.Core.Path.{_≡_, refl, sym, _∙_, ap}
 use mathlib.Core.Bool.{Bool, true, false, cond, _&&_, _||_}
 use mathlib.Core.List.{List, [], _∷_, _++_, append-assoc}
 use mathlib.Core.Option.{Option, some, none}
-use native.Mathlib.Numerals.{add-one}
 use native.Mathlib.Omega.{arith}
 use lib.Dec.{ltb, leb, eqb}
 use lib.ListN.{length, drop, getD}
-use borrow.Author.Tests.{eq-eqb, ne-eqb, lt-ltb, le-ltb, le-leb, lt-leb, leb-true, leb-false, ltb-true, ltb-false, eqb-true, eqb-false}
+use borrow.Author.Tests.{eq-eqb, ne-eqb, lt-ltb, le-ltb, le-leb, lt-leb, leb-true, leb-false, ltb-true, eqb-true}
 use Rattle.lists.specs.Padded.{every}
 use Rattle.lists.proofs.Cond.{cases, either, and-right, wrong}
 use Rattle.lists.proofs.Loops.{rest-cons, rest-none}
 use Rattle.rules.specs.Shape.{topNumber}
-use Rattle.script.specs.Commands.{Command, space, isDigit, joined, words, decimal, isNumber, alsoNumber, numbers, withNone, withOne, withTwo, withThree, named, ofWords, commandOf, longestLine}
+use Rattle.script.specs.Commands.{firstDigit, lastDigit, Command, space, isDigit, joined, words, decimal, alsoNumber, numbers, withNone, withOne, withTwo, withThree, named, ofWords, commandOf, longestLine}
 use Rattle.script_text.specs.Reader.{noNumber, spoilt, ended, spaceRead, grown, digitRead, scanByte, scanned, withNumbers, namedBy}
 use Rattle.script_text.specs.declared.reader.Scan.{Scan}
 
@@ -36,11 +35,11 @@ module _ (s : Scan) where
   unfolding spaceRead
   space-many n = rw (le-ltb (s .count) 3 n, and-none (s .begun))
 
-  pub digit-fits : (b v : ℕ) → v ≡ 10 * s .value + (b - 48) → v ≤ topNumber → grown v s ≡ digitRead b s
+  pub digit-fits : (b v : ℕ) → v ≡ 10 * s .value + (b - firstDigit) → v ≤ topNumber → grown v s ≡ digitRead b s
   unfolding digitRead
   digit-fits b v e h = rw (← e, le-leb v topNumber h)
 
-  pub digit-over : (b v : ℕ) → v ≡ 10 * s .value + (b - 48) → topNumber < v → spoilt s ≡ digitRead b s
+  pub digit-over : (b v : ℕ) → v ≡ 10 * s .value + (b - firstDigit) → topNumber < v → spoilt s ≡ digitRead b s
   unfolding digitRead
   digit-over b v e h = rw (← e, lt-leb v topNumber h)
 
@@ -48,17 +47,17 @@ module _ (s : Scan) where
   unfolding scanByte
   byte-space b e = rw (eq-eqb b space e)
 
-  pub byte-digit : (b : ℕ) → 48 ≤ b → b ≤ 57 → digitRead b s ≡ scanByte b s
+  pub byte-digit : (b : ℕ) → firstDigit ≤ b → b ≤ lastDigit → digitRead b s ≡ scanByte b s
   unfolding scanByte
-  byte-digit b l h = rw (ne-eqb b space (λ e. omega arith), le-leb 48 b l, le-leb b 57 h)
+  byte-digit b l h = rw (ne-eqb b space (λ e. omega arith), le-leb firstDigit b l, le-leb b lastDigit h)
 
-  pub byte-above : (b : ℕ) → 57 < b → spoilt s ≡ scanByte b s
+  pub byte-above : (b : ℕ) → lastDigit < b → spoilt s ≡ scanByte b s
   unfolding scanByte
-  byte-above b h = rw (ne-eqb b space (λ e. omega arith), le-leb 48 b (omega arith), lt-leb b 57 h)
+  byte-above b h = rw (ne-eqb b space (λ e. omega arith), le-leb firstDigit b (omega arith), lt-leb b lastDigit h)
 
-  pub byte-below : (b : ℕ) → (b ≡ space → ⊥) → b < 48 → spoilt s ≡ scanByte b s
+  pub byte-below : (b : ℕ) → (b ≡ space → ⊥) → b < firstDigit → spoilt s ≡ scanByte b s
   unfolding scanByte
-  byte-below b d h = rw (ne-eqb b space d, lt-leb 48 b h)
+  byte-below b d h = rw (ne-eqb b space d, lt-leb firstDigit b h)
 
 -- ---- the loop
 
@@ -110,7 +109,7 @@ named-bad c s e = rw e
 decimal-grows : (v : ℕ) (w : List ℕ) → v ≤ decimal v w
 unfolding decimal
 decimal-grows v [] = omega arith
-decimal-grows v (b ∷ w) = omega (arith, decimal-grows (10 * v + (b - 48)) w)
+decimal-grows v (b ∷ w) = omega (arith, decimal-grows (10 * v + (b - firstDigit)) w)
 
 -- the numbers that are whole
 abbrev taken : ℕ → ℕ → ℕ → ℕ → List ℕ
@@ -202,14 +201,14 @@ module _ (c b : ℕ) (s : Scan) (f : Fits s) (w : List ℕ) (ws : List (List ℕ
   goes-spoilt : (every isDigit (b ∷ w) && leb (decimal (s .value) (b ∷ w)) topNumber) ≡ false → Goes (spoilt s)
   goes-spoilt e = (record { few = λ t. wrong t refl; small = f .small }, meant-none c s (b ∷ w) ws e)
 
-  goes-grown : isDigit b ≡ true → 10 * s .value + (b - 48) ≤ topNumber → Goes (grown (10 * s .value + (b - 48)) s)
+  goes-grown : isDigit b ≡ true → 10 * s .value + (b - firstDigit) ≤ topNumber → Goes (grown (10 * s .value + (b - firstDigit)) s)
   unfolding every decimal
   goes-grown t h = (record { few = f .few; small = h }, rw (t, lt-ltb 0 (suc (length w)) (omega arith), or-all (s .begun)))
 
-  goes-over : topNumber < 10 * s .value + (b - 48) → (every isDigit (b ∷ w) && leb (decimal (s .value) (b ∷ w)) topNumber) ≡ false
+  goes-over : topNumber < 10 * s .value + (b - firstDigit) → (every isDigit (b ∷ w) && leb (decimal (s .value) (b ∷ w)) topNumber) ≡ false
   unfolding decimal
   goes-over h =
-      let v = 10 * s .value + (b - 48) in
+      let v = 10 * s .value + (b - firstDigit) in
       rw (lt-leb (decimal v w) topNumber (omega (arith, decimal-grows v w))) (and-none (every isDigit (b ∷ w)))
 
   no-digit : isDigit b ≡ false → (every isDigit (b ∷ w) && leb (decimal (s .value) (b ∷ w)) topNumber) ≡ false
@@ -220,7 +219,7 @@ module _ (c b : ℕ) (s : Scan) (f : Fits s) (w : List ℕ) (ws : List (List ℕ
   unfolding scanByte digitRead
   goes e =
       rw e (either Goes (isDigit b)
-      (λ t. either Goes (leb (10 * s .value + (b - 48)) topNumber)
+      (λ t. either Goes (leb (10 * s .value + (b - firstDigit)) topNumber)
       (λ l. goes-grown t (leb-true _ topNumber l))
       (λ l. goes-spoilt (goes-over (leb-false _ topNumber l))))
       (λ t. goes-spoilt (no-digit t)))
@@ -273,7 +272,10 @@ module _ (c : ℕ) where
 
   pub letter-spaced : (rest : List ℕ) → namedBy c (spaceRead (scanned rest noNumber)) ≡ ofWords (words (c ∷ space ∷ rest))
   unfolding words numbers
-  letter-spaced rest = reads c rest noNumber no-fits ∙ some-word (λ l. meant c noNumber l ≡ ofWords (cond (eqb c space) ([] ∷ [] ∷ l) ((c ∷ []) ∷ l))) (λ w ws. alone (numbers (w ∷ ws)) ∙ first-word (w ∷ ws)) rest
+  letter-spaced rest =
+      reads c rest noNumber no-fits
+      ∙ some-word (λ l. meant c noNumber l ≡ ofWords (cond (eqb c space) ([] ∷ [] ∷ l) ((c ∷ []) ∷ l)))
+      (λ w ws. alone (numbers (w ∷ ws)) ∙ first-word (w ∷ ws)) rest
 
 -- by the length of the line
 
@@ -300,7 +302,8 @@ line-joined [] h l d = let no : ⊥ = omega arith in absurd no
 line-joined (c ∷ []) h l d = let no : ⊥ = omega arith in absurd no
 line-joined (c ∷ b ∷ line) h l d = short (c ∷ b ∷ line) h (letter-joined c b line d)
 
-pub line-spaced : (line : List ℕ) → length line ≤ longestLine → 1 < length line → getD line 1 0 ≡ space → namedBy (getD line 0 0) (spaceRead (scanned (drop 2 line) noNumber)) ≡ commandOf line
+pub line-spaced : (line : List ℕ) → length line ≤ longestLine → 1 < length line → getD line 1 0 ≡ space
+    → namedBy (getD line 0 0) (spaceRead (scanned (drop 2 line) noNumber)) ≡ commandOf line
 line-spaced [] h l e = let no : ⊥ = omega arith in absurd no
 line-spaced (c ∷ []) h l e = let no : ⊥ = omega arith in absurd no
 line-spaced (c ∷ b ∷ line) h l e = rw e (short (c ∷ space ∷ line) h (letter-spaced c line))

@@ -12,7 +12,15 @@ pub record Wrote (at : ℕ) (xs before after : List ℕ) (end : ℕ) : Type 0 wh
   pub bytes : after ≡ sets before at xs
   pub next : end ≡ at + length xs
 
--- room for the longest line, with some to spare
+-- the longest word, "committed"
+abbrev pub longestWord : ℕ
+longestWord = 9
+
+-- a space and a number of 32 bits
+abbrev pub spacedRoom : ℕ
+spacedRoom = 11
+
+-- room for the longest line of output, with some to spare
 abbrev pub lineRoom : ℕ
 lineRoom = 32
 

@@ -2,10 +2,23 @@
 ghost use mathlib.Core.Path.{_≡_};
 ghost use Prim.Native.Nat.{_≤_};
 ghost use lib.ListN.{drop};
-ghost use Rattle.script.specs.Commands.{commandOf, withNone, withOne, withTwo, withThree};
+ghost use Rattle.script.specs.Commands.{firstDigit, lastDigit, commandOf, withNone, withOne, withTwo, withThree};
 ghost use Rattle.script_text.specs.Reader.{askedOf, spaceRead, digitRead, spoilt, scanByte, noNumber, scanned, namedBy};
 use crate::Command;
+use crate::LONGEST_LINE;
 use model::Call;
+use rules::Figures;
+use rules::TOP_NUMBER;
+
+// between two words
+const SPACE: u8 = b' ';
+
+const FIRST_DIGIT: u8 = b'0';
+
+const LAST_DIGIT: u8 = b'9';
+
+// the most numbers that a line has
+const MOST_NUMBERS: u32 = 3;
 
 // The numbers of a line so far.
 pub struct Scan {
@@ -55,7 +68,7 @@ fn spoil(s: Scan) -> Scan
 fn read_space(s: Scan) -> Scan
     ensures { λ r. ⌜ r ≡ spaceRead s ⌝ }
 {
-    if 3 <= s.count {
+    if MOST_NUMBERS <= s.count {
         return spoil(s);
     }
     if s.begun {
@@ -74,11 +87,11 @@ fn read_space(s: Scan) -> Scan
 
 // A digit more; a number has 32 bits.
 fn read_digit(s: Scan, b: u8) -> Scan
-    requires { ⌜ (48 ≤ b) × (b ≤ 57) ⌝ }
+    requires { ⌜ (firstDigit ≤ b) × (b ≤ lastDigit) ⌝ }
     ensures { λ r. ⌜ r ≡ digitRead b s ⌝ }
 {
-    let v = 10 * (s.value as u64) + ((b - 48) as u64);
-    if v <= 4294967295 {
+    let v = 10 * (s.value as u64) + ((b - FIRST_DIGIT) as u64);
+    if v <= (TOP_NUMBER as u64) {
         return Scan {
             good: s.good,
             count: s.count,
@@ -96,13 +109,13 @@ fn read_digit(s: Scan, b: u8) -> Scan
 fn scan_byte(s: Scan, b: u8) -> Scan
     ensures { λ r. ⌜ r ≡ scanByte b s ⌝ }
 {
-    if b == 32 {
+    if b == SPACE {
         return read_space(s);
     }
-    if b < 48 {
+    if b < FIRST_DIGIT {
         return spoil(s);
     }
-    if 57 < b {
+    if LAST_DIGIT < b {
         return spoil(s);
     }
     read_digit(s, b)
@@ -126,13 +139,13 @@ fn scan_from(line: &[u8], from: usize) -> Scan
 fn with_none(letter: u8) -> Command
     ensures { λ r. ⌜ askedOf r ≡ withNone letter ⌝ }
 {
-    if letter == 73 {
+    if letter == b'I' {
         return Command::Make(Call::Idle);
     }
-    if letter == 82 {
+    if letter == b'R' {
         return Command::Make(Call::Reply);
     }
-    if letter == 70 {
+    if letter == b'F' {
         return Command::Make(Call::Flush);
     }
     Command::Malformed
@@ -142,13 +155,13 @@ fn with_none(letter: u8) -> Command
 fn with_one(letter: u8, n: u32) -> Command
     ensures { λ r. ⌜ askedOf r ≡ withOne letter n ⌝ }
 {
-    if letter == 65 {
+    if letter == b'A' {
         return Command::Make(Call::Retry(n));
     }
-    if letter == 67 {
+    if letter == b'C' {
         return Command::Make(Call::Commit(n));
     }
-    if letter == 88 {
+    if letter == b'X' {
         return Command::Make(Call::Abort(n));
     }
     Command::Malformed
@@ -158,7 +171,7 @@ fn with_one(letter: u8, n: u32) -> Command
 fn with_two(letter: u8, address: u32, width: u32) -> Command
     ensures { λ r. ⌜ askedOf r ≡ withTwo letter address width ⌝ }
 {
-    if letter == 76 {
+    if letter == b'L' {
         return Command::Make(Call::Load(address, width));
     }
     Command::Malformed
@@ -168,10 +181,10 @@ fn with_two(letter: u8, address: u32, width: u32) -> Command
 fn with_three(letter: u8, x: u32, y: u32, z: u32) -> Command
     ensures { λ r. ⌜ askedOf r ≡ withThree letter x y z ⌝ }
 {
-    if letter == 71 {
-        return Command::Start(x, y, z);
+    if letter == b'G' {
+        return Command::Start(Figures { sets: x, ways: y }, z);
     }
-    if letter == 83 {
+    if letter == b'S' {
         return Command::Make(Call::Store(x, y, z));
     }
     Command::Malformed
@@ -200,7 +213,7 @@ fn named(letter: u8, s: Scan) -> Command
 pub fn command(line: &[u8]) -> Command
     ensures { λ r. ⌜ askedOf r ≡ commandOf (now (line .entry)) ⌝ }
 {
-    if 64 < line.len() {
+    if LONGEST_LINE < line.len() {
         return Command::Malformed;
     }
     if line.len() == 0 {
@@ -210,7 +223,7 @@ pub fn command(line: &[u8]) -> Command
     if line.len() == 1 {
         return with_none(letter);
     }
-    if line[1] != 32 {
+    if line[1] != SPACE {
         return Command::Malformed;
     }
     let s = scan_from(line, 2);

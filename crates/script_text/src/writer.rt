@@ -1,12 +1,13 @@
 // The line that answers, written into a lent buffer.
-ghost use mathlib.Core.Path.{_≡_};
-ghost use mathlib.Core.List.{List, [], _∷_};
-ghost use Prim.Native.Nat.{ℕ, _+_, _≤_, _<_};
+ghost use mathlib.Core.List.{[], _∷_};
+ghost use Prim.Native.Nat.{_+_, _≤_, _<_};
 ghost use lib.ListN.{length};
 ghost use Rattle.script.specs.Commands.{space};
 ghost use Rattle.script.specs.Words.{printed, said, valueWord, answerLine, readyLine};
 ghost use Rattle.model.specs.State.{answerOf};
-ghost use Rattle.script_text.specs.Written.{Wrote, inRoom};
+ghost use Rattle.script_text.specs.Written.{Wrote, longestWord, spacedRoom, lineRoom, inRoom};
+use crate::LINE_FEED;
+use crate::LINE_ROOM;
 use model::Answer;
 
 // A byte at a place.
@@ -37,54 +38,54 @@ fn put_number(out: &mut [u8], at: usize, n: u32) -> usize
     ensures { λ r. ⌜ Wrote at (printed n) (now (out .entry)) (now (out .exit)) r ⌝ }
 {
     if n < 10 {
-        return put_byte(out, at, 48 + (n as u8));
+        return put_byte(out, at, b'0' + (n as u8));
     }
     let to = put_number(out, at, n / 10);
-    put_byte(out, to, 48 + ((n % 10) as u8))
+    put_byte(out, to, b'0' + ((n % 10) as u8))
 }
 
 // A space and a number.
 fn put_spaced(out: &mut [u8], at: usize, n: u32) -> usize
-    requires { ⌜ at + 11 ≤ length (now out) ⌝ }
+    requires { ⌜ at + spacedRoom ≤ length (now out) ⌝ }
     ensures { λ r. ⌜ Wrote at (space ∷ printed n) (now (out .entry)) (now (out .exit)) r ⌝ }
 {
-    let to = put_byte(out, at, 32);
+    let to = put_byte(out, at, b' ');
     put_number(out, to, n)
 }
 
 // A line of a word alone.
 fn say_none(out: &mut [u8], at: usize, word: &[u8]) -> usize
-    requires { ⌜ (at + 32 ≤ length (now out)) × (length (now word) ≤ 9) ⌝ }
+    requires { ⌜ (at + lineRoom ≤ length (now out)) × (length (now word) ≤ longestWord) ⌝ }
     ensures { λ r. ⌜ Wrote at (said (now (word .entry)) []) (now (out .entry)) (now (out .exit)) r ⌝ }
 {
     let to = put_word(out, at, word);
-    put_byte(out, to, 10)
+    put_byte(out, to, LINE_FEED)
 }
 
 // A line of a word and a number.
 fn say_one(out: &mut [u8], at: usize, word: &[u8], n: u32) -> usize
-    requires { ⌜ (at + 32 ≤ length (now out)) × (length (now word) ≤ 9) ⌝ }
+    requires { ⌜ (at + lineRoom ≤ length (now out)) × (length (now word) ≤ longestWord) ⌝ }
     ensures { λ r. ⌜ Wrote at (said (now (word .entry)) (n ∷ [])) (now (out .entry)) (now (out .exit)) r ⌝ }
 {
     let to = put_word(out, at, word);
     let end = put_spaced(out, to, n);
-    put_byte(out, end, 10)
+    put_byte(out, end, LINE_FEED)
 }
 
 // The line of a value: its load's number, then the value.
 fn say_value(out: &mut [u8], at: usize, i: u32, v: u32) -> usize
-    requires { ⌜ at + 32 ≤ length (now out) ⌝ }
+    requires { ⌜ at + lineRoom ≤ length (now out) ⌝ }
     ensures { λ r. ⌜ Wrote at (said valueWord (i ∷ v ∷ [])) (now (out .entry)) (now (out .exit)) r ⌝ }
 {
     let to = put_word(out, at, b"value");
     let next = put_spaced(out, to, i);
     let end = put_spaced(out, next, v);
-    put_byte(out, end, 10)
+    put_byte(out, end, LINE_FEED)
 }
 
 // The line that answers a call.
 fn say(out: &mut [u8], at: usize, a: Answer) -> usize
-    requires { ⌜ at + 32 ≤ length (now out) ⌝ }
+    requires { ⌜ at + lineRoom ≤ length (now out) ⌝ }
     ensures { λ r. ⌜ Wrote at (answerLine (answerOf a [])) (now (out .entry)) (now (out .exit)) r ⌝ }
 {
     match a {
@@ -108,10 +109,10 @@ fn say(out: &mut [u8], at: usize, a: Answer) -> usize
 pub fn write_answer(out: &mut [u8], at: usize, a: Answer) -> usize
     ensures { λ r. ⌜ Wrote at (inRoom at (now (out .entry)) (answerLine (answerOf a []))) (now (out .entry)) (now (out .exit)) r ⌝ }
 {
-    if out.len() < 32 {
+    if out.len() < LINE_ROOM {
         return at;
     }
-    if out.len() - 32 < at {
+    if out.len() - LINE_ROOM < at {
         return at;
     }
     say(out, at, a)
@@ -121,10 +122,10 @@ pub fn write_answer(out: &mut [u8], at: usize, a: Answer) -> usize
 pub fn write_ready(out: &mut [u8], at: usize) -> usize
     ensures { λ r. ⌜ Wrote at (inRoom at (now (out .entry)) readyLine) (now (out .entry)) (now (out .exit)) r ⌝ }
 {
-    if out.len() < 32 {
+    if out.len() < LINE_ROOM {
         return at;
     }
-    if out.len() - 32 < at {
+    if out.len() - LINE_ROOM < at {
         return at;
     }
     say_none(out, at, b"ready")

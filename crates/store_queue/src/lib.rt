@@ -8,6 +8,8 @@ ghost use Rattle.rules.specs.Shape.{noStore, isFreeStore};
 ghost use Rattle.rules.specs.Forward.{olderCovers};
 ghost use Rattle.rules.specs.Calls.{committedStore, youngStore};
 ghost use Rattle.store_queue.specs.Forwarded.{forwarded};
+use rules::NO_STORE;
+use rules::STORE_PLACES;
 use rules::StoreEntry;
 
 // What the held stores give for one byte of a load.
@@ -18,24 +20,12 @@ pub enum Byte {
 
 // ---- the store queue
 
-// A free place: all zero.
-fn no_store() -> StoreEntry
-    ensures { λ r. ⌜ r ≡ noStore ⌝ }
-{
-    StoreEntry {
-        number: 0,
-        address: 0,
-        width: 0,
-        value: 0,
-    }
-}
-
-// The first free place, or 16.
-fn free_store(stores: [StoreEntry; 16]) -> usize
+// The first free place, or the number of places.
+fn free_store(stores: [StoreEntry; STORE_PLACES]) -> usize
     ensures { λ r. ⌜ r ≡ position isFreeStore stores ⌝ }
 {
     let mut i: usize = 0;
-    while i < 16 {
+    while i < STORE_PLACES {
         let s = stores[i];
         if s.number == 0 {
             return i;
@@ -46,18 +36,18 @@ fn free_store(stores: [StoreEntry; 16]) -> usize
 }
 
 // Whether one more store can be held.
-pub fn has_free_store(stores: [StoreEntry; 16]) -> bool
+pub fn has_free_store(stores: [StoreEntry; STORE_PLACES]) -> bool
     ensures { λ r. ⌜ r ≡ any isFreeStore stores ⌝ }
 {
-    free_store(stores) < 16
+    free_store(stores) < STORE_PLACES
 }
 
 // The store joins the held stores, in the first free place; a full queue stays as it is.
-pub fn place_store(stores: [StoreEntry; 16], e: StoreEntry) -> [StoreEntry; 16]
+pub fn place_store(stores: [StoreEntry; STORE_PLACES], e: StoreEntry) -> [StoreEntry; STORE_PLACES]
     ensures { λ r. ⌜ r ≡ placed isFreeStore e stores ⌝ }
 {
     let k = free_store(stores);
-    if k < 16 {
+    if k < STORE_PLACES {
         let mut next = stores;
         next[k] = e;
         return next;
@@ -70,18 +60,18 @@ fn squash_store(s: StoreEntry, n: u32) -> StoreEntry
     ensures { λ r. ⌜ r ≡ cond (youngStore n s) noStore s ⌝ }
 {
     if n <= s.number {
-        return no_store();
+        return NO_STORE;
     }
     s
 }
 
 // Abort n removes every store numbered n or more.
-pub fn squash_stores(stores: [StoreEntry; 16], n: u32) -> [StoreEntry; 16]
+pub fn squash_stores(stores: [StoreEntry; STORE_PLACES], n: u32) -> [StoreEntry; STORE_PLACES]
     ensures { λ r. ⌜ r ≡ changed (youngStore n) (λ s. noStore) stores ⌝ }
 {
     let mut next = stores;
     let mut i: usize = 0;
-    while i < 16 {
+    while i < STORE_PLACES {
         let s = next[i];
         let t = squash_store(s, n);
         next[i] = t;
@@ -91,13 +81,12 @@ pub fn squash_stores(stores: [StoreEntry; 16], n: u32) -> [StoreEntry; 16]
 }
 
 // The oldest store leaves, and the others move up.
-pub fn pop_store(stores: [StoreEntry; 16]) -> [StoreEntry; 16]
+pub fn pop_store(stores: [StoreEntry; STORE_PLACES]) -> [StoreEntry; STORE_PLACES]
     ensures { λ r. ⌜ r ≡ shifted noStore stores ⌝ }
 {
-    let free = no_store();
-    let mut next = [free; 16];
+    let mut next = [NO_STORE; STORE_PLACES];
     let mut i: usize = 0;
-    while i < 15 {
+    while i + 1 < STORE_PLACES {
         let s = stores[i + 1];
         next[i] = s;
         i += 1;
@@ -116,11 +105,11 @@ pub fn is_committed_store(s: StoreEntry, h: u32) -> bool
 }
 
 // Whether a committed store is held.
-pub fn has_committed_store(stores: [StoreEntry; 16], h: u32) -> bool
+pub fn has_committed_store(stores: [StoreEntry; STORE_PLACES], h: u32) -> bool
     ensures { λ r. ⌜ r ≡ any (committedStore h) stores ⌝ }
 {
     let mut i: usize = 0;
-    while i < 16 {
+    while i < STORE_PLACES {
         let s = stores[i];
         if is_committed_store(s, h) {
             return true;
@@ -169,12 +158,12 @@ fn newer_cover(s: StoreEntry, before: StoreEntry, i: u32, a: u32) -> StoreEntry
 }
 
 // The last held store with a smaller number than i that covers the byte at a; a free entry if there is none.
-fn last_cover(stores: [StoreEntry; 16], i: u32, a: u32) -> StoreEntry
+fn last_cover(stores: [StoreEntry; STORE_PLACES], i: u32, a: u32) -> StoreEntry
     ensures { λ r. ⌜ r ≡ final (olderCovers i a) noStore stores ⌝ }
 {
-    let mut found = no_store();
+    let mut found = NO_STORE;
     let mut k: usize = 0;
-    while k < 16 {
+    while k < STORE_PLACES {
         let s = stores[k];
         found = newer_cover(s, found, i, a);
         k += 1;
@@ -183,7 +172,7 @@ fn last_cover(stores: [StoreEntry; 16], i: u32, a: u32) -> StoreEntry
 }
 
 // The byte at a for the load numbered i, from the youngest held store with a smaller number that covers it.
-pub fn forward(stores: [StoreEntry; 16], i: u32, a: u32) -> Byte
+pub fn forward(stores: [StoreEntry; STORE_PLACES], i: u32, a: u32) -> Byte
     ensures { λ r. ⌜ r ≡ forwarded i a stores ⌝ }
 {
     let s = last_cover(stores, i, a);

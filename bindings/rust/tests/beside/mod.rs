@@ -7,7 +7,7 @@ use compare::counts::{Counts, Needed};
 use compare::model::Right;
 use compare::random::{self, Rng, Run};
 use compare::types::{Answer, Call, LoadEntry, Part, Request, State, StoreEntry, Tag};
-use nicoisetarn::{Image, LINE, LOADS, RECORDS, STORES};
+use nicoisetarn::{Figures, Image, Refusal, LINE, LOADS, RECORDS, STORES};
 
 /// Where the parts of an image stand.
 pub const REQUESTED: usize = 20;
@@ -65,7 +65,7 @@ pub fn state_of(image: &Image) -> Option<State> {
         return None;
     }
     let mut state = State::zero();
-    (state.sets, state.ways) = (image.sets(), image.ways());
+    Figures { sets: state.sets, ways: state.ways } = image.figures();
     state.memory_length = image.memory_length();
     (state.last, state.committed) = (image.last(), image.committed());
     state.request = image.requested().map_or(Request::Free, Request::Line);
@@ -131,11 +131,14 @@ pub fn call_of(call: Call) -> Option<nicoisetarn::Call> {
     })
 }
 
-/// An answer of the library as one of the model.
-pub fn answer_of(answer: nicoisetarn::Answer) -> Answer {
+/// What the library told as an answer of the model.
+pub fn answer_of(told: Result<nicoisetarn::Answer, Refusal>) -> Answer {
     use nicoisetarn::Answer as Ours;
-    match answer {
-        Ours::Refused(refusal) => Answer::Refused(refusal.number()),
+    let accepted = match told {
+        Ok(answer) => answer,
+        Err(refusal) => return Answer::Refused(refusal.number()),
+    };
+    match accepted {
         Ours::Stored(number) => Answer::Stored(number),
         Ours::Value { number, value } => Answer::Value { number, value },
         Ours::Waits(number) => Answer::Waits(number),
@@ -157,20 +160,20 @@ impl Bench {
     /// One call of the library.
     pub fn call(&mut self, call: Call) -> Answer {
         let Bench { image, cache, memory } = self;
-        match (call, call_of(call)) {
-            (_, Some(call)) => answer_of(image.call(cache, memory, call)),
-            (Call::Start { sets, ways }, None) => match image.restart(sets, ways, cache, memory) {
-                Ok(()) => Answer::Ready,
-                Err(refusal) => Answer::Refused(refusal.number()),
-            },
+        answer_of(match (call, call_of(call)) {
+            (_, Some(call)) => image.call(cache, memory, call),
+            (Call::Start { sets, ways }, None) => {
+                image.restart(Figures { sets, ways }, cache, memory)
+            }
             (_, None) => panic!("{call:?} has no number"),
-        }
+        })
     }
 
     /// What a run begins with: a start, on the library.
     pub fn begin(run: &Run) -> Bench {
         let (mut cache, memory) = (run.found_cache(), run.found.clone());
-        let mut image = Image::start(run.sets, run.ways, &mut cache, &memory).unwrap();
+        let figures = Figures { sets: run.sets, ways: run.ways };
+        let mut image = Image::start(figures, &mut cache, &memory).unwrap();
         if run.numbered != 0 {
             let mut bytes = image.to_bytes();
             for at in [12, 16] {
@@ -261,12 +264,12 @@ impl Beside {
     }
 
     /// The bytes of show line and their place, on both.
-    fn compare_shown(&mut self, address: u32) -> Result<(), String> {
+    fn compare_shown(&self, address: u32) -> Result<(), String> {
         let shown = match &self.state {
             Some(state) => Right::shown_bytes(state, &self.cache, &self.memory, address),
             None => &[],
         };
-        let Bench { image, cache, memory } = &mut self.library;
+        let Bench { image, cache, memory } = &self.library;
         let base = cache.as_ptr() as usize;
         let part = image.show_line(cache, memory, address);
         let place = part.bytes.as_ptr() as usize - base;
@@ -280,7 +283,7 @@ impl Beside {
 /// The figures of an image are allowed and the lent lengths agree with them.
 pub fn figures_agree(bench: &Bench) -> bool {
     let mut figures = State::zero();
-    (figures.sets, figures.ways) = (bench.image.sets(), bench.image.ways());
+    Figures { sets: figures.sets, ways: figures.ways } = bench.image.figures();
     figures.memory_length = bench.image.memory_length();
     check::figures_agree(&figures, &bench.cache, &bench.memory)
 }
@@ -304,7 +307,8 @@ fn near_number(image: &Image, rng: &mut Rng) -> u32 {
 fn near_address(image: &Image, rng: &mut Rng) -> u32 {
     let store = image.stores()[rng.below(4) as usize].address;
     let load = image.loads()[rng.below(4) as usize].address;
-    let used = image.sets().wrapping_mul(image.ways()).clamp(1, RECORDS as u32);
+    let Figures { sets, ways } = image.figures();
+    let used = sets.wrapping_mul(ways).clamp(1, RECORDS as u32);
     let line = image.tag(rng.below(u64::from(used)) as usize).map_or(0, |tag| tag.line);
     let inside = rng.below(u64::from(image.memory_length().max(1))) as u32;
     let address = rng.pick(&[store, load, line * LINE as u32, inside]);
@@ -325,7 +329,8 @@ pub fn each_call(image: &Image, rng: &mut Rng) -> [Call; 10] {
     let odd = odd_number(rng);
     let width = rng.pick(&[1, 1, 2, 4, odd]);
     let value = rng.pick(&[0, 1, 200, odd]);
-    let (sets, ways) = (rng.pick(&[image.sets(), 1, 2, odd]), rng.pick(&[image.ways(), 1, odd]));
+    let figures = image.figures();
+    let (sets, ways) = (rng.pick(&[figures.sets, 1, 2, odd]), rng.pick(&[figures.ways, 1, odd]));
     [
         Call::ShowLine { address: address(rng) },
         Call::Load { address: address(rng), width },

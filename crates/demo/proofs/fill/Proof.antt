@@ -1,12 +1,10 @@
 -- `fill` meets its contract: it ends, and writes inside the memory.
 use borrow.Author.Needs.{needs}
-use Prim.Native.Nat.{_-_, _≤_}
+use Prim.Native.Nat.{_-_}
 use mathlib.Core.Path.{_≡_}
 use lib.ListN.{length}
 use Rattle.demo.proofs.fill.Statement.{statement}
 use Rattle.demo.proofs.fill.Tie as tie
-use Rattle.demo.proofs.fill.Reads as reads
-use Rattle.demo.proofs.fill.Lts as lts
 
 abbrev Inv-loop : tie.InvT-loop
 Inv-loop memory₀ i₀ memory i = length memory ≡ length memory₀

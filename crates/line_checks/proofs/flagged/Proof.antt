@@ -1,5 +1,5 @@
 -- `flagged` meets its contract.
-use mathlib.Core.Path.{_≡_, refl, sym, _∙_}
+use mathlib.Core.Path.{_≡_, refl, sym}
 use mathlib.Core.Bool.{Bool, true, false, _||_}
 use Rattle.line_checks.proofs.flagged.Statement.{statement}
 use Rattle.line_checks.proofs.flagged.Tie as tie

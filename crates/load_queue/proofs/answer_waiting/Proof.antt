@@ -5,16 +5,16 @@ use native.Mathlib.Omega.{arith}
 use lib.ListN.{length}
 use borrow.Author.Needs.{needs}
 use Rattle.lists.proofs.Loops.{done, done-none, done-step, done-all}
-use Rattle.rules.specs.Shape.{noLoad}
+use Rattle.rules.specs.Shape.{loadPlaces, noLoad}
 use Rattle.rules.specs.Calls.{waitingAt, answered}
 use Rattle.load_queue.proofs.answer_waiting.Statement.{statement}
 use Rattle.load_queue.proofs.answer_waiting.Tie as tie
 
 abbrev Inv-loop : tie.InvT-loop
-Inv-loop i next₀ k₀ next k = (k ≤ 8) × (next ≡ done (waitingAt i) answered k next₀)
+Inv-loop i next₀ k₀ next k = (k ≤ loadPlaces) × (next ≡ done (waitingAt i) answered k next₀)
 
 abbrev μ-loop : tie.MeasureT-loop
-μ-loop i next₀ k₀ next k = 8 - k
+μ-loop i next₀ k₀ next k = loadPlaces - k
 
 loop-holds : tie.Need-loop-holds Inv-loop μ-loop
 loop-holds c = (search needs, done-none _ _ (c .args .loads))
@@ -44,7 +44,7 @@ loop-again : tie.Need-loop-again Inv-loop μ-loop
 loop-again c =
     let args = c .before .before .before .before .args in
     let loop = c .before .before .before .loop in
-    let h : length (args .loads) ≡ 8 = search needs in (
+    let h : length (args .loads) ≡ loadPlaces = search needs in (
       search needs,
       done-step _ _ noLoad (loop .k) (args .loads) (loop .next) (c .answer-load .result) (omega arith)
           (loop .inv .1) (c .answer-load .ensures),
@@ -54,7 +54,7 @@ returns : tie.Need-returns Inv-loop μ-loop
 returns c =
     let args = c .before .before .args in
     let loop = c .before .loop in
-    let h : length (args .loads) ≡ 8 = search needs in
+    let h : length (args .loads) ≡ loadPlaces = search needs in
     loop .inv .1 ∙ done-all _ _ (loop .k) (args .loads) (omega arith)
 
 pub answer-waiting-spec : {M : Type 1} → statement M

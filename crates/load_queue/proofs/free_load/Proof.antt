@@ -7,15 +7,15 @@ use borrow.Author.Needs.{needs}
 use borrow.Author.Tests.{eq-eqb, ne-eqb}
 use Rattle.lists.specs.Padded.{position}
 use Rattle.lists.proofs.Loops.{position-hit, position-miss, position-end}
-use Rattle.rules.specs.Shape.{noLoad, isFreeLoad}
+use Rattle.rules.specs.Shape.{loadPlaces, noLoad, isFreeLoad}
 use Rattle.load_queue.proofs.free_load.Statement.{statement}
 use Rattle.load_queue.proofs.free_load.Tie as tie
 
 abbrev Inv-loop : tie.InvT-loop
-Inv-loop loads j₀ j = (j ≤ 8) × (position isFreeLoad loads ≡ j + position isFreeLoad (drop j loads))
+Inv-loop loads j₀ j = (j ≤ loadPlaces) × (position isFreeLoad loads ≡ j + position isFreeLoad (drop j loads))
 
 abbrev μ-loop : tie.MeasureT-loop
-μ-loop loads j₀ j = 8 - j
+μ-loop loads j₀ j = loadPlaces - j
 
 loop-holds : tie.Need-loop-holds Inv-loop μ-loop
 loop-holds c = (search needs, omega arith)
@@ -30,7 +30,7 @@ returns : tie.Need-returns Inv-loop μ-loop
 returns c =
     let args = c .before .before .before .before .before .args in
     let loop = c .before .before .before .before .loop in
-    let h : length (args .t1) ≡ 8 = search needs in
+    let h : length (args .t1) ≡ loadPlaces = search needs in
     sym (loop .inv .1 ∙ position-hit _ noLoad (args .t1) (loop .j) (omega arith) (eq-eqb _ 0 (c .if1 .taken)))
 
 add-j : tie.Need-add-j Inv-loop μ-loop
@@ -43,7 +43,7 @@ loop-again : tie.Need-loop-again Inv-loop μ-loop
 loop-again c =
     let args = c .before .before .before .before .before .args in
     let loop = c .before .before .before .before .loop in
-    let h : length (args .t1) ≡ 8 = search needs in (
+    let h : length (args .t1) ≡ loadPlaces = search needs in (
       search needs,
       loop .inv .1 ∙ position-miss _ noLoad (args .t1) (loop .j) (omega arith) (ne-eqb _ 0 (c .if1 .left)),
     )
@@ -52,7 +52,7 @@ returns-2 : tie.Need-returns-2 Inv-loop μ-loop
 returns-2 c =
     let args = c .before .before .args in
     let loop = c .before .loop in
-    let h : length (args .t1) ≡ 8 = search needs in
+    let h : length (args .t1) ≡ loadPlaces = search needs in
     sym (loop .inv .1 ∙ position-end _ noLoad (args .t1) (loop .j) (omega arith))
 
 pub free-load-spec : {M : Type 1} → statement M

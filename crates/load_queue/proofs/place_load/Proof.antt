@@ -3,6 +3,7 @@ use mathlib.Core.Path.{_≡_}
 use lib.ListN.{length}
 use borrow.Author.Needs.{needs}
 use Rattle.lists.proofs.Loops.{found-placed, none-placed}
+use Rattle.rules.specs.Shape.{loadPlaces}
 use Rattle.load_queue.proofs.place_load.Statement.{statement}
 use Rattle.load_queue.proofs.place_load.Tie as tie
 
@@ -18,14 +19,14 @@ array-set-from-next c = search needs
 returns : tie.Need-returns
 returns c =
     let args = c .before .before .args in
-    let h : length (args .loads) ≡ 8 = search needs in
-    found-placed _ (args .loads) 8 (c .before .free-load .result) h (c .before .free-load .ensures) (args .e)
+    let h : length (args .loads) ≡ loadPlaces = search needs in
+    found-placed _ (args .loads) loadPlaces (c .before .free-load .result) h (c .before .free-load .ensures) (args .e)
 
 returns-2 : tie.Need-returns-2
 returns-2 c =
     let args = c .before .before .args in
-    let h : length (args .loads) ≡ 8 = search needs in
-    none-placed _ (args .loads) 8 (c .before .free-load .result) h (c .before .free-load .ensures) (args .e)
+    let h : length (args .loads) ≡ loadPlaces = search needs in
+    none-placed _ (args .loads) loadPlaces (c .before .free-load .result) h (c .before .free-load .ensures) (args .e)
     (c .if1 .left)
 
 pub place-load-spec : {M : Type 1} → statement M

@@ -5,22 +5,19 @@ use native.Mathlib.Omega.{arith}
 use lib.ListN.{length}
 use borrow.Author.Needs.{needs}
 use Rattle.lists.proofs.Loops.{Packing, pack-none, pack-room, pack-step, pack-all}
-use Rattle.rules.specs.Shape.{noLoad}
+use Rattle.rules.specs.Shape.{loadPlaces, noLoad}
 use Rattle.rules.specs.Calls.{answeredBy}
 use Rattle.load_queue.proofs.remove_answered.Statement.{statement}
 use Rattle.load_queue.proofs.remove_answered.Tie as tie
 
 abbrev Inv-loop : tie.InvT-loop
-Inv-loop k loads left₀ at₀ left at = (at ≤ 8) × Packing (answeredBy k) noLoad 8 loads at (left .count) (left .out)
+Inv-loop k loads left₀ at₀ left at = (at ≤ loadPlaces) × Packing (answeredBy k) noLoad loadPlaces loads at (left .count) (left .out)
 
 abbrev μ-loop : tie.MeasureT-loop
-μ-loop k loads left₀ at₀ left at = 8 - at
-
-no-load-requires : tie.Need-no-load-requires Inv-loop μ-loop
-no-load-requires c κs = search needs
+μ-loop k loads left₀ at₀ left at = loadPlaces - at
 
 loop-holds : tie.Need-loop-holds Inv-loop μ-loop
-loop-holds c = (search needs, rw (c .no-load .ensures) (pack-none _ noLoad 8 (c .before .args .t1)))
+loop-holds c = (search needs, pack-none _ noLoad loadPlaces (c .args .t1))
 
 mul-l : tie.Need-mul-l Inv-loop μ-loop
 mul-l c = search needs
@@ -41,8 +38,8 @@ loop-less c = search needs
 
 loop-again : tie.Need-loop-again Inv-loop μ-loop
 loop-again c =
-    let args = c .before .before .before .before .before .args in
-    let h : length (args .t1) ≡ 8 = search needs in (
+    let args = c .before .before .before .before .args in
+    let h : length (args .t1) ≡ loadPlaces = search needs in (
       search needs,
       pack-step (answeredBy (args .k)) noLoad noLoad h (omega arith) (c .before .before .before .loop .inv .1) _
           _ (c .keep-unless-answered .ensures .0) (c .keep-unless-answered .ensures .1),
@@ -50,8 +47,8 @@ loop-again c =
 
 returns : tie.Need-returns Inv-loop μ-loop
 returns c =
-    let args = c .before .before .before .before .args in
-    let h : length (args .t1) ≡ 8 = search needs in
+    let args = c .before .before .before .args in
+    let h : length (args .t1) ≡ loadPlaces = search needs in
     pack-all (answeredBy (args .k)) noLoad h (omega arith) (c .before .before .loop .inv .1)
 
 pub remove-answered-spec : {M : Type 1} → statement M
@@ -60,7 +57,6 @@ remove-answered-spec =
     (tie.spec
     Inv-loop
     μ-loop
-    no-load-requires
     loop-holds
     mul-l
     array-copy-out-l

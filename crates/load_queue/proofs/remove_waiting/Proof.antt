@@ -5,22 +5,19 @@ use native.Mathlib.Omega.{arith}
 use lib.ListN.{length}
 use borrow.Author.Needs.{needs}
 use Rattle.lists.proofs.Loops.{Packing, pack-none, pack-room, pack-step, pack-all}
-use Rattle.rules.specs.Shape.{noLoad}
+use Rattle.rules.specs.Shape.{loadPlaces, noLoad}
 use Rattle.rules.specs.Calls.{waitingAt}
 use Rattle.load_queue.proofs.remove_waiting.Statement.{statement}
 use Rattle.load_queue.proofs.remove_waiting.Tie as tie
 
 abbrev Inv-loop : tie.InvT-loop
-Inv-loop i loads kept₀ k₀ kept k = (k ≤ 8) × Packing (waitingAt i) noLoad 8 loads k (kept .count) (kept .out)
+Inv-loop i loads kept₀ k₀ kept k = (k ≤ loadPlaces) × Packing (waitingAt i) noLoad loadPlaces loads k (kept .count) (kept .out)
 
 abbrev μ-loop : tie.MeasureT-loop
-μ-loop i loads kept₀ k₀ kept k = 8 - k
-
-no-load-requires : tie.Need-no-load-requires Inv-loop μ-loop
-no-load-requires c κs = search needs
+μ-loop i loads kept₀ k₀ kept k = loadPlaces - k
 
 loop-holds : tie.Need-loop-holds Inv-loop μ-loop
-loop-holds c = (search needs, rw (c .no-load .ensures) (pack-none _ noLoad 8 (c .before .args .t1)))
+loop-holds c = (search needs, pack-none _ noLoad loadPlaces (c .args .t1))
 
 mul-l : tie.Need-mul-l Inv-loop μ-loop
 mul-l c = search needs
@@ -41,8 +38,8 @@ loop-less c = search needs
 
 loop-again : tie.Need-loop-again Inv-loop μ-loop
 loop-again c =
-    let args = c .before .before .before .before .before .args in
-    let h : length (args .t1) ≡ 8 = search needs in (
+    let args = c .before .before .before .before .args in
+    let h : length (args .t1) ≡ loadPlaces = search needs in (
       search needs,
       pack-step (waitingAt (args .i)) noLoad noLoad h (omega arith) (c .before .before .before .loop .inv .1) _
           _ (c .keep-unless-waiting .ensures .0) (c .keep-unless-waiting .ensures .1),
@@ -50,8 +47,8 @@ loop-again c =
 
 returns : tie.Need-returns Inv-loop μ-loop
 returns c =
-    let args = c .before .before .before .before .args in
-    let h : length (args .t1) ≡ 8 = search needs in
+    let args = c .before .before .before .args in
+    let h : length (args .t1) ≡ loadPlaces = search needs in
     pack-all (waitingAt (args .i)) noLoad h (omega arith) (c .before .before .loop .inv .1)
 
 pub remove-waiting-spec : {M : Type 1} → statement M
@@ -60,7 +57,6 @@ remove-waiting-spec =
     (tie.spec
     Inv-loop
     μ-loop
-    no-load-requires
     loop-holds
     mul-l
     array-copy-out-l

@@ -5,16 +5,16 @@ use native.Mathlib.Omega.{arith}
 use lib.ListN.{length}
 use borrow.Author.Needs.{needs}
 use Rattle.lists.proofs.Loops.{done, done-none, done-step, done-all}
-use Rattle.rules.specs.Shape.{noLoad}
+use Rattle.rules.specs.Shape.{loadPlaces, noLoad}
 use Rattle.rules.specs.Calls.{youngLoad}
 use Rattle.load_queue.proofs.squash_loads.Statement.{statement}
 use Rattle.load_queue.proofs.squash_loads.Tie as tie
 
 abbrev Inv-loop : tie.InvT-loop
-Inv-loop n next₀ i₀ next i = (i ≤ 8) × (next ≡ done (youngLoad n) (λ l. noLoad) i next₀)
+Inv-loop n next₀ i₀ next i = (i ≤ loadPlaces) × (next ≡ done (youngLoad n) (λ l. noLoad) i next₀)
 
 abbrev μ-loop : tie.MeasureT-loop
-μ-loop n next₀ i₀ next i = 8 - i
+μ-loop n next₀ i₀ next i = loadPlaces - i
 
 loop-holds : tie.Need-loop-holds Inv-loop μ-loop
 loop-holds c = (search needs, done-none _ _ (c .args .loads))
@@ -44,7 +44,7 @@ loop-again : tie.Need-loop-again Inv-loop μ-loop
 loop-again c =
     let args = c .before .before .before .before .args in
     let loop = c .before .before .before .loop in
-    let h : length (args .loads) ≡ 8 = search needs in (
+    let h : length (args .loads) ≡ loadPlaces = search needs in (
       search needs,
       done-step _ _ noLoad (loop .i) (args .loads) (loop .next) (c .squash-load .result) (omega arith)
           (loop .inv .1) (c .squash-load .ensures),
@@ -54,7 +54,7 @@ returns : tie.Need-returns Inv-loop μ-loop
 returns c =
     let args = c .before .before .args in
     let loop = c .before .loop in
-    let h : length (args .loads) ≡ 8 = search needs in
+    let h : length (args .loads) ≡ loadPlaces = search needs in
     loop .inv .1 ∙ done-all _ _ (loop .i) (args .loads) (omega arith)
 
 pub squash-loads-spec : {M : Type 1} → statement M

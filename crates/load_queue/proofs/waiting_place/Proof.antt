@@ -6,16 +6,16 @@ use lib.ListN.{length, drop}
 use borrow.Author.Needs.{needs}
 use Rattle.lists.specs.Padded.{position}
 use Rattle.lists.proofs.Loops.{position-hit, position-miss, position-end}
-use Rattle.rules.specs.Shape.{noLoad}
+use Rattle.rules.specs.Shape.{loadPlaces, noLoad}
 use Rattle.rules.specs.Calls.{waitingAt}
 use Rattle.load_queue.proofs.waiting_place.Statement.{statement}
 use Rattle.load_queue.proofs.waiting_place.Tie as tie
 
 abbrev Inv-loop : tie.InvT-loop
-Inv-loop i loads k₀ k = (k ≤ 8) × (position (waitingAt i) loads ≡ k + position (waitingAt i) (drop k loads))
+Inv-loop i loads k₀ k = (k ≤ loadPlaces) × (position (waitingAt i) loads ≡ k + position (waitingAt i) (drop k loads))
 
 abbrev μ-loop : tie.MeasureT-loop
-μ-loop i loads k₀ k = 8 - k
+μ-loop i loads k₀ k = loadPlaces - k
 
 loop-holds : tie.Need-loop-holds Inv-loop μ-loop
 loop-holds c = (search needs, omega arith)
@@ -33,7 +33,7 @@ returns : tie.Need-returns Inv-loop μ-loop
 returns c =
     let args = c .before .before .before .before .before .args in
     let loop = c .before .before .before .before .loop in
-    let h : length (args .t1) ≡ 8 = search needs in
+    let h : length (args .t1) ≡ loadPlaces = search needs in
     sym
     (loop .inv .1
     ∙ position-hit _ noLoad (args .t1) (loop .k) (omega arith)
@@ -49,7 +49,7 @@ loop-again : tie.Need-loop-again Inv-loop μ-loop
 loop-again c =
     let args = c .before .before .before .before .before .args in
     let loop = c .before .before .before .before .loop in
-    let h : length (args .t1) ≡ 8 = search needs in (
+    let h : length (args .t1) ≡ loadPlaces = search needs in (
       search needs,
       loop .inv .1
           ∙ position-miss _ noLoad (args .t1) (loop .k) (omega arith)
@@ -60,7 +60,7 @@ returns-2 : tie.Need-returns-2 Inv-loop μ-loop
 returns-2 c =
     let args = c .before .before .args in
     let loop = c .before .loop in
-    let h : length (args .t1) ≡ 8 = search needs in
+    let h : length (args .t1) ≡ loadPlaces = search needs in
     sym (loop .inv .1 ∙ position-end _ noLoad (args .t1) (loop .k) (omega arith))
 
 pub waiting-place-spec : {M : Type 1} → statement M

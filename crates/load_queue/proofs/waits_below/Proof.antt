@@ -6,16 +6,16 @@ use lib.ListN.{length, drop}
 use borrow.Author.Needs.{needs}
 use Rattle.lists.specs.Padded.{any}
 use Rattle.lists.proofs.Loops.{any-hit, any-miss, any-end}
-use Rattle.rules.specs.Shape.{noLoad}
+use Rattle.rules.specs.Shape.{loadPlaces, noLoad}
 use Rattle.rules.specs.Calls.{waitsBelow}
 use Rattle.load_queue.proofs.waits_below.Statement.{statement}
 use Rattle.load_queue.proofs.waits_below.Tie as tie
 
 abbrev Inv-loop : tie.InvT-loop
-Inv-loop i loads k₀ k = (k ≤ 8) × (any (waitsBelow i) loads ≡ any (waitsBelow i) (drop k loads))
+Inv-loop i loads k₀ k = (k ≤ loadPlaces) × (any (waitsBelow i) loads ≡ any (waitsBelow i) (drop k loads))
 
 abbrev μ-loop : tie.MeasureT-loop
-μ-loop i loads k₀ k = 8 - k
+μ-loop i loads k₀ k = loadPlaces - k
 
 loop-holds : tie.Need-loop-holds Inv-loop μ-loop
 loop-holds c = (search needs, refl)
@@ -33,7 +33,7 @@ returns : tie.Need-returns Inv-loop μ-loop
 returns c =
     let args = c .before .before .before .before .before .args in
     let loop = c .before .before .before .before .loop in
-    let h : length (args .t1) ≡ 8 = search needs in
+    let h : length (args .t1) ≡ loadPlaces = search needs in
     sym
     (loop .inv .1
     ∙ any-hit _ noLoad (args .t1) (loop .k) (omega arith)
@@ -49,7 +49,7 @@ loop-again : tie.Need-loop-again Inv-loop μ-loop
 loop-again c =
     let args = c .before .before .before .before .before .args in
     let loop = c .before .before .before .before .loop in
-    let h : length (args .t1) ≡ 8 = search needs in (
+    let h : length (args .t1) ≡ loadPlaces = search needs in (
       search needs,
       loop .inv .1
           ∙ any-miss _ noLoad (args .t1) (loop .k) (omega arith)
@@ -60,7 +60,7 @@ returns-2 : tie.Need-returns-2 Inv-loop μ-loop
 returns-2 c =
     let args = c .before .before .args in
     let loop = c .before .loop in
-    let h : length (args .t1) ≡ 8 = search needs in
+    let h : length (args .t1) ≡ loadPlaces = search needs in
     sym (loop .inv .1 ∙ any-end _ noLoad (args .t1) (loop .k) (omega arith))
 
 pub waits-below-spec : {M : Type 1} → statement M

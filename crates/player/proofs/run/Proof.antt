@@ -6,10 +6,11 @@ use Rattle.player.proofs.run.Statement.{statement}
 use Rattle.player.proofs.run.Tie as tie
 
 abbrev Inv-loop : tie.InvT-loop
-Inv-loop input₀ cache₀ memory₀ out₀ now₀ turns₀ input cache memory out now turns = (length input ≡ length input₀) × (length cache ≡ length cache₀) × (length memory ≡ length memory₀) × (length out ≡ length out₀)
+Inv-loop input₀ cache₀ memory₀ out₀ now₀ reads₀ input cache memory out now reads =
+    (length input ≡ length input₀) × (length cache ≡ length cache₀) × (length memory ≡ length memory₀) × (length out ≡ length out₀)
 
 abbrev μ-loop : tie.MeasureT-loop
-μ-loop input₀ cache₀ memory₀ out₀ now₀ turns₀ input cache memory out now turns = turns
+μ-loop input₀ cache₀ memory₀ out₀ now₀ reads₀ input cache memory out now reads = reads
 
 new-requires : tie.Need-new-requires Inv-loop μ-loop
 new-requires c κs = search needs
@@ -20,8 +21,8 @@ loop-holds c = search needs
 read-and-play-requires : tie.Need-read-and-play-requires Inv-loop μ-loop
 read-and-play-requires c κs = search needs
 
-sub-turns : tie.Need-sub-turns Inv-loop μ-loop
-sub-turns c = search needs
+sub-reads : tie.Need-sub-reads Inv-loop μ-loop
+sub-reads c = search needs
 
 loop-less : tie.Need-loop-less Inv-loop μ-loop
 loop-less c = search needs
@@ -41,8 +42,8 @@ same-length-3 c = search needs
 same-length-4 : tie.Need-same-length-4 Inv-loop μ-loop
 same-length-4 c = search needs
 
-returns : tie.Need-returns Inv-loop μ-loop
-returns c = search needs
+rereads : tie.Need-rereads Inv-loop μ-loop
+rereads c = search needs
 
 pub run-spec : {M : Type 1} → statement M
 run-spec =
@@ -53,11 +54,11 @@ run-spec =
     new-requires
     loop-holds
     read-and-play-requires
-    sub-turns
+    sub-reads
     loop-less
     loop-again
     same-length
     same-length-2
     same-length-3
     same-length-4
-    returns)
+    rereads)

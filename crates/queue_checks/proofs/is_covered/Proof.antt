@@ -6,16 +6,16 @@ use lib.ListN.{length, drop}
 use borrow.Author.Needs.{needs}
 use Rattle.lists.specs.Padded.{any}
 use Rattle.lists.proofs.Loops.{any-hit, any-miss, any-end}
-use Rattle.rules.specs.Shape.{noStore}
+use Rattle.rules.specs.Shape.{storePlaces, noStore}
 use Rattle.rules.specs.Forward.{olderCovers}
 use Rattle.queue_checks.proofs.is_covered.Statement.{statement}
 use Rattle.queue_checks.proofs.is_covered.Tie as tie
 
 abbrev Inv-loop : tie.InvT-loop
-Inv-loop i a stores k₀ k = (k ≤ 16) × (any (olderCovers i a) stores ≡ any (olderCovers i a) (drop k stores))
+Inv-loop i a stores k₀ k = (k ≤ storePlaces) × (any (olderCovers i a) stores ≡ any (olderCovers i a) (drop k stores))
 
 abbrev μ-loop : tie.MeasureT-loop
-μ-loop i a stores k₀ k = 16 - k
+μ-loop i a stores k₀ k = storePlaces - k
 
 loop-holds : tie.Need-loop-holds Inv-loop μ-loop
 loop-holds c = (search needs, refl)
@@ -33,7 +33,7 @@ returns : tie.Need-returns Inv-loop μ-loop
 returns c =
     let args = c .before .before .before .before .before .args in
     let loop = c .before .before .before .before .loop in
-    let h : length (args .t1) ≡ 16 = search needs in
+    let h : length (args .t1) ≡ storePlaces = search needs in
     sym
     (loop .inv .1
     ∙ any-hit _ noStore (args .t1) (loop .k) (omega arith)
@@ -49,7 +49,7 @@ loop-again : tie.Need-loop-again Inv-loop μ-loop
 loop-again c =
     let args = c .before .before .before .before .before .args in
     let loop = c .before .before .before .before .loop in
-    let h : length (args .t1) ≡ 16 = search needs in (
+    let h : length (args .t1) ≡ storePlaces = search needs in (
       search needs,
       loop .inv .1
           ∙ any-miss _ noStore (args .t1) (loop .k) (omega arith)
@@ -60,7 +60,7 @@ returns-2 : tie.Need-returns-2 Inv-loop μ-loop
 returns-2 c =
     let args = c .before .before .args in
     let loop = c .before .loop in
-    let h : length (args .t1) ≡ 16 = search needs in
+    let h : length (args .t1) ≡ storePlaces = search needs in
     sym (loop .inv .1 ∙ any-end _ noStore (args .t1) (loop .k) (omega arith))
 
 pub is-covered-spec : {M : Type 1} → statement M

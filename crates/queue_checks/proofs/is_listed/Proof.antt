@@ -8,16 +8,16 @@ use borrow.Author.Needs.{needs}
 use borrow.Author.Tests.{eq-eqb, ne-eqb}
 use Rattle.lists.specs.Padded.{any}
 use Rattle.lists.proofs.Loops.{any-hit, any-miss, any-end, free-rest}
-use Rattle.rules.specs.Shape.{noLoad}
+use Rattle.rules.specs.Shape.{loadPlaces, noLoad}
 use Rattle.queue_checks.proofs.Good.{listed-none}
 use Rattle.queue_checks.proofs.is_listed.Statement.{statement}
 use Rattle.queue_checks.proofs.is_listed.Tie as tie
 
 abbrev Inv-loop : tie.InvT-loop
-Inv-loop n loads i₀ i = (i ≤ 8) × (any (λ l. eqb (l .number) n) loads ≡ any (λ l. eqb (l .number) n) (drop i loads))
+Inv-loop n loads i₀ i = (i ≤ loadPlaces) × (any (λ l. eqb (l .number) n) loads ≡ any (λ l. eqb (l .number) n) (drop i loads))
 
 abbrev μ-loop : tie.MeasureT-loop
-μ-loop n loads i₀ i = 8 - i
+μ-loop n loads i₀ i = loadPlaces - i
 
 loop-holds : tie.Need-loop-holds Inv-loop μ-loop
 loop-holds c = (search needs, refl)
@@ -32,7 +32,7 @@ returns : tie.Need-returns Inv-loop μ-loop
 returns c =
     let args = c .before .before .before .before .before .args in
     let loop = c .before .before .before .before .loop in
-    let h : length (args .t1) ≡ 8 = search needs in
+    let h : length (args .t1) ≡ loadPlaces = search needs in
     sym
     (loop .inv .1
     ∙ listed-none _ (c .before .before .before .before .before .pre .1) _
@@ -43,7 +43,7 @@ returns-2 : tie.Need-returns-2 Inv-loop μ-loop
 returns-2 c =
     let args = c .before .before .before .before .before .before .before .args in
     let loop = c .before .before .before .before .before .before .loop in
-    let h : length (args .t1) ≡ 8 = search needs in
+    let h : length (args .t1) ≡ loadPlaces = search needs in
     sym (loop .inv .1 ∙ any-hit _ noLoad (args .t1) (loop .i) (omega arith) (eq-eqb _ _ (c .if2 .taken)))
 
 add-i : tie.Need-add-i Inv-loop μ-loop
@@ -56,14 +56,14 @@ loop-again : tie.Need-loop-again Inv-loop μ-loop
 loop-again c =
     let args = c .before .before .before .before .before .before .before .args in
     let loop = c .before .before .before .before .before .before .loop in
-    let h : length (args .t1) ≡ 8 = search needs in
+    let h : length (args .t1) ≡ loadPlaces = search needs in
     (search needs, loop .inv .1 ∙ any-miss _ noLoad (args .t1) (loop .i) (omega arith) (ne-eqb _ _ (c .if2 .left)))
 
 returns-3 : tie.Need-returns-3 Inv-loop μ-loop
 returns-3 c =
     let args = c .before .before .args in
     let loop = c .before .loop in
-    let h : length (args .t1) ≡ 8 = search needs in
+    let h : length (args .t1) ≡ loadPlaces = search needs in
     sym (loop .inv .1 ∙ any-end _ noLoad (args .t1) (loop .i) (omega arith))
 
 pub is-listed-spec : {M : Type 1} → statement M

@@ -5,17 +5,17 @@ use native.Mathlib.Omega.{arith}
 use lib.ListN.{length, drop}
 use borrow.Author.Needs.{needs}
 use Rattle.lists.proofs.Loops.{rise-next, rise-stop, rise-end}
-use Rattle.rules.specs.Shape.{noLoad}
+use Rattle.rules.specs.Shape.{loadPlaces, noLoad}
 use Rattle.queue_checks.specs.Good.{loadGood, loadsGood}
 use Rattle.queue_checks.proofs.Good.{loads-free}
 use Rattle.queue_checks.proofs.loads_good.Statement.{statement}
 use Rattle.queue_checks.proofs.loads_good.Tie as tie
 
 abbrev Inv-loop : tie.InvT-loop
-Inv-loop last committed size stores loads m₀ i₀ m i = (i ≤ 8) × (loadsGood last committed size stores 0 loads ≡ loadsGood last committed size stores m (drop i loads))
+Inv-loop last committed size stores loads m₀ i₀ m i = (i ≤ loadPlaces) × (loadsGood last committed size stores 0 loads ≡ loadsGood last committed size stores m (drop i loads))
 
 abbrev μ-loop : tie.MeasureT-loop
-μ-loop last committed size stores loads m₀ i₀ m i = 8 - i
+μ-loop last committed size stores loads m₀ i₀ m i = loadPlaces - i
 
 loop-holds : tie.Need-loop-holds Inv-loop μ-loop
 loop-holds c = (search needs, refl)
@@ -33,7 +33,7 @@ returns : tie.Need-returns Inv-loop μ-loop
 returns c =
     let args = c .before .before .before .before .before .before .args in
     let loop = c .before .before .before .before .before .loop in
-    let h : length (args .t1) ≡ 8 = search needs in
+    let h : length (args .t1) ≡ loadPlaces = search needs in
     c .zero-loads .ensures
     ∙ sym
     (loop .inv .1
@@ -54,7 +54,7 @@ unfolding loadsGood
 loop-again c =
     let args = c .before .before .before .before .before .before .before .args in
     let loop = c .before .before .before .before .before .before .loop in
-    let h : length (args .t1) ≡ 8 = search needs in (
+    let h : length (args .t1) ≡ loadPlaces = search needs in (
       search needs,
       loop .inv .1
           ∙ rise-next (λ s. s .number) noLoad (args .t1) (loop .i)
@@ -67,7 +67,7 @@ unfolding loadsGood
 returns-2 c =
     let args = c .before .before .before .before .before .before .before .args in
     let loop = c .before .before .before .before .before .before .loop in
-    let h : length (args .t1) ≡ 8 = search needs in
+    let h : length (args .t1) ≡ loadPlaces = search needs in
     sym
     (loop .inv .1
     ∙ rise-stop (λ s. s .number) noLoad (args .t1) (loop .i)
@@ -79,7 +79,7 @@ unfolding loadsGood
 returns-3 c =
     let args = c .before .before .args in
     let loop = c .before .loop in
-    let h : length (args .t1) ≡ 8 = search needs in
+    let h : length (args .t1) ≡ loadPlaces = search needs in
     sym
     (loop .inv .1
     ∙ rise-end (λ s. s .number) noLoad (args .t1) (loop .i)

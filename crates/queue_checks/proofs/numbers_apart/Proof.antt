@@ -7,17 +7,17 @@ use lib.ListN.{length, drop}
 use borrow.Author.Needs.{needs}
 use Rattle.lists.specs.Padded.{every}
 use Rattle.lists.proofs.Loops.{every-hit, every-miss, every-end, free-rest}
-use Rattle.rules.specs.Shape.{noStore}
+use Rattle.rules.specs.Shape.{storePlaces, noStore}
 use Rattle.rules.specs.WellFormed.{alone}
 use Rattle.queue_checks.proofs.Good.{alone-free, alone-used}
 use Rattle.queue_checks.proofs.numbers_apart.Statement.{statement}
 use Rattle.queue_checks.proofs.numbers_apart.Tie as tie
 
 abbrev Inv-loop : tie.InvT-loop
-Inv-loop loads stores i₀ i = (i ≤ 16) × (every (alone loads) stores ≡ every (alone loads) (drop i stores))
+Inv-loop loads stores i₀ i = (i ≤ storePlaces) × (every (alone loads) stores ≡ every (alone loads) (drop i stores))
 
 abbrev μ-loop : tie.MeasureT-loop
-μ-loop loads stores i₀ i = 16 - i
+μ-loop loads stores i₀ i = storePlaces - i
 
 loop-holds : tie.Need-loop-holds Inv-loop μ-loop
 loop-holds c = (search needs, refl)
@@ -32,7 +32,7 @@ returns : tie.Need-returns Inv-loop μ-loop
 returns c =
     let args = c .before .before .before .before .before .args in
     let loop = c .before .before .before .before .loop in
-    let h : length (args .t1) ≡ 16 = search needs in
+    let h : length (args .t1) ≡ storePlaces = search needs in
     sym
     (loop .inv .1
     ∙ alone-free _ _
@@ -48,7 +48,7 @@ returns-2 : tie.Need-returns-2 Inv-loop μ-loop
 returns-2 c =
     let args = c .before .before .before .before .before .before .before .args in
     let loop = c .before .before .before .before .before .before .loop in
-    let h : length (args .t1) ≡ 16 = search needs in
+    let h : length (args .t1) ≡ storePlaces = search needs in
     sym
     (loop .inv .1
     ∙ every-miss _ noStore (args .t1) (loop .i) (omega arith)
@@ -64,7 +64,7 @@ loop-again : tie.Need-loop-again Inv-loop μ-loop
 loop-again c =
     let args = c .before .before .before .before .before .before .before .args in
     let loop = c .before .before .before .before .before .before .loop in
-    let h : length (args .t1) ≡ 16 = search needs in (
+    let h : length (args .t1) ≡ storePlaces = search needs in (
       search needs,
       loop .inv .1
           ∙ every-hit _ noStore (args .t1) (loop .i) (omega arith)
@@ -76,7 +76,7 @@ returns-3 : tie.Need-returns-3 Inv-loop μ-loop
 returns-3 c =
     let args = c .before .before .args in
     let loop = c .before .loop in
-    let h : length (args .t1) ≡ 16 = search needs in
+    let h : length (args .t1) ≡ storePlaces = search needs in
     sym (loop .inv .1 ∙ every-end _ noStore (args .t1) (loop .i) (omega arith))
 
 pub numbers-apart-spec : {M : Type 1} → statement M

@@ -1,8 +1,8 @@
--- `queue_checks::request_wanted` meets its contract. By the register and the tests.
+-- `queue_checks::request_wanted` meets its contract. By the register and the tests (proofs/Ready).
 use mathlib.Core.Path.{sym, _∙_}
 use borrow.Author.Needs.{needs}
-use Rattle.rules.specs.WellFormed.{requestWanted}
 use Rattle.rules.specs.Shape.{lineOf}
+use Rattle.queue_checks.proofs.Ready.{wanted-free, wanted-by-load, wanted-by-none, wanted-by-store}
 use Rattle.queue_checks.proofs.request_wanted.Statement.{statement}
 use Rattle.queue_checks.proofs.request_wanted.Tie as tie
 
@@ -16,11 +16,12 @@ has-waiting-for-requires : tie.Need-has-waiting-for-requires
 has-waiting-for-requires c κs = search needs
 
 returns : tie.Need-returns
-unfolding requestWanted
 returns c =
+    let args = c .before .before .before .before .before .args in
     let request = c .before .before .before .request in
     let has-waiting-for = c .before .has-waiting-for in
-    rw (request .given .1, sym (has-waiting-for .ensures) ∙ c .if1 .taken)
+    wanted-by-load (args .committed) (args .t2) (args .loads) _ _ (request .given .1)
+    (sym (has-waiting-for .ensures) ∙ c .if1 .taken)
 
 store-ready-requires : tie.Need-store-ready-requires
 store-ready-requires c κs = search needs
@@ -29,36 +30,33 @@ array-copy-out-s : tie.Need-array-copy-out-s
 array-copy-out-s c = search needs
 
 returns-2 : tie.Need-returns-2
-unfolding requestWanted lineOf
+unfolding lineOf
 returns-2 c =
+    let args = c .before .before .before .before .before .before .before .before .before .args in
     let request = c .before .before .before .before .before .before .before .request in
     let has-waiting-for = c .before .before .before .before .before .has-waiting-for in
     let if1 = c .before .before .before .before .if1 in
     let store-ready = c .before .before .before .store-ready in
     let if2 = c .before .before .if2 in
-    rw (
-      request .given .1,
-      sym (has-waiting-for .ensures)
-          ∙ if1 .left,
-      sym (store-ready .ensures) ∙ if2 .taken,
-    )
+    let none = sym (has-waiting-for .ensures) ∙ if1 .left in
+    wanted-by-store (args .committed) (args .t2) (args .loads) _ _ (request .given .1) none
+    (sym (store-ready .ensures) ∙ if2 .taken)
 
 returns-3 : tie.Need-returns-3
-unfolding requestWanted
-returns-3 c = rw (c .enum-told .given .1)
+returns-3 c =
+    let args = c .before .before .args in
+    wanted-free (args .committed) (args .t2) (args .loads) _ (c .enum-told .given .1)
 
 returns-4 : tie.Need-returns-4
-unfolding requestWanted
 returns-4 c =
+    let args = c .before .before .before .before .before .before .before .args in
     let request = c .before .before .before .before .before .request in
     let has-waiting-for = c .before .before .before .has-waiting-for in
     let if1 = c .before .before .if1 in
     let store-ready = c .before .store-ready in
-    rw (
-      request .given .1,
-      sym (has-waiting-for .ensures) ∙ if1 .left,
-      sym (store-ready .ensures) ∙ c .if2 .left,
-    )
+    let none = sym (has-waiting-for .ensures) ∙ if1 .left in
+    wanted-by-none (args .committed) (args .t2) (args .loads) _ _ (request .given .1) none
+    (sym (store-ready .ensures) ∙ c .if2 .left)
 
 pub request-wanted-spec : {M : Type 1} → statement M
 request-wanted-spec =

@@ -1,7 +1,7 @@
--- `queue_checks::store_ready` meets its contract. By the tests.
+-- `queue_checks::store_ready` meets its contract. By the tests (proofs/Ready).
 use mathlib.Core.Path.{sym, _∙_}
 use borrow.Author.Needs.{needs}
-use Rattle.rules.specs.Calls.{storeReady}
+use Rattle.queue_checks.proofs.Ready.{ready-uncommitted, ready-behind-load, ready-first}
 use Rattle.queue_checks.proofs.store_ready.Statement.{statement}
 use Rattle.queue_checks.proofs.store_ready.Tie as tie
 
@@ -15,32 +15,31 @@ waits-below-requires : tie.Need-waits-below-requires
 waits-below-requires c κs = search needs
 
 returns : tie.Need-returns
-unfolding storeReady
 returns c =
+    let args = c .before .before .before .before .before .args in
     let is-committed-store = c .before .before .before .is-committed-store in
     let if1 = c .before .before .if1 in
     let waits-below = c .before .waits-below in
-    rw (
-      sym (is-committed-store .ensures) ∙ if1 .taken,
-      sym (waits-below .ensures) ∙ c .if2 .taken,
-    )
+    let committed = sym (is-committed-store .ensures) ∙ if1 .taken in
+    ready-behind-load (args .committed) (args .t1) (args .loads) committed
+    (sym (waits-below .ensures) ∙ c .if2 .taken)
 
 returns-2 : tie.Need-returns-2
-unfolding storeReady
 returns-2 c =
+    let args = c .before .before .before .before .before .args in
     let is-committed-store = c .before .before .before .is-committed-store in
     let if1 = c .before .before .if1 in
     let waits-below = c .before .waits-below in
-    rw (
-      sym (is-committed-store .ensures) ∙ if1 .taken,
-      sym (waits-below .ensures) ∙ c .if2 .left,
-    )
+    let committed = sym (is-committed-store .ensures) ∙ if1 .taken in
+    ready-first (args .committed) (args .t1) (args .loads) committed
+    (sym (waits-below .ensures) ∙ c .if2 .left)
 
 returns-3 : tie.Need-returns-3
-unfolding storeReady
 returns-3 c =
+    let args = c .before .before .before .args in
     let is-committed-store = c .before .is-committed-store in
-    rw (sym (is-committed-store .ensures) ∙ c .if1 .left)
+    ready-uncommitted (args .committed) (args .t1) (args .loads)
+    (sym (is-committed-store .ensures) ∙ c .if1 .left)
 
 pub store-ready-spec : {M : Type 1} → statement M
 store-ready-spec =

@@ -5,17 +5,17 @@ use native.Mathlib.Omega.{arith}
 use lib.ListN.{length, drop}
 use borrow.Author.Needs.{needs}
 use Rattle.lists.proofs.Loops.{rise-next, rise-stop, rise-end}
-use Rattle.rules.specs.Shape.{noStore}
+use Rattle.rules.specs.Shape.{storePlaces, noStore}
 use Rattle.queue_checks.specs.Good.{storeGood, storesGood}
 use Rattle.queue_checks.proofs.Good.{stores-free}
 use Rattle.queue_checks.proofs.stores_good.Statement.{statement}
 use Rattle.queue_checks.proofs.stores_good.Tie as tie
 
 abbrev Inv-loop : tie.InvT-loop
-Inv-loop last size stores m₀ i₀ m i = (i ≤ 16) × (storesGood last size 0 stores ≡ storesGood last size m (drop i stores))
+Inv-loop last size stores m₀ i₀ m i = (i ≤ storePlaces) × (storesGood last size 0 stores ≡ storesGood last size m (drop i stores))
 
 abbrev μ-loop : tie.MeasureT-loop
-μ-loop last size stores m₀ i₀ m i = 16 - i
+μ-loop last size stores m₀ i₀ m i = storePlaces - i
 
 loop-holds : tie.Need-loop-holds Inv-loop μ-loop
 loop-holds c = (search needs, refl)
@@ -33,7 +33,7 @@ returns : tie.Need-returns Inv-loop μ-loop
 returns c =
     let args = c .before .before .before .before .before .before .args in
     let loop = c .before .before .before .before .before .loop in
-    let h : length (args .t1) ≡ 16 = search needs in
+    let h : length (args .t1) ≡ storePlaces = search needs in
     c .zero-stores .ensures
     ∙ sym
     (loop .inv .1
@@ -53,7 +53,7 @@ unfolding storesGood
 loop-again c =
     let args = c .before .before .before .before .before .before .before .args in
     let loop = c .before .before .before .before .before .before .loop in
-    let h : length (args .t1) ≡ 16 = search needs in (
+    let h : length (args .t1) ≡ storePlaces = search needs in (
       search needs,
       loop .inv .1
           ∙ rise-next (λ s. s .number) noStore (args .t1) (loop .i) (storeGood (args .last) (args .size)) (loop .m)
@@ -65,7 +65,7 @@ unfolding storesGood
 returns-2 c =
     let args = c .before .before .before .before .before .before .before .args in
     let loop = c .before .before .before .before .before .before .loop in
-    let h : length (args .t1) ≡ 16 = search needs in
+    let h : length (args .t1) ≡ storePlaces = search needs in
     sym
     (loop .inv .1
     ∙ rise-stop (λ s. s .number) noStore (args .t1) (loop .i) (storeGood (args .last) (args .size)) (loop .m)
@@ -76,7 +76,7 @@ unfolding storesGood
 returns-3 c =
     let args = c .before .before .args in
     let loop = c .before .loop in
-    let h : length (args .t1) ≡ 16 = search needs in
+    let h : length (args .t1) ≡ storePlaces = search needs in
     sym
     (loop .inv .1
     ∙ rise-end (λ s. s .number) noStore (args .t1) (loop .i) (storeGood (args .last) (args .size)) (loop .m)

@@ -6,16 +6,16 @@ use lib.ListN.{length, drop}
 use borrow.Author.Needs.{needs}
 use Rattle.lists.specs.Padded.{every}
 use Rattle.lists.proofs.Loops.{every-hit, every-miss, every-end}
-use Rattle.rules.specs.Shape.{noLoad}
+use Rattle.rules.specs.Shape.{loadPlaces, noLoad}
 use Rattle.queue_checks.specs.Good.{zeroLoad}
 use Rattle.queue_checks.proofs.zero_loads.Statement.{statement}
 use Rattle.queue_checks.proofs.zero_loads.Tie as tie
 
 abbrev Inv-loop : tie.InvT-loop
-Inv-loop k loads i₀ i = (i ≤ 8) × (every zeroLoad (drop i₀ loads) ≡ every zeroLoad (drop i loads))
+Inv-loop k loads i₀ i = (i ≤ loadPlaces) × (every zeroLoad (drop i₀ loads) ≡ every zeroLoad (drop i loads))
 
 abbrev μ-loop : tie.MeasureT-loop
-μ-loop k loads i₀ i = 8 - i
+μ-loop k loads i₀ i = loadPlaces - i
 
 loop-holds : tie.Need-loop-holds Inv-loop μ-loop
 loop-holds c = (search needs, refl)
@@ -39,7 +39,7 @@ loop-again : tie.Need-loop-again Inv-loop μ-loop
 loop-again c =
     let args = c .before .before .before .before .before .args in
     let loop = c .before .before .before .before .loop in
-    let h : length (args .t1) ≡ 8 = search needs in (
+    let h : length (args .t1) ≡ loadPlaces = search needs in (
       search needs,
       loop .inv .1
           ∙ every-hit _ noLoad (args .t1) (loop .i) (omega arith)
@@ -50,7 +50,7 @@ returns : tie.Need-returns Inv-loop μ-loop
 returns c =
     let args = c .before .before .before .before .before .args in
     let loop = c .before .before .before .before .loop in
-    let h : length (args .t1) ≡ 8 = search needs in
+    let h : length (args .t1) ≡ loadPlaces = search needs in
     sym
     (loop .inv .1
     ∙ every-miss _ noLoad (args .t1) (loop .i) (omega arith)
@@ -60,7 +60,7 @@ returns-2 : tie.Need-returns-2 Inv-loop μ-loop
 returns-2 c =
     let args = c .before .before .args in
     let loop = c .before .loop in
-    let h : length (args .t1) ≡ 8 = search needs in
+    let h : length (args .t1) ≡ loadPlaces = search needs in
     sym (loop .inv .1 ∙ every-end _ noLoad (args .t1) (loop .i) (omega arith))
 
 pub zero-loads-spec : {M : Type 1} → statement M

@@ -6,16 +6,16 @@ use lib.ListN.{length, drop}
 use borrow.Author.Needs.{needs}
 use Rattle.lists.specs.Padded.{every}
 use Rattle.lists.proofs.Loops.{every-hit, every-miss, every-end}
-use Rattle.rules.specs.Shape.{noStore}
+use Rattle.rules.specs.Shape.{storePlaces, noStore}
 use Rattle.queue_checks.specs.Good.{zeroStore}
 use Rattle.queue_checks.proofs.zero_stores.Statement.{statement}
 use Rattle.queue_checks.proofs.zero_stores.Tie as tie
 
 abbrev Inv-loop : tie.InvT-loop
-Inv-loop k stores i₀ i = (i ≤ 16) × (every zeroStore (drop i₀ stores) ≡ every zeroStore (drop i stores))
+Inv-loop k stores i₀ i = (i ≤ storePlaces) × (every zeroStore (drop i₀ stores) ≡ every zeroStore (drop i stores))
 
 abbrev μ-loop : tie.MeasureT-loop
-μ-loop k stores i₀ i = 16 - i
+μ-loop k stores i₀ i = storePlaces - i
 
 loop-holds : tie.Need-loop-holds Inv-loop μ-loop
 loop-holds c = (search needs, refl)
@@ -39,7 +39,7 @@ loop-again : tie.Need-loop-again Inv-loop μ-loop
 loop-again c =
     let args = c .before .before .before .before .before .args in
     let loop = c .before .before .before .before .loop in
-    let h : length (args .t1) ≡ 16 = search needs in (
+    let h : length (args .t1) ≡ storePlaces = search needs in (
       search needs,
       loop .inv .1
           ∙ every-hit _ noStore (args .t1) (loop .i) (omega arith)
@@ -50,7 +50,7 @@ returns : tie.Need-returns Inv-loop μ-loop
 returns c =
     let args = c .before .before .before .before .before .args in
     let loop = c .before .before .before .before .loop in
-    let h : length (args .t1) ≡ 16 = search needs in
+    let h : length (args .t1) ≡ storePlaces = search needs in
     sym
     (loop .inv .1
     ∙ every-miss _ noStore (args .t1) (loop .i) (omega arith)
@@ -60,7 +60,7 @@ returns-2 : tie.Need-returns-2 Inv-loop μ-loop
 returns-2 c =
     let args = c .before .before .args in
     let loop = c .before .loop in
-    let h : length (args .t1) ≡ 16 = search needs in
+    let h : length (args .t1) ≡ storePlaces = search needs in
     sym (loop .inv .1 ∙ every-end _ noStore (args .t1) (loop .i) (omega arith))
 
 pub zero-stores-spec : {M : Type 1} → statement M

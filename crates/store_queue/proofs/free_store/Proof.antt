@@ -7,15 +7,15 @@ use borrow.Author.Needs.{needs}
 use borrow.Author.Tests.{eq-eqb, ne-eqb}
 use Rattle.lists.specs.Padded.{position}
 use Rattle.lists.proofs.Loops.{position-hit, position-miss, position-end}
-use Rattle.rules.specs.Shape.{noStore, isFreeStore}
+use Rattle.rules.specs.Shape.{storePlaces, noStore, isFreeStore}
 use Rattle.store_queue.proofs.free_store.Statement.{statement}
 use Rattle.store_queue.proofs.free_store.Tie as tie
 
 abbrev Inv-loop : tie.InvT-loop
-Inv-loop stores i₀ i = (i ≤ 16) × (position isFreeStore stores ≡ i + position isFreeStore (drop i stores))
+Inv-loop stores i₀ i = (i ≤ storePlaces) × (position isFreeStore stores ≡ i + position isFreeStore (drop i stores))
 
 abbrev μ-loop : tie.MeasureT-loop
-μ-loop stores i₀ i = 16 - i
+μ-loop stores i₀ i = storePlaces - i
 
 loop-holds : tie.Need-loop-holds Inv-loop μ-loop
 loop-holds c = (search needs, omega arith)
@@ -30,7 +30,7 @@ returns : tie.Need-returns Inv-loop μ-loop
 returns c =
     let args = c .before .before .before .before .before .args in
     let loop = c .before .before .before .before .loop in
-    let h : length (args .t1) ≡ 16 = search needs in
+    let h : length (args .t1) ≡ storePlaces = search needs in
     sym (loop .inv .1 ∙ position-hit _ noStore (args .t1) (loop .i) (omega arith) (eq-eqb _ 0 (c .if1 .taken)))
 
 add-i : tie.Need-add-i Inv-loop μ-loop
@@ -43,7 +43,7 @@ loop-again : tie.Need-loop-again Inv-loop μ-loop
 loop-again c =
     let args = c .before .before .before .before .before .args in
     let loop = c .before .before .before .before .loop in
-    let h : length (args .t1) ≡ 16 = search needs in (
+    let h : length (args .t1) ≡ storePlaces = search needs in (
       search needs,
       loop .inv .1 ∙ position-miss _ noStore (args .t1) (loop .i) (omega arith) (ne-eqb _ 0 (c .if1 .left)),
     )
@@ -52,7 +52,7 @@ returns-2 : tie.Need-returns-2 Inv-loop μ-loop
 returns-2 c =
     let args = c .before .before .args in
     let loop = c .before .loop in
-    let h : length (args .t1) ≡ 16 = search needs in
+    let h : length (args .t1) ≡ storePlaces = search needs in
     sym (loop .inv .1 ∙ position-end _ noStore (args .t1) (loop .i) (omega arith))
 
 pub free-store-spec : {M : Type 1} → statement M

@@ -1,8 +1,9 @@
--- `store_queue::has_free_store` meets its contract. There is a free place where its place is below 16.
+-- `store_queue::has_free_store` meets its contract. There is a free place where its place is below storePlaces.
 use mathlib.Core.Path.{_≡_}
 use lib.ListN.{length}
 use borrow.Author.Needs.{needs}
 use Rattle.lists.proofs.Loops.{found-any}
+use Rattle.rules.specs.Shape.{storePlaces}
 use Rattle.store_queue.proofs.has_free_store.Statement.{statement}
 use Rattle.store_queue.proofs.has_free_store.Tie as tie
 
@@ -12,8 +13,8 @@ free-store-requires c κs = search needs
 returns : tie.Need-returns
 returns c =
     let args = c .before .args in
-    let h : length (args .stores) ≡ 16 = search needs in
-    found-any _ (args .stores) 16 (c .free-store .result) h (c .free-store .ensures)
+    let h : length (args .stores) ≡ storePlaces = search needs in
+    found-any _ (args .stores) storePlaces (c .free-store .result) h (c .free-store .ensures)
 
 pub has-free-store-spec : {M : Type 1} → statement M
 has-free-store-spec = tie.close (tie.spec free-store-requires returns)

@@ -3,6 +3,7 @@ use mathlib.Core.Path.{_≡_}
 use lib.ListN.{length}
 use borrow.Author.Needs.{needs}
 use Rattle.lists.proofs.Loops.{found-placed, none-placed}
+use Rattle.rules.specs.Shape.{storePlaces}
 use Rattle.store_queue.proofs.place_store.Statement.{statement}
 use Rattle.store_queue.proofs.place_store.Tie as tie
 
@@ -18,14 +19,14 @@ array-set-from-next c = search needs
 returns : tie.Need-returns
 returns c =
     let args = c .before .before .args in
-    let h : length (args .stores) ≡ 16 = search needs in
-    found-placed _ (args .stores) 16 (c .before .free-store .result) h (c .before .free-store .ensures) (args .e)
+    let h : length (args .stores) ≡ storePlaces = search needs in
+    found-placed _ (args .stores) storePlaces (c .before .free-store .result) h (c .before .free-store .ensures) (args .e)
 
 returns-2 : tie.Need-returns-2
 returns-2 c =
     let args = c .before .before .args in
-    let h : length (args .stores) ≡ 16 = search needs in
-    none-placed _ (args .stores) 16 (c .before .free-store .result) h (c .before .free-store .ensures) (args .e)
+    let h : length (args .stores) ≡ storePlaces = search needs in
+    none-placed _ (args .stores) storePlaces (c .before .free-store .result) h (c .before .free-store .ensures) (args .e)
     (c .if1 .left)
 
 pub place-store-spec : {M : Type 1} → statement M

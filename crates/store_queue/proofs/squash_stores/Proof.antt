@@ -5,16 +5,16 @@ use native.Mathlib.Omega.{arith}
 use lib.ListN.{length}
 use borrow.Author.Needs.{needs}
 use Rattle.lists.proofs.Loops.{done, done-none, done-step, done-all}
-use Rattle.rules.specs.Shape.{noStore}
+use Rattle.rules.specs.Shape.{storePlaces, noStore}
 use Rattle.rules.specs.Calls.{youngStore}
 use Rattle.store_queue.proofs.squash_stores.Statement.{statement}
 use Rattle.store_queue.proofs.squash_stores.Tie as tie
 
 abbrev Inv-loop : tie.InvT-loop
-Inv-loop n next₀ i₀ next i = (i ≤ 16) × (next ≡ done (youngStore n) (λ s. noStore) i next₀)
+Inv-loop n next₀ i₀ next i = (i ≤ storePlaces) × (next ≡ done (youngStore n) (λ s. noStore) i next₀)
 
 abbrev μ-loop : tie.MeasureT-loop
-μ-loop n next₀ i₀ next i = 16 - i
+μ-loop n next₀ i₀ next i = storePlaces - i
 
 loop-holds : tie.Need-loop-holds Inv-loop μ-loop
 loop-holds c = (search needs, done-none _ _ (c .args .stores))
@@ -44,7 +44,7 @@ loop-again : tie.Need-loop-again Inv-loop μ-loop
 loop-again c =
     let args = c .before .before .before .before .args in
     let loop = c .before .before .before .loop in
-    let h : length (args .stores) ≡ 16 = search needs in (
+    let h : length (args .stores) ≡ storePlaces = search needs in (
       search needs,
       done-step _ _ noStore (loop .i) (args .stores) (loop .next) (c .squash-store .result) (omega arith)
           (loop .inv .1) (c .squash-store .ensures),
@@ -54,7 +54,7 @@ returns : tie.Need-returns Inv-loop μ-loop
 returns c =
     let args = c .before .before .args in
     let loop = c .before .loop in
-    let h : length (args .stores) ≡ 16 = search needs in
+    let h : length (args .stores) ≡ storePlaces = search needs in
     loop .inv .1 ∙ done-all _ _ (loop .i) (args .stores) (omega arith)
 
 pub squash-stores-spec : {M : Type 1} → statement M

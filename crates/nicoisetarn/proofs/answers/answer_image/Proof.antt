@@ -1,7 +1,7 @@
 -- `answers::answer_image` meets its contract: each kind by itself.
 use borrow.Author.Needs.{needs}
 use native.Mathlib.Omega.{arith}
-use Rattle.nicoisetarn.proofs.ShownPart.{part-fits, part-answer_image}
+use Rattle.nicoisetarn.proofs.ShownPart.{part-fits, part-image}
 use Rattle.nicoisetarn.proofs.answers.answer_image.Statement.{statement}
 use Rattle.nicoisetarn.proofs.answers.answer_image.Tie as tie
 
@@ -74,20 +74,17 @@ coded-requires-11 c κs = search needs
 enum-known-a-11 : tie.Need-enum-known-a-11
 enum-known-a-11 c = search needs
 
-part-length-requires : tie.Need-part-length-requires
-part-length-requires c κs = search needs
-
 cast-coded : tie.Need-cast-coded
 cast-coded c =
-    let pre = c .before .before .before .before .before .pre in
-    let a11 = c .before .before .a11 in
-    let p = part-fits _ _ _ _ (a11 .given .1) (pre) in omega (arith, p .0)
+    let pre = c .before .before .before .pre in
+    let a11 = c .before .a11 in
+    let p = part-fits _ _ _ (a11 .given .1) pre in omega (arith, p .0)
 
 cast-coded-2 : tie.Need-cast-coded-2
 cast-coded-2 c =
-    let pre = c .before .before .before .before .before .pre in
-    let a11 = c .before .before .a11 in
-    let p = part-fits _ _ _ _ (a11 .given .1) (pre) in omega (arith, p .1, c .part-length .ensures)
+    let pre = c .before .before .before .pre in
+    let a11 = c .before .a11 in
+    let p = part-fits _ _ _ (a11 .given .1) pre in omega (arith, p .1)
 
 coded-requires-12 : tie.Need-coded-requires-12
 coded-requires-12 c κs = search needs
@@ -149,12 +146,11 @@ returns-11 c =
 
 returns-12 : tie.Need-returns-12
 returns-12 c =
-    let a11 = c .before .before .before .a11 in
-    let part-length = c .before .part-length in
-    part-answer_image _ _ _ _ (a11 .given .1) _ _ (part-length .ensures) (c .coded12 .ensures)
+    let a11 = c .before .before .a11 in
+    part-image _ _ _ (a11 .given .1) _ (c .coded12 .ensures)
 
-pub answer_image-spec : {M : Type 1} → statement M
-answer_image-spec =
+pub answer-image-spec : {M : Type 1} → statement M
+answer-image-spec =
     tie.close
     (tie.spec
     enum-known-a
@@ -180,7 +176,6 @@ answer_image-spec =
     enum-known-a-10
     coded-requires-11
     enum-known-a-11
-    part-length-requires
     cast-coded
     cast-coded-2
     coded-requires-12

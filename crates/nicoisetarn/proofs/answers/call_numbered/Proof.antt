@@ -1,6 +1,7 @@
 -- `answers::call_numbered` meets its contract.
-use borrow.Author.Tests.{ne-eqb}
+use mathlib.Core.Path.{sym}
 use Rattle.nicoisetarn.specs.Answers.{callNumbered}
+use Rattle.nicoisetarn.proofs.CallNumbers.{none-of-nine}
 use Rattle.nicoisetarn.proofs.answers.call_numbered.Statement.{statement}
 use Rattle.nicoisetarn.proofs.answers.call_numbered.Tie as tie
 
@@ -41,8 +42,10 @@ unfolding callNumbered
 returns-9 c = rw (c .match .keys9)
 
 returns-10 : tie.Need-returns-10
-unfolding callNumbered
-returns-10 c = rw (ne-eqb _ 0 (c .match .rest .0 .0 .0 .0 .0 .0 .0 .0 .1), ne-eqb _ 1 (c .match .rest .0 .0 .0 .0 .0 .0 .0 .1), ne-eqb _ 2 (c .match .rest .0 .0 .0 .0 .0 .0 .1), ne-eqb _ 3 (c .match .rest .0 .0 .0 .0 .0 .1), ne-eqb _ 4 (c .match .rest .0 .0 .0 .0 .1), ne-eqb _ 5 (c .match .rest .0 .0 .0 .1), ne-eqb _ 6 (c .match .rest .0 .0 .1), ne-eqb _ 7 (c .match .rest .0 .1), ne-eqb _ 8 (c .match .rest .1))
+returns-10 c =
+    let rest = c .match .rest in
+    sym
+    (none-of-nine _ _ _ _ (rest .0 .0 .0 .0 .0 .0 .0 .0 .1) (rest .0 .0 .0 .0 .0 .0 .0 .1) (rest .0 .0 .0 .0 .0 .0 .1) (rest .0 .0 .0 .0 .0 .1) (rest .0 .0 .0 .0 .1) (rest .0 .0 .0 .1) (rest .0 .0 .1) (rest .0 .1) (rest .1))
 
 pub call-numbered-spec : {M : Type 1} → statement M
 call-numbered-spec =

@@ -42,18 +42,24 @@ loop-less c = search needs
 
 loop-again : tie.Need-loop-again Inv-loop μ-loop
 loop-again c =
-    let long : length (c .before .before .before .before .args .t2) ≡ 256 = search needs in
-    let old : length (c .before .before .before .before .args .old) ≡ 256 = search needs in (
+    let args = c .before .before .before .before .args in
+    let pre = c .before .before .before .before .pre in
+    let loop = c .before .before .before .loop in
+    let long : length (args .t2) ≡ 256 = search needs in
+    let old : length (args .old) ≡ 256 = search needs in (
       search needs,
-      over-step imagedTag noTag (c .before .before .before .loop .i) (c .before .before .before .before .args .t2) (c .before .before .before .before .args .old) (c .before .before .before .loop .out) (c .image-tag .result) (omega (arith, c .before .before .before .before .pre .0)) (omega (arith, c .before .before .before .before .pre .0)) (c .before .before .before .loop .inv .1) (c .image-tag .ensures),
+      over-step imagedTag noTag (loop .i) (args .t2) (args .old) (loop .out) (c .image-tag .result) (omega (arith, pre .0)) (omega (arith, pre .0)) (loop .inv .1) (c .image-tag .ensures),
     )
 
 returns : tie.Need-returns Inv-loop μ-loop
 returns c =
-    let long : length (c .before .before .args .t2) ≡ 256 = search needs in
-    let old : length (c .before .before .args .old) ≡ 256 = search needs in
-    let e : c .before .loop .i ≡ c .before .before .args .n = omega arith in
-    over-all imagedTag 256 (c .before .before .args .n) (c .before .before .args .t2) (c .before .before .args .old) (c .before .loop .out) long old (c .before .before .pre .1) (rw e at (c .before .loop .inv .1))
+    let args = c .before .before .args in
+    let pre = c .before .before .pre in
+    let loop = c .before .loop in
+    let long : length (args .t2) ≡ 256 = search needs in
+    let old : length (args .old) ≡ 256 = search needs in
+    let e : loop .i ≡ args .n = omega arith in
+    over-all imagedTag 256 (args .n) (args .t2) (args .old) (loop .out) long old (pre .1) (rw e at (loop .inv .1))
 
 pub image-tags-spec : {M : Type 1} → statement M
 image-tags-spec =

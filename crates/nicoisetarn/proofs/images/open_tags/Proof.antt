@@ -43,16 +43,22 @@ loop-less c = search needs
 
 loop-again : tie.Need-loop-again Inv-loop μ-loop
 loop-again c =
-    let long : length (c .before .before .before .before .args .t1) ≡ 256 = search needs in (
+    let args = c .before .before .before .before .args in
+    let pre = c .before .before .before .before .pre in
+    let loop = c .before .before .before .loop in
+    let long : length (args .t1) ≡ 256 = search needs in (
       search needs,
-      made-step openedTag noTag noTagImage (c .before .before .before .loop .i) 256 (c .before .before .before .before .args .t1) (c .before .before .before .loop .out) (c .open-tag .result) long (omega (arith, c .before .before .before .before .pre .0)) (c .before .before .before .loop .inv .1) (c .open-tag .ensures),
+      made-step openedTag noTag noTagImage (loop .i) 256 (args .t1) (loop .out) (c .open-tag .result) long (omega (arith, pre .0)) (loop .inv .1) (c .open-tag .ensures),
     )
 
 returns : tie.Need-returns Inv-loop μ-loop
 returns c =
-    let long : length (c .before .before .args .t1) ≡ 256 = search needs in
-    let e : c .before .loop .i ≡ c .before .before .args .n = omega arith in
-    made-most openedTag noTag (c .before .before .args .n) 256 (c .before .before .args .t1) (c .before .loop .out) long (rest-opened (c .before .before .args .n) (c .before .before .args .t1) long (c .before .before .pre)) (rw e at (c .before .loop .inv .1))
+    let args = c .before .before .args in
+    let pre = c .before .before .pre in
+    let loop = c .before .loop in
+    let long : length (args .t1) ≡ 256 = search needs in
+    let e : loop .i ≡ args .n = omega arith in
+    made-most openedTag noTag (args .n) 256 (args .t1) (loop .out) long (rest-opened (args .n) (args .t1) long (pre)) (rw e at (loop .inv .1))
 
 pub open-tags-spec : {M : Type 1} → statement M
 open-tags-spec =

@@ -1,6 +1,6 @@
 -- `images::opened` meets its contract.
 use borrow.Author.Needs.{needs}
-use Rattle.nicoisetarn.specs.Images.{openedOf}
+use Rattle.nicoisetarn.specs.Images.{figuresOf, openedOf}
 use Rattle.nicoisetarn.proofs.images.opened.Statement.{statement}
 use Rattle.nicoisetarn.proofs.images.opened.Tie as tie
 
@@ -25,7 +25,17 @@ returns c =
     let open-request = c .before .before .before .open-request in
     let open-stores = c .before .before .open-stores in
     let open-loads = c .before .open-loads in
-    let i = args .image in λ j. record { sets = i .sets; ways = i .ways; size = i .size; last = i .last; committed = i .committed; request = open-request .ensures j; stores = open-stores .ensures j; loads = open-loads .ensures j; tags = c .open-tags .ensures j }
+    let i = args .image in
+    λ j. record {
+      figures = figuresOf i;
+      size = i .size;
+      last = i .last;
+      committed = i .committed;
+      request = open-request .ensures j;
+      stores = open-stores .ensures j;
+      loads = open-loads .ensures j;
+      tags = c .open-tags .ensures j;
+    }
 
 pub opened-spec : {M : Type 1} → statement M
 opened-spec =

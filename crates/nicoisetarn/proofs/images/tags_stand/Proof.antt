@@ -37,19 +37,30 @@ loop-less c = search needs
 
 loop-again : tie.Need-loop-again Inv-loop μ-loop
 loop-again c =
-    let long : length (c .before .before .before .before .before .args .t1) ≡ 256 = search needs in
-    (search needs, c .before .before .before .before .loop .inv .1 ∙ every-hit tagStands noTagImage (c .before .before .before .before .before .args .t1) (c .before .before .before .before .loop .i) (omega (arith, c .before .before .before .before .before .pre .0)) (sym (c .before .tag-stands .ensures) ∙ c .if1 .taken))
+    let args = c .before .before .before .before .before .args in
+    let pre = c .before .before .before .before .before .pre in
+    let loop = c .before .before .before .before .loop in
+    let tag-stands = c .before .tag-stands in
+    let long : length (args .t1) ≡ 256 = search needs in
+    (search needs, loop .inv .1 ∙ every-hit tagStands noTagImage (args .t1) (loop .i) (omega (arith, pre .0)) (sym (tag-stands .ensures) ∙ c .if1 .taken))
 
 returns : tie.Need-returns Inv-loop μ-loop
 returns c =
-    let long : length (c .before .before .before .before .before .args .t1) ≡ 256 = search needs in
-    sym (c .before .before .before .before .loop .inv .1 ∙ every-miss tagStands noTagImage (c .before .before .before .before .before .args .t1) (c .before .before .before .before .loop .i) (omega (arith, c .before .before .before .before .before .pre .0)) (sym (c .before .tag-stands .ensures) ∙ c .if1 .left))
+    let args = c .before .before .before .before .before .args in
+    let pre = c .before .before .before .before .before .pre in
+    let loop = c .before .before .before .before .loop in
+    let tag-stands = c .before .tag-stands in
+    let long : length (args .t1) ≡ 256 = search needs in
+    sym (loop .inv .1 ∙ every-miss tagStands noTagImage (args .t1) (loop .i) (omega (arith, pre .0)) (sym (tag-stands .ensures) ∙ c .if1 .left))
 
 returns-2 : tie.Need-returns-2 Inv-loop μ-loop
 returns-2 c =
-    let long : length (c .before .before .args .t1) ≡ 256 = search needs in
-    let e : c .before .loop .i ≡ c .before .before .args .n = omega arith in
-    sym ((rw e at (c .before .loop .inv .1)) ∙ rest-stands (c .before .before .args .n) (c .before .before .args .t1) long (c .before .before .pre))
+    let args = c .before .before .args in
+    let pre = c .before .before .pre in
+    let loop = c .before .loop in
+    let long : length (args .t1) ≡ 256 = search needs in
+    let e : loop .i ≡ args .n = omega arith in
+    sym ((rw e at (loop .inv .1)) ∙ rest-stands (args .n) (args .t1) long (pre))
 
 pub tags-stand-spec : {M : Type 1} → statement M
 tags-stand-spec =

@@ -1,7 +1,7 @@
 -- `steps::step_image` meets its contract: the image stands for a state, or for none, or the number for no call.
 use borrow.Author.Needs.{needs}
 use mathlib.Core.Path.{refl, sym, _∙_}
-use Rattle.nicoisetarn.proofs.Outcomes.{known-stepped, unknown-stepped}
+use Rattle.nicoisetarn.proofs.Outcomes.{image-refused, known-stepped, unknown-stepped}
 use Rattle.nicoisetarn.proofs.steps.step_image.Statement.{statement}
 use Rattle.nicoisetarn.proofs.steps.step_image.Tie as tie
 
@@ -37,12 +37,11 @@ returns c =
     let step-state = c .before .before .before .before .step-state in
     known-stepped _ _ _ _ _ _ _ _ (call-numbered .ensures) _ (numbered .given .1) _ (step-state .ensures)
 
-refuse-image-requires : tie.Need-refuse-image-requires
-refuse-image-requires c κs =
-    let used-records = c .before .before .before .before .used-records in
-    let stands = c .before .before .before .stands in
-    let if1 = c .before .before .if1 in
-    (sym (stands .ensures) ∙ if1 .left, used-records .ensures)
+image-refusal-requires : tie.Need-image-refusal-requires
+image-refusal-requires c κs = search needs
+
+refused-with-requires : tie.Need-refused-with-requires
+refused-with-requires c κs = search needs
 
 enum-told : tie.Need-enum-told
 enum-told c = search needs
@@ -58,10 +57,13 @@ same-length-4 c = search needs
 
 returns-2 : tie.Need-returns-2
 returns-2 c =
-    let call-numbered = c .before .before .before .before .before .before .before .before .before .before .before .before .before .call-numbered in
-    let numbered = c .before .before .before .before .before .before .before .before .before .before .before .numbered in
-    let refuse-image = c .before .before .before .before .refuse-image in
-    known-stepped _ _ _ _ _ _ _ _ (call-numbered .ensures) _ (numbered .given .1) _ (refuse-image .ensures)
+    let call-numbered = c .before .before .before .before .before .before .before .before .before .before .call-numbered in
+    let numbered = c .before .before .before .before .before .before .before .before .numbered in
+    let stands = c .before .before .before .before .before .stands in
+    let if1 = c .before .before .before .before .if1 in
+    let image-refusal = c .before .image-refusal in
+    known-stepped _ _ _ _ _ _ _ _ (call-numbered .ensures) _ (numbered .given .1) _
+    (image-refused _ _ _ _ (sym (stands .ensures) ∙ if1 .left) _ (image-refusal .ensures) _ (c .refused-with .ensures) refl)
 
 returns-3 : tie.Need-returns-3
 returns-3 c =
@@ -81,7 +83,8 @@ step-image-spec =
     same-length
     same-length-2
     returns
-    refuse-image-requires
+    image-refusal-requires
+    refused-with-requires
     enum-told
     coded-requires
     same-length-3

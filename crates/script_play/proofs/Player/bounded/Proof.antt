@@ -1,6 +1,7 @@
 -- `bounded` meets its contract.
 use Rattle.script_play.specs.Player.{runOf}
 use lib.ListN.{length}
+use Rattle.script.specs.Commands.{heldBytes}
 use Prim.Native.Nat.{ℕ}
 use mathlib.Core.List.{List}
 use mathlib.Core.Path.{_≡_, ap}
@@ -12,7 +13,11 @@ use Rattle.script_play.proofs.Player.bounded.Statement.{statement}
 use Rattle.script_play.proofs.Player.bounded.Tie as tie
 
 returns : tie.Need-returns
-returns c = let l : length (c .before .before .before .before .args .self .line) ≡ 65 = search (needs, length-of) in (omega arith, λ cache memory. ap (λ (x : List ℕ). record { run = runOf (c .before .before .before .before .args .self .started) (c .before .before .before .before .args .self .state) cache memory; line = x }) (held-same (c .before .before .before .before .args .self .line) (c .before .before .before .before .args .self .length) l (c .if1 .taken)))
+returns c =
+    let l : length (c .before .before .before .before .args .self .line) ≡ heldBytes = search (needs, length-of) in
+    let p = c .before .before .before .before .args .self in
+    let same = held-same (p .line) (p .length) l (c .if1 .taken) in
+    (omega arith, λ cache memory. ap (λ (x : List ℕ). record { run = runOf (p .started) (p .state) cache memory; line = x }) same)
 
 returns-2 : tie.Need-returns-2
 returns-2 c = search needs

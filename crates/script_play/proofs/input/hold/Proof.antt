@@ -2,9 +2,9 @@
 use Rattle.script_text.proofs.Writing.{word-more}
 use lib.Seq.{sets, getD-drop}
 use lib.ListN.{length, take, drop, set, getD, length-drop}
-use Prim.Native.Nat.{ℕ}
 use mathlib.Core.List.{List}
-use Prim.Native.Nat.{_+_, _-_, _≤_}
+use Prim.Native.Nat.{ℕ, _+_, _-_, _≤_}
+use Rattle.script.specs.Commands.{heldBytes}
 use mathlib.Core.Path.{_≡_, refl, _∙_, ap}
 use native.Mathlib.Omega.{arith}
 use Rattle.script_play.proofs.InputPlays.{room-bounds, held-all}
@@ -67,7 +67,11 @@ loop-again c =
     let pre = c .before .before .before .before .before .pre in
     let room-for = c .before .before .before .room-for in
     let loop = c .before .before .loop in
-    (omega arith, ap (λ (l : List ℕ). set l (args .held + loop .i) (getD (args .input .now) (args .from + loop .i) 0)) (loop .inv .1) ∙ rw (← getD-drop (args .from) (args .input .now) (loop .i) 0) (word-more (drop (args .from) (args .input .now)) _ (args .held) (loop .i) (omega (arith, room-bounds (args .held) (args .end - args .from) (room-for .result) (pre .0) (room-for .ensures) .0, length-drop (args .from) (args .input .now)))))
+    let input = args .input .now in
+    let i = loop .i in
+    let bounds = room-bounds (args .held) (args .end - args .from) (room-for .result) (pre .0) (room-for .ensures) in
+    let more = word-more (drop (args .from) input) _ (args .held) i (omega (arith, bounds .0, length-drop (args .from) input)) in
+    (omega arith, ap (λ (l : List ℕ). set l (args .held + i) (getD input (args .from + i) 0)) (loop .inv .1) ∙ rw (← getD-drop (args .from) input i 0) more)
 
 add-t9 : tie.Need-add-t9 Inv-loop μ-loop
 add-t9 c =
@@ -78,12 +82,23 @@ add-t9 c =
 
 returns : tie.Need-returns Inv-loop μ-loop
 returns c =
-    let len : length (c .before .before .before .before .args .line) ≡ 65 = search needs in
-    let last : c .before .loop .i ≡ c .before .before .room-for .result = omega arith in (
-      ap (take (c .before .before .before .before .args .held + c .before .before .room-for .result)) (c .before .loop .inv .1 ∙ ap (λ (k : ℕ). sets (c .before .before .before .before .args .line) (c .before .before .before .before .args .held) (take k (drop (c .before .before .before .before .args .from) (c .before .before .before .before .args .input .now)))) last)
-          ∙ held-all (c .before .before .before .before .args .held) (c .before .before .before .before .args .end - c .before .before .before .before .args .from) (c .before .before .room-for .result) (c .before .before .before .before .pre .0) (c .before .before .room-for .ensures) (c .before .before .before .before .args .line) (drop (c .before .before .before .before .args .from) (c .before .before .before .before .args .input .now)) len (omega (arith, length-drop (c .before .before .before .before .args .from) (c .before .before .before .before .args .input .now))),
-      room-bounds (c .before .before .before .before .args .held) (c .before .before .before .before .args .end - c .before .before .before .before .args .from) (c .before .before .room-for .result) (c .before .before .before .before .pre .0) (c .before .before .room-for .ensures) .1,
-    )
+    let len : length (c .before .before .before .before .args .line) ≡ heldBytes = search needs in
+    let args = c .before .before .before .before .args in
+    let pre = c .before .before .before .before .pre in
+    let room-for = c .before .before .room-for in
+    let loop = c .before .loop in
+    let line = args .line in
+    let rest = drop (args .from) (args .input .now) in
+    let n = room-for .result in
+    let d = args .end - args .from in
+    let last : loop .i ≡ n = omega arith in
+    let written : loop .bytes ≡ sets line (args .held) (take n rest) =
+    loop .inv .1 ∙ ap (λ (k : ℕ). sets line (args .held) (take k rest)) last in
+    let long : d ≤ length rest = omega (arith, length-drop (args .from) (args .input .now)) in
+    record {
+      bytes = ap (take (args .held + n)) written ∙ held-all (args .held) d n (pre .0) (room-for .ensures) line rest len long;
+      short = room-bounds (args .held) d n (pre .0) (room-for .ensures) .1;
+    }
 
 pub hold-spec : {M : Type 1} → statement M
 hold-spec =

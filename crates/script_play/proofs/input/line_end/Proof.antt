@@ -1,4 +1,5 @@
 -- `line_end` meets its contract.
+use Rattle.script.specs.Commands.{lineFeed}
 use Rattle.script_play.specs.Player.{isFeed}
 use Rattle.lists.specs.Padded.{position}
 use borrow.Author.Tests.{eq-eqb, ne-eqb}
@@ -27,7 +28,7 @@ returns c =
     let args = c .before .before .before .before .args in
     let loop = c .before .before .before .loop in
     let loop-test = c .before .before .loop-test in
-    sym (loop .inv ∙ position-hit isFeed 0 (args .input .now) (loop .i) (loop-test .taken) (eq-eqb _ 10 (c .if1 .taken)))
+    sym (loop .inv ∙ position-hit isFeed 0 (args .input .now) (loop .i) (loop-test .taken) (eq-eqb _ lineFeed (c .if1 .taken)))
 
 add-i : tie.Need-add-i Inv-loop μ-loop
 add-i c = search needs
@@ -40,7 +41,7 @@ loop-again c =
     let args = c .before .before .before .before .args in
     let loop = c .before .before .before .loop in
     let loop-test = c .before .before .loop-test in
-    loop .inv ∙ position-miss isFeed 0 (args .input .now) (loop .i) (loop-test .taken) (ne-eqb _ 10 (c .if1 .left))
+    loop .inv ∙ position-miss isFeed 0 (args .input .now) (loop .i) (loop-test .taken) (ne-eqb _ lineFeed (c .if1 .left))
 
 returns-2 : tie.Need-returns-2 Inv-loop μ-loop
 returns-2 c =

@@ -2,24 +2,34 @@
 use Rattle.model.proofs.Facts.{length-of}
 use lib.Seq.{take-all, length-take-le}
 use Rattle.script_play.proofs.InputPlays.{plays-none, plays-on}
-use Rattle.script_play.specs.Player.{playerOf, lentOf, Plays}
-use lib.ListN.{length, take, drop}
+use Rattle.script_play.specs.Player.{playerAt, Plays}
+use lib.ListN.{length, take}
+use Rattle.script.specs.Commands.{heldBytes}
+use Rattle.script_text.specs.Written.{lineRoom}
 use native.Mathlib.Omega.{arith}
 use mathlib.Core.List.{List}
 use Prim.Native.Nat.{ℕ, _*_, _-_, _≤_}
-use mathlib.Core.Path.{_≡_, refl, sym, _∙_, ap, subst}
+use mathlib.Core.Path.{_≡_, refl, _∙_, subst}
 use borrow.Author.Needs.{needs}
 use Rattle.script_play.proofs.input.play_lines.Statement.{statement}
 use Rattle.script_play.proofs.input.play_lines.Tie as tie
 
 abbrev Inv-loop : tie.InvT-loop
-Inv-loop input cache₀ memory₀ out₀ p₀ i₀ at₀ cache memory out p i at = (i ≤ length input) × (at ≤ 32 * i) × (p .length ≤ 65) × (length cache ≡ length cache₀) × (length memory ≡ length memory₀) × (length out ≡ length out₀) × Plays (take i input) (playerOf p₀ cache₀ memory₀) (lentOf cache₀ memory₀) out₀ 0 (playerOf p cache memory) (lentOf cache memory) out at
+Inv-loop input cache₀ memory₀ out₀ p₀ i₀ at₀ cache memory out p i at =
+    (i ≤ length input) × (at ≤ lineRoom * i) × (p .length ≤ heldBytes)
+    × (length cache ≡ length cache₀) × (length memory ≡ length memory₀) × (length out ≡ length out₀)
+    × Plays (take i input) (playerAt p₀ cache₀ memory₀ out₀ 0) (playerAt p cache memory out at)
 
 abbrev μ-loop : tie.MeasureT-loop
 μ-loop input cache₀ memory₀ out₀ p₀ i₀ at₀ cache memory out p i at = length input - i
 
 loop-holds : tie.Need-loop-holds Inv-loop μ-loop
-loop-holds c = let l : length (c .before .before .before .before .args .player .line) ≡ 65 = search (needs, length-of) in (omega arith, omega arith, c .before .before .before .before .pre .0, refl, refl, refl, plays-none _ _ _ _ (omega (arith, length-take-le (c .before .before .before .before .args .player .length) (c .before .before .before .before .args .player .line) (omega (arith, c .before .before .before .before .pre .0)), c .before .before .before .before .pre .0)))
+loop-holds c =
+    let l : length (c .before .before .before .before .args .player .line) ≡ heldBytes = search (needs, length-of) in
+    let args = c .before .before .before .before .args in
+    let pre = c .before .before .before .before .pre in
+    let short = length-take-le (args .player .length) (args .player .line) (omega (arith, pre .0)) in
+    (omega arith, omega arith, pre .0, refl, refl, refl, plays-none _ (omega (arith, short, pre .0)))
 
 play-line-requires : tie.Need-play-line-requires Inv-loop μ-loop
 play-line-requires c κs = search needs
@@ -54,8 +64,11 @@ returns : tie.Need-returns Inv-loop μ-loop
 returns c =
     let args = c .before .before .before .before .before .before .args in
     let loop = c .before .loop in
-    let e : loop .i ≡ length (args .input .now) = omega arith in
-    (e, subst (λ (xs : List ℕ). Plays xs (playerOf (args .player) (args .cache .now) (args .memory .now)) (lentOf (args .cache .now) (args .memory .now)) (args .out .now) 0 (playerOf (loop .p) (loop .cache) (loop .memory)) (lentOf (loop .cache) (loop .memory)) (loop .out) (loop .at)) (take-all (loop .i) (args .input .now) (omega arith)) (loop .inv .6))
+    let input = args .input .now in
+    let all : loop .i ≡ length input = omega arith in
+    let before = playerAt (args .player) (args .cache .now) (args .memory .now) (args .out .now) 0 in
+    let after = playerAt (loop .p) (loop .cache) (loop .memory) (loop .out) (loop .at) in
+    (all, subst (λ (xs : List ℕ). Plays xs before after) (take-all (loop .i) input (omega arith)) (loop .inv .6))
 
 pub play-lines-spec : {M : Type 1} → statement M
 play-lines-spec =

@@ -1,4 +1,6 @@
 -- `play_call` meets its contract.
+use Prim.Native.Nat.{_≤_}
+use lib.ListN.{length}
 use lib.Seq.{length-take-le}
 use mathlib.Core.Path.{sym, _∙_}
 use native.Mathlib.Omega.{arith}
@@ -17,19 +19,13 @@ slice-relend-prefix-step : tie.Need-slice-relend-prefix-step
 slice-relend-prefix-step c = search needs
 
 slice-aggregate-step : tie.Need-slice-aggregate-step
-slice-aggregate-step c =
-    let args = c .before .before .before .before .before .before .args in
-    let cache-used = c .before .before .cache-used in
-    sym (length-take-le (cache-used .result) (args .cache .now) (omega arith))
+slice-aggregate-step c = sym (length-take-le _ _ (search needs))
 
 slice-relend-prefix-step-2 : tie.Need-slice-relend-prefix-step-2
 slice-relend-prefix-step-2 c = search needs
 
 slice-aggregate-step-2 : tie.Need-slice-aggregate-step-2
-slice-aggregate-step-2 c =
-    let args = c .before .before .before .before .before .before .before .args in
-    let memory-used = c .before .before .memory-used in
-    sym (length-take-le (memory-used .result) (args .memory .now) (omega arith))
+slice-aggregate-step-2 c = sym (length-take-le _ _ (search needs))
 
 step-requires : tie.Need-step-requires
 step-requires c κs = search needs
@@ -48,12 +44,20 @@ same-length-3 c = search needs
 
 returns : tie.Need-returns
 returns c =
-    let args = c .before .before .before .before .before .before .before .before .before .before .before .before .before .before .before .before .before .args in
+    let args = c .before .before .before .before .before .before .before .before .before .before .before .before .before .before .before .before .before .before .args in
+    let pre = c .before .before .before .before .before .before .before .before .before .before .before .before .before .before .before .before .before .before .pre in
     let cache-used = c .before .before .before .before .before .before .before .before .before .before .before .before .before .cache-used in
     let memory-used = c .before .before .before .before .before .before .before .before .before .before .before .before .memory-used in
     let step = c .before .before .before .before .before .before .before .before .before .step in
     let write-answer = c .before .before .write-answer in
-    called (args .state) (args .call) (args .cache .now) (args .memory .now) (args .out .now) (args .at) (cache-used .result) (memory-used .result) (step .result) _ _ _ _ (cache-used .ensures .0) (memory-used .ensures .0) (step .ensures) (step .kept .1 .1 .0 ∙ length-take-le (cache-used .result) (args .cache .now) (omega arith)) (step .kept .1 .1 .1 .0 ∙ length-take-le (memory-used .result) (args .memory .now) (omega arith)) (omega arith) (omega arith) (omega arith) (write-answer .ensures)
+    let cache = args .cache .now in
+    let memory = args .memory .now in
+    let cfit : cache-used .result ≤ length cache = omega (arith, cache-used .ensures .1, pre .0) in
+    let mfit : memory-used .result ≤ length memory = omega (arith, memory-used .ensures .1, pre .1) in
+    called (args .state) (args .call) cache memory (args .out .now) (args .at) (cache-used .result) (memory-used .result)
+    (step .result) _ _ _ _ (cache-used .ensures .0) (memory-used .ensures .0) (step .ensures)
+    (step .kept .1 .1 .0 ∙ length-take-le (cache-used .result) cache cfit)
+    (step .kept .1 .1 .1 .0 ∙ length-take-le (memory-used .result) memory mfit) cfit mfit (pre .2) (write-answer .ensures)
 
 pub play-call-spec : {M : Type 1} → statement M
 play-call-spec =

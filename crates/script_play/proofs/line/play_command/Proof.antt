@@ -1,5 +1,6 @@
 -- `play_command` meets its contract.
 use Rattle.script_text.specs.Reader.{askedOf}
+use Rattle.script.specs.Play.{malformedLine}
 use mathlib.Core.Path.{ap}
 use Rattle.script_play.proofs.LinePlays.{stays, malformed, not-begun}
 use borrow.Author.Needs.{needs}
@@ -36,7 +37,12 @@ returns c =
     let pre = c .before .before .before .before .before .before .before .before .before .pre in
     let enum-told = c .before .before .before .before .enum-told in
     let play-refused = c .before .before .play-refused in
-    stays (askedOf (args .command)) (args .started) (args .state) (args .cache .now) (args .memory .now) (args .out .now) _ (args .at) _ 6 (pre .0) (pre .1) (play-refused .result) (play-refused .ensures .0) (malformed (askedOf (args .command)) (args .started) (args .state) (args .cache .now) (args .memory .now) (args .out .now) (args .out .now) (args .at) 0 6 (pre .0) (pre .1) (ap askedOf (enum-told .given .1))) (play-refused .ensures .1)
+    let asked = askedOf (args .command) in
+    let cache = args .cache .now in
+    let memory = args .memory .now in
+    let refused = malformed asked (args .started) (args .state) cache memory (args .out .now) (args .at) (pre .0) (pre .1) (ap askedOf (enum-told .given .1)) in
+    stays asked (args .started) (args .state) cache memory (args .out .now) (args .at) (pre .0) (pre .1) malformedLine _ (play-refused .result)
+    (play-refused .ensures .0) refused (play-refused .ensures .1)
 
 same-length-2 : tie.Need-same-length-2
 same-length-2 c = search needs
@@ -79,7 +85,12 @@ returns-4 c =
     let command2 = c .before .before .before .before .before .before .command2 in
     let if1 = c .before .before .before .before .if1 in
     let play-refused2 = c .before .before .play-refused2 in
-    stays (askedOf (args .command)) (args .started) (args .state) (args .cache .now) (args .memory .now) (args .out .now) _ (args .at) _ 6 (pre .0) (pre .1) (play-refused2 .result) (play-refused2 .ensures .0) (not-begun (askedOf (args .command)) (args .started) (args .state) (args .cache .now) (args .memory .now) (args .out .now) (args .out .now) (args .at) 0 6 (pre .0) (pre .1) _ (ap askedOf (command2 .given .1)) (if1 .left)) (play-refused2 .ensures .1)
+    let asked = askedOf (args .command) in
+    let cache = args .cache .now in
+    let memory = args .memory .now in
+    let refused = not-begun asked (args .started) (args .state) cache memory (args .out .now) (args .at) (pre .0) (pre .1) _ (ap askedOf (command2 .given .1)) (if1 .left) in
+    stays asked (args .started) (args .state) cache memory (args .out .now) (args .at) (pre .0) (pre .1) malformedLine _ (play-refused2 .result)
+    (play-refused2 .ensures .0) refused (play-refused2 .ensures .1)
 
 pub play-command-spec : {M : Type 1} → statement M
 play-command-spec =

@@ -21,11 +21,16 @@ cast-v-2 c = search needs
 add-v : tie.Need-add-v
 add-v c = search needs
 
+cast-if1 : tie.Need-cast-if1
+cast-if1 c = search needs
+
 cast-t9 : tie.Need-cast-t9
 cast-t9 c = search needs
 
 returns : tie.Need-returns
-returns c = digit-fits _ _ _ refl (c .if1 .taken)
+returns c =
+    let args = c .before .before .args in
+    digit-fits (args .s) (args .b) _ refl (omega (arith, c .if1 .taken))
 
 spoil-requires : tie.Need-spoil-requires
 spoil-requires c κs = search needs
@@ -37,4 +42,4 @@ returns-2 c =
 
 pub read-digit-spec : {M : Type 1} → statement M
 read-digit-spec =
-    tie.close (tie.spec cast-v mul-v sub-v cast-v-2 add-v cast-t9 returns spoil-requires returns-2)
+    tie.close (tie.spec cast-v mul-v sub-v cast-v-2 add-v cast-if1 cast-t9 returns spoil-requires returns-2)

@@ -1,5 +1,5 @@
 -- `scan_from` meets its contract.
-use Prim.Native.Nat.{_≤_, _-_}
+use Prim.Native.Nat.{_-_}
 use Rattle.script_text.specs.Reader.{scanned}
 use lib.ListN.{length, drop}
 use Prim.Native.Nat.{_-_}

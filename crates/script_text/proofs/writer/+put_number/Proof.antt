@@ -1,8 +1,8 @@
 -- `put_number` meets its contract: the number falls at each call. All digits but the last are written first.
 use borrow.Author.Needs.{needs}
-use mathlib.Core.Path.{_≡_, ap}
+use mathlib.Core.Path.{ap}
 use native.Mathlib.Omega.{arith}
-use lib.ListN.{length, length-append}
+use lib.ListN.{length}
 use Rattle.script_text.proofs.Writing.{printed-one, printed-more, printed-longer, wrote-then}
 use Prim.Native.Nat.{ℕ, _^_, _<_}
 use borrow.Fn.Kinds.{In}
@@ -99,7 +99,10 @@ put-number-put-byte-requires-2 : (t : ℕ) → put-number-lts.Need-put-byte-requ
 ) (put-number-at t) put-number.Post
 put-number-put-byte-requires-2 t c κs =
     let h : c .before .before .before .before .before .before .before .args .n < 2 ^ 32 = omega arith in
-    omega (arith, printed-longer (c .before .before .before .before .before .before .before .args .n) (c .before .before .before .before .before .if1 .left) h, c .before .before .before .put-number .ensures .next, c .before .before .before .put-number .kept .0)
+    let args = c .before .before .before .before .before .before .before .args in
+    let if1 = c .before .before .before .before .before .if1 in
+    let put-number = c .before .before .before .put-number in
+    omega (arith, printed-longer (args .n) (if1 .left) h, put-number .ensures .next, put-number .kept .0)
 
 put-number-same-length-2 : (t : ℕ) → put-number-lts.Need-same-length-2 (
   put-byte-reads.Asked,
@@ -117,7 +120,11 @@ put-number-returns-2 : (t : ℕ) → put-number-lts.Need-returns-2 (
 ) (put-number-at t) put-number.Post
 put-number-returns-2 t c =
     let h : c .before .before .before .before .before .before .before .before .before .before .args .n < 2 ^ 32 = omega arith in
-    rw (← printed-more (c .before .before .before .before .before .before .before .before .before .before .args .n) (c .before .before .before .before .before .before .before .before .if1 .left) h) (wrote-then (c .before .before .before .before .before .before .put-number .ensures) (c .before .before .put-byte2 .ensures))
+    let args = c .before .before .before .before .before .before .before .before .before .before .args in
+    let if1 = c .before .before .before .before .before .before .before .before .if1 in
+    let put-number = c .before .before .before .before .before .before .put-number in
+    let put-byte2 = c .before .before .put-byte2 in
+    rw (← printed-more (args .n) (if1 .left) h) (wrote-then (put-number .ensures) (put-byte2 .ensures))
 
 pub +put-number-spec : {M : Type 1} → statement M
 +put-number-spec = close μ-put-number λ t. put-number-lts.spec (

@@ -36,7 +36,14 @@ loop-less : tie.Need-loop-less Inv-loop μ-loop
 loop-less c = search needs
 
 loop-again : tie.Need-loop-again Inv-loop μ-loop
-loop-again c = (search needs, simp length-set (c .before .before .loop .inv .1), ap (λ (l : List ℕ). set l (c .before .before .before .args .at + c .before .before .loop .i) (getD (c .before .before .before .args .word .now) (c .before .before .loop .i) 0)) (c .before .before .loop .inv .2) ∙ word-more (c .before .before .before .args .word .now) _ (c .before .before .before .args .at) (c .before .before .loop .i) (c .before .loop-test .taken))
+loop-again c =
+    let args = c .before .before .before .args in
+    let loop = c .before .before .loop in
+    let test = c .before .loop-test in
+    let word = args .word .now in
+    let i = loop .i in
+    let copied = ap (λ (l : List ℕ). set l (args .at + i) (getD word i 0)) (loop .inv .2) in
+    (omega (arith, test .taken), simp length-set (loop .inv .1), copied ∙ word-more word _ (args .at) i (test .taken))
 
 add-result : tie.Need-add-result Inv-loop μ-loop
 add-result c = search needs

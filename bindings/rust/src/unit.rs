@@ -1,0 +1,136 @@
+//! The unit with all that it works on: its image, cache and memory.
+
+use crate::answers::{Answer, Refusal};
+use crate::calls::{Call, Part};
+use crate::image::{Figures, Image, LINE, MAX_SETS, MAX_WAYS};
+
+/// A load/store unit that owns its state, its cache and its memory.
+///
+/// A refused call has changed nothing, byte for byte. After a start no call is
+/// refused by 1 or 10.
+#[derive(Clone, Debug, PartialEq, Eq, Hash)]
+pub struct Unit {
+    image: Image,
+    cache: Vec<u8>,
+    memory: Vec<u8>,
+}
+
+impl Unit {
+    /// Start over a memory, which stays as found: both queues empty, no line
+    /// present, last and committed number 0.
+    ///
+    /// Refused by 1 alone: sets is not 1, 2, 4, 8, 16, 32 or 64, ways is not 1 to 4,
+    /// or the memory is no multiple of 16 bytes from 16 to 65,536.
+    pub fn start(figures: Figures, memory: Vec<u8>) -> Result<Unit, Refusal> {
+        // Figures that are not allowed are refused whatever the cache is.
+        let (sets, ways) = (figures.sets.min(MAX_SETS), figures.ways.min(MAX_WAYS));
+        let mut cache = vec![0; sets as usize * ways as usize * LINE];
+        let image = Image::start(figures, &mut cache, &memory)?;
+        Ok(Unit { image, cache, memory })
+    }
+
+    /// A unit put together again, from [`Unit::into_parts`] or any other bytes:
+    /// where they do not go together every call is refused, by 1 or 10.
+    pub fn from_parts(image: Image, cache: Vec<u8>, memory: Vec<u8>) -> Unit {
+        Unit { image, cache, memory }
+    }
+
+    /// The image, the cache and the memory, to be stored.
+    pub fn into_parts(self) -> (Image, Vec<u8>, Vec<u8>) {
+        (self.image, self.cache, self.memory)
+    }
+
+    /// What the state holds: numbers, queues, tag records, the miss register.
+    pub fn image(&self) -> &Image {
+        &self.image
+    }
+
+    /// The cache bytes: those of tag record r stand at 16 × r.
+    pub fn cache(&self) -> &[u8] {
+        &self.cache
+    }
+
+    /// The memory bytes. Dirty lines are not yet in them: see [`Unit::flush`].
+    pub fn memory(&self) -> &[u8] {
+        &self.memory
+    }
+
+    /// Any call.
+    pub fn call(&mut self, call: Call) -> Result<Answer, Refusal> {
+        self.image.call(&mut self.cache, &mut self.memory, call)
+    }
+
+    /// Load of width bytes: it takes the next number and joins the load queue. Each
+    /// byte comes from the youngest older held store that covers it, else from the
+    /// cached line: [`Answer::Value`], or [`Answer::Waits`] while some byte has
+    /// neither. It requests nothing and changes no age.
+    ///
+    /// Refused by 2 (width), 3 (alignment), 4 (address), 13 (no number left) or 12
+    /// (8 loads are listed).
+    pub fn load(&mut self, address: u32, width: u32) -> Result<Answer, Refusal> {
+        self.call(Call::Load(address, width))
+    }
+
+    /// Store: it takes the next number and is held, uncommitted:
+    /// [`Answer::Stored`]. The lowest byte of the value goes to the address.
+    ///
+    /// Refused by 2 (width), 3 (alignment), 4 (address), 5 (value), 13 (no number
+    /// left) or 11 (16 stores are held).
+    pub fn store(&mut self, address: u32, width: u32, value: u32) -> Result<Answer, Refusal> {
+        self.call(Call::Store(address, width, value))
+    }
+
+    /// Retry of a load that waits, the scope paper's inquiry: [`Answer::Value`], or
+    /// [`Answer::Waits`] still. Once answered, a committed load leaves the queue and
+    /// uses its line if that is present; an uncommitted one is marked answered.
+    ///
+    /// Refused by 14: no waiting load has that number.
+    pub fn retry(&mut self, number: u32) -> Result<Answer, Refusal> {
+        self.call(Call::Retry(number))
+    }
+
+    /// Commit of everything up to a number: [`Answer::Committed`]. Answered loads up
+    /// to it leave the queue, each using its line if that is present.
+    ///
+    /// Refused by 15: the number is below the committed one or above the last.
+    pub fn commit(&mut self, number: u32) -> Result<Answer, Refusal> {
+        self.call(Call::Commit(number))
+    }
+
+    /// Abort of everything from a number on (a squash): [`Answer::Kept`]. No trace of
+    /// it is left in any line or age.
+    ///
+    /// Refused by 16: the number is at most the committed one, or above last + 1.
+    pub fn abort(&mut self, number: u32) -> Result<Answer, Refusal> {
+        self.call(Call::Abort(number))
+    }
+
+    /// Idle, the background work: the oldest held store is drained, if it is
+    /// committed, no older load waits and its line is present ([`Answer::Drained`]);
+    /// else a line that a committed load or that store wants is requested
+    /// ([`Answer::Requested`]); else nothing ([`Answer::Idle`]).
+    pub fn idle(&mut self) -> Result<Answer, Refusal> {
+        self.call(Call::Idle)
+    }
+
+    /// The memory's reply: the requested line is filled, after its victim was
+    /// written back if that is dirty ([`Answer::Filled`]).
+    ///
+    /// Refused by 17: the miss register is free.
+    pub fn reply(&mut self) -> Result<Answer, Refusal> {
+        self.call(Call::Reply)
+    }
+
+    /// Writes every dirty line to memory and marks it clean: [`Answer::Flushed`].
+    ///
+    /// Refused by 18: a committed store is held.
+    pub fn flush(&mut self) -> Result<Answer, Refusal> {
+        self.call(Call::Flush)
+    }
+
+    /// Show line: the bytes of the line of an address, if it is present. It is
+    /// never refused and changes nothing.
+    pub fn show_line(&self, address: u32) -> Part<'_> {
+        self.image.show_line(&self.cache, &self.memory, address)
+    }
+}

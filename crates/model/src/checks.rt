@@ -1,0 +1,105 @@
+// Checks 1 and 10 of a state: the lines first, with the figures and the lent lengths, then the queues and the register. And what calls
+// share: a refusal, and the state with another register.
+ghost use mathlib.Core.Path.{_≡_};
+ghost use mathlib.Core.Bool.{_&&_};
+ghost use Prim.Native.Nat.{_*_};
+ghost use Rattle.rules.specs.Lines.{present};
+ghost use Rattle.rules.specs.Calls.{guarded};
+ghost use Rattle.rules.specs.WellFormed.{requestAbsent, requestInside, requestWanted};
+ghost use Rattle.rules.specs.Runs.{stateChecks};
+ghost use Rattle.model.specs.Tables.{tabled};
+ghost use Rattle.access.specs.AccessChecks.{sized};
+ghost use Rattle.model.specs.State.{queuesOf, hierarchyOf, withRegister, Shaped};
+use crate::Answer;
+use crate::State;
+use crate::Step;
+use crate::cache;
+use rules::LINE_BYTES;
+use rules::NOT_WELL_FORMED;
+use rules::Request;
+
+impl State {
+    // The line is present.
+    pub(crate) fn is_present(self, line: u32) -> bool
+        requires { ⌜ Shaped self (self .figures .sets * self .figures .ways * 16) ⌝ }
+        ensures { λ r. ⌜ r ≡ present (tabled (self .figures) (self .tags)) line ⌝ }
+    {
+        let tags = self.tags;
+        let figures = self.figures;
+        let ways = figures.ways as usize;
+        let first = cache::first_slot(figures, line);
+        cache::find(tags, first, ways, line) < first + ways
+    }
+
+    // A requested line is absent, lies in memory, and is wanted.
+    fn is_request_good(self) -> bool
+        requires { ⌜ Shaped self (self .figures .sets * self .figures .ways * 16) ⌝ }
+        ensures { λ r. ⌜ r ≡ (requestAbsent (self .request) (tabled (self .figures) (self .tags)) && (requestInside (self .request) (sized (self .size)) && requestWanted (self .request) (queuesOf self))) ⌝ }
+    {
+        let request = self.request;
+        match request {
+            Request::Free => true,
+            Request::Line(line) => {
+                if self.is_present(line) {
+                    return false;
+                }
+                if self.size as u64 <= (LINE_BYTES as u64) * (line as u64) {
+                    return false;
+                }
+                let stores = self.stores;
+                let loads = self.loads;
+                queue_checks::request_wanted(request, stores, loads, self.committed)
+            }
+        }
+    }
+
+    // 0 where checks 1 and 10 pass, else the refusal's number.
+    pub(crate) fn state_refusal(self, cache: &[u8], memory: &[u8]) -> u32
+        ensures { λ r. ⌜ r ≡ guarded (stateChecks (queuesOf self) (hierarchyOf self (now (cache .entry)) (now (memory .entry)))) (λ k. k) 0 ⌝ }
+    {
+        let tags = self.tags;
+        let stores = self.stores;
+        let loads = self.loads;
+        let figures = self.figures;
+        let k = line_checks::lines_refusal(tags, figures, self.size, cache, memory);
+        if k != 0 {
+            return k;
+        }
+        if queue_checks::queues_good(stores, loads, self.last, self.committed, self.size) {
+            if self.is_request_good() {
+                return 0;
+            }
+        }
+        NOT_WELL_FORMED
+    }
+
+    // The same state with another register. (A field that is an enum is not stored to: the state is made anew, here alone.)
+    pub(crate) fn with_request(self, request: Request) -> State
+        ensures { λ r. ⌜ r ≡ withRegister request self ⌝ }
+    {
+        let figures = self.figures;
+        let stores = self.stores;
+        let loads = self.loads;
+        let tags = self.tags;
+        State {
+            figures,
+            size: self.size,
+            last: self.last,
+            committed: self.committed,
+            request,
+            stores,
+            loads,
+            tags,
+        }
+    }
+
+    // A refusal: the number alone.
+    pub(crate) fn refused(self, k: u32) -> Step
+        ensures { λ r. ⌜ r ≡ record { answer = Answer.Refused k; next = self } ⌝ }
+    {
+        Step {
+            answer: Answer::Refused(k),
+            next: self,
+        }
+    }
+}

@@ -1,0 +1,38 @@
+-- `steps::image_refusal` meets its contract: 10 where figures and lengths fit, else 1.
+use borrow.Author.Needs.{needs}
+use Prim.Native.Nat.{ℕ}
+use mathlib.Core.Path.{_≡_, sym, _∙_}
+use mathlib.Core.Bool.{Bool, true, false}
+use mathlib.Core.List.{List, []}
+use Rattle.rules.specs.Shape.{fits}
+use Rattle.line_checks.specs.Refusal.{hierarchy}
+use Rattle.nicoisetarn.specs.declared.Image.{Image}
+use Rattle.nicoisetarn.specs.Images.{figuresOf}
+use Rattle.nicoisetarn.specs.Steps.{imageRefusal}
+use Rattle.nicoisetarn.proofs.steps.image_refusal.Statement.{statement}
+use Rattle.nicoisetarn.proofs.steps.image_refusal.Tie as tie
+
+module _ (i : Image) (cache memory : List ℕ) (fit : Bool) (e : fit ≡ fits (hierarchy (figuresOf i) (i .size) [] cache memory)) where
+  fitting : fit ≡ true → 10 ≡ imageRefusal i cache memory
+  unfolding imageRefusal
+  fitting t = rw (sym e ∙ t)
+
+  unfitting : fit ≡ false → 1 ≡ imageRefusal i cache memory
+  unfolding imageRefusal
+  unfitting t = rw (sym e ∙ t)
+
+is-fit-requires : tie.Need-is-fit-requires
+is-fit-requires c κs = search needs
+
+returns : tie.Need-returns
+returns c =
+    let is-fit = c .before .is-fit in
+    fitting _ _ _ _ (is-fit .ensures) (c .if1 .taken)
+
+returns-2 : tie.Need-returns-2
+returns-2 c =
+    let is-fit = c .before .is-fit in
+    unfitting _ _ _ _ (is-fit .ensures) (c .if1 .left)
+
+pub image-refusal-spec : {M : Type 1} → statement M
+image-refusal-spec = tie.close (tie.spec is-fit-requires returns returns-2)
