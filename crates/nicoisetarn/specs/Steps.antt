@@ -1,4 +1,4 @@
--- What a start and a call on an image leave, by the rules.
+-- What a start and a call on an image leave, and what show line answers, by the rules.
 use Prim.Native.Nat.{ℕ}
 use mathlib.Core.Bool.{cond}
 use mathlib.Core.List.{List, []}
