@@ -13,7 +13,7 @@ use Rattle.rules.specs.Shape.{World, lineBytes}
 use Rattle.model.specs.State.{worldOf}
 use Rattle.model.specs.declared.State.{State}
 use Rattle.script.specs.Commands.{lineFeed, heldBytes}
-use Rattle.script.specs.Commands as script-text
+use Rattle.script.specs.Commands as commands
 use Rattle.script.specs.Play.{effect, afterByte, output, afterBytes, newPlayer, atEnd, played}
 use Rattle.script.specs.Play as script
 use Rattle.script_text.specs.Written.{Wrote, lineRoom}
@@ -120,7 +120,7 @@ RoomForLine cache memory out at =
     (largestCache ≤ length cache) × (largestMemory ≤ length memory) × (at + lineRoom ≤ length out)
 
 -- a line was played that asked for c: the run after it, the lent bytes after it, and what it prints in the output
-pub record PlaysCommand (c : Option script-text.Command) (before after : RunAt) : Type 0 where
+pub record PlaysCommand (c : Option commands.Command) (before after : RunAt) : Type 0 where
   pub run-after : after .run ≡ effect c (before .run) .run
   pub lent-after : after .lent ≡ laidIn (effect c (before .run) .run) (before .lent)
   pub wrote : Wrote (before .at) (effect c (before .run) .says) (before .out) (after .out) (after .at)

@@ -7,14 +7,14 @@ use lib.Dec.{ltb, leb, eqb}
 use Rattle.rules.specs.Shape.{topNumber}
 use Rattle.model.specs.State.{callOf}
 use Rattle.script.specs.Commands.{start, make, space, firstDigit, isDigit, withOne, withTwo, withThree}
-use Rattle.script.specs.Commands as script
+use Rattle.script.specs.Commands as commands
 use Rattle.script_text.specs.declared.Command.{Command}
 use Rattle.script_text.specs.declared.Command.the-variants.{Malformed, Start, Make}
 use Rattle.script_text.specs.declared.reader.Scan.{Scan}
 
 -- ---- what the code says that a line asks for
 
-abbrev pub askedOf : Command → Option script.Command
+abbrev pub askedOf : Command → Option commands.Command
 askedOf Malformed = none
 askedOf (Start f size) = some (start f size)
 askedOf (Make c) = some (make (callOf c))
@@ -55,12 +55,12 @@ scanned (b ∷ bs) s = scanned bs (scanByte b s)
 -- ---- a letter with its numbers
 
 -- the whole numbers, one to three
-abbrev pub withNumbers : ℕ → ℕ → Scan → Option script.Command
+abbrev pub withNumbers : ℕ → ℕ → Scan → Option commands.Command
 withNumbers c zero s = none
 withNumbers c (suc zero) s = withOne c (s .z)
 withNumbers c (suc (suc zero)) s = withTwo c (s .y) (s .z)
 withNumbers c (suc (suc (suc zero))) s = withThree c (s .x) (s .y) (s .z)
 withNumbers c (suc (suc (suc (suc k)))) s = none
 
-unfoldable pub namedBy : ℕ → Scan → Option script.Command
+unfoldable pub namedBy : ℕ → Scan → Option commands.Command
 namedBy c s = cond (s .good) (withNumbers c (s .count) s) none

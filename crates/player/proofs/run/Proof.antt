@@ -42,8 +42,8 @@ same-length-3 c = search needs
 same-length-4 : tie.Need-same-length-4 Inv-loop μ-loop
 same-length-4 c = search needs
 
-rereads : tie.Need-rereads Inv-loop μ-loop
-rereads c = search needs
+returns : tie.Need-returns Inv-loop μ-loop
+returns c = search needs
 
 pub run-spec : {M : Type 1} → statement M
 run-spec =
@@ -61,4 +61,4 @@ run-spec =
     same-length-2
     same-length-3
     same-length-4
-    rereads)
+    returns)

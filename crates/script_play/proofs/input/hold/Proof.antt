@@ -3,7 +3,7 @@ use Rattle.script_text.proofs.Writing.{word-more}
 use lib.Seq.{sets, getD-drop}
 use lib.ListN.{length, take, drop, set, getD, length-drop}
 use mathlib.Core.List.{List}
-use Prim.Native.Nat.{ℕ, _+_, _-_, _≤_}
+use Prim.Native.Nat.{ℕ, _+_, _-_, _≤_, _<_}
 use Rattle.script.specs.Commands.{heldBytes}
 use mathlib.Core.Path.{_≡_, refl, _∙_, ap}
 use native.Mathlib.Omega.{arith}
@@ -70,8 +70,8 @@ loop-again c =
     let input = args .input .now in
     let i = loop .i in
     let bounds = room-bounds (args .held) (args .end - args .from) (room-for .result) (pre .0) (room-for .ensures) in
-    let more = word-more (drop (args .from) input) _ (args .held) i (omega (arith, bounds .0, length-drop (args .from) input)) in
-    (omega arith, ap (λ (l : List ℕ). set l (args .held + i) (getD input (args .from + i) 0)) (loop .inv .1) ∙ rw (← getD-drop (args .from) input i 0) more)
+    let inside : i < length (drop (args .from) input) = omega (arith, bounds .0, length-drop (args .from) input) in
+    (omega arith, ap (λ (l : List ℕ). set l (args .held + i) (getD input (args .from + i) 0)) (loop .inv .1) ∙ rw (← getD-drop (args .from) input i 0) (word-more (drop (args .from) input) _ (args .held) i inside))
 
 add-t9 : tie.Need-add-t9 Inv-loop μ-loop
 add-t9 c =
