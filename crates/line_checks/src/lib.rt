@@ -109,7 +109,7 @@ fn same_bytes(cache: &[u8], at: usize, memory: &[u8], from: usize) -> bool
 }
 
 // The 16 bytes of the cache from place at on are zero.
-fn zero_bytes(cache: &[u8], at: usize) -> bool
+fn is_zero_line(cache: &[u8], at: usize) -> bool
     requires { ⌜ at + 16 ≤ length (now cache) ⌝ }
     ensures { λ r. ⌜ r ≡ zeroBytes (now (cache .entry)) at ⌝ }
 {
@@ -158,7 +158,7 @@ fn invalid_good(t: Tag, k: usize, cache: &[u8]) -> bool
     if t.line != 0 {
         return false;
     }
-    zero_bytes(cache, LINE_LENGTH * k)
+    is_zero_line(cache, LINE_LENGTH * k)
 }
 
 // The record t of slot k, in set s, is well formed by itself.

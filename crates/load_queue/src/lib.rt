@@ -165,7 +165,7 @@ pub fn remove_waiting(loads: [LoadEntry; LOAD_PLACES], i: u32) -> [LoadEntry; LO
 }
 
 // The waiting load of number i, marked answered.
-fn answer_load(l: LoadEntry, i: u32) -> LoadEntry
+fn mark_answered(l: LoadEntry, i: u32) -> LoadEntry
     ensures { λ r. ⌜ r ≡ cond (waitingAt i l) (answered l) l ⌝ }
 {
     if is_waiting_at(l, i) {
@@ -187,7 +187,7 @@ pub fn answer_waiting(loads: [LoadEntry; LOAD_PLACES], i: u32) -> [LoadEntry; LO
     let mut k: usize = 0;
     while k < LOAD_PLACES {
         let l = next[k];
-        let t = answer_load(l, i);
+        let t = mark_answered(l, i);
         next[k] = t;
         k += 1;
     }

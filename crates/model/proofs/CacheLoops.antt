@@ -21,7 +21,7 @@ use Rattle.rules.specs.Shape.{Hierarchy, holding, noTag, tagAt, withAge, withDi
 use Rattle.rules.specs.Lines.{holdsLine, slotOf, present, agedAt, useSlot, useLine, writtenBackAt, writeBackSlot, victim, copiedAt}
 use Rattle.rules.specs.Runs.{startTags}
 use Rattle.rules.proofs.LineFacts.{Fits, Good, set-room, dirty-valid}
-use Rattle.model.specs.Tables.{tabled, usedTags, victimIn, held, flushedMemory, flushedTags, DirtyInside}
+use Rattle.model.specs.Tables.{tabled, usedTags, victimIn, unfigured, flushedMemory, flushedTags, DirtyInside}
 
 -- ---- the first slot of a set
 
@@ -221,11 +221,11 @@ pub flushed-memory :
     (n : ℕ) (tags : List Tag) (cache memory : List ℕ)
     → stepsFrom (writtenBack tags cache) 0 n memory ≡ flushedMemory n tags cache memory
 unfolding flushedMemory
-flushed-memory n tags cache memory = sym (ap (λ (b : Hierarchy). b .memory) (saves n 0 (held tags cache memory) tags (λ k l. refl)))
+flushed-memory n tags cache memory = sym (ap (λ (b : Hierarchy). b .memory) (saves n 0 (unfigured tags cache memory) tags (λ k l. refl)))
 
 pub flushed-tags : (n : ℕ) (tags : List Tag) → stepsFrom (change cleaned noTag) 0 n tags ≡ flushedTags n tags
 unfolding flushedTags
-flushed-tags n tags = sym (ap (λ (b : Hierarchy). b .tags) (saves n 0 (held tags [] []) tags (λ k l. refl)))
+flushed-tags n tags = sym (ap (λ (b : Hierarchy). b .tags) (saves n 0 (unfigured tags [] []) tags (λ k l. refl)))
 
 pub flushed-all :
     (n : ℕ) (b : Hierarchy)

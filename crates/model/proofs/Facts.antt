@@ -19,7 +19,7 @@ use Rattle.rules.specs.Shape.{Queues, Hierarchy, figuresAllowed, fits, noLoad, 
 use Rattle.rules.specs.Calls.{widthAllowed, passes, accessChecks, waitingAt, committedStore, oldestStore, storeReady}
 use Rattle.rules.specs.WellFormed.{wellFormed, loadPasses, storePasses, freeStoreZero, freeLoadZero, committedWaitAt, waitingUncoveredAt, requestAbsent, requestInside, requestWanted}
 use Rattle.rules.proofs.QueueView.{Parts, parts, goodLoad, goodStore, goodRequest, load-passes, store-passes, good-load, good-store}
-use Rattle.model.specs.State.{queuesOf, hierarchyOf, Shaped, Fine}
+use Rattle.model.specs.State.{queuesOf, hierarchyOf, Shaped, InOneLine}
 use Rattle.rules.proofs.LineFacts.{fits-tells, good-tells}
 use Rattle.line_checks.proofs.Figures.{Figured, figures-tell}
 use Rattle.model.specs.Tables.{DirtyInside}
@@ -39,14 +39,14 @@ unfolding every
 access-width b a w p = twice (widthAllowed w) (and-left (not (not (widthAllowed w))) _ p)
 
 -- it lies in one line of memory
-pub access-fine : (b : Hierarchy) (a w : ℕ) → b .size ≤ 65536 → passes (accessChecks b a w) ≡ true → Fine a w
+pub access-fine : (b : Hierarchy) (a w : ℕ) → b .size ≤ 65536 → passes (accessChecks b a w) ≡ true → InOneLine a w
 unfolding every
 access-fine b a w small p =
     let p₂ = and-right (not (not (widthAllowed w))) _ p in
     let p₃ = and-left (not (not (eqb (a % w) 0))) _ p₂ in
     let p₄ = and-left (not (ltb (b .size) (a + w))) true (and-right (not (not (eqb (a % w) 0))) _ p₂) in
     let inside : a + w ≤ b .size = ltb-false (b .size) (a + w) (not-true _ p₄) in
-    width-cases (λ w. a % w ≡ 0 → a + w ≤ b .size → Fine a w)
+    width-cases (λ w. a % w ≡ 0 → a + w ≤ b .size → InOneLine a w)
     (λ m i. record { some-byte = omega arith; narrow = omega arith; one-line = omega arith; inside = omega arith })
     (λ m i. record { some-byte = omega arith; narrow = omega arith; one-line = omega arith; inside = omega arith })
     (λ m i. record { some-byte = omega arith; narrow = omega arith; one-line = omega arith; inside = omega arith })
@@ -105,7 +105,7 @@ line-low l k p q = omega arith
 
 module _ (q : Queues) (b : Hierarchy) (small : b .size ≤ 65536) (p : Parts q b) where
   -- the access of the waiting load of number i
-  pub waiting-fine : (i : ℕ) → any (waitingAt i) (q .loads) ≡ true → Fine (first (waitingAt i) noLoad (q .loads) .address) (first (waitingAt i) noLoad (q .loads) .width)
+  pub waiting-fine : (i : ℕ) → any (waitingAt i) (q .loads) ≡ true → InOneLine (first (waitingAt i) noLoad (q .loads) .address) (first (waitingAt i) noLoad (q .loads) .width)
   unfolding waitingAt loadPasses freeLoadZero committedWaitAt waitingUncoveredAt
   waiting-fine i e =
       let l = first (waitingAt i) noLoad (q .loads) in
@@ -116,7 +116,7 @@ module _ (q : Queues) (b : Hierarchy) (small : b .size ≤ 65536) (p : Parts q b
       (or-then (isFreeLoad l) _ (load-passes b (q .last) (q .committed) (q .stores) l g) (not-true (isFreeLoad l) (and-left _ _ w)))
 
   -- the access of the oldest store, if it is ready
-  pub oldest-fine : storeReady q ≡ true → Fine (oldestStore q .address) (oldestStore q .width)
+  pub oldest-fine : storeReady q ≡ true → InOneLine (oldestStore q .address) (oldestStore q .width)
   unfolding storeReady committedStore storePasses freeStoreZero
   oldest-fine e =
       let s = oldestStore q in

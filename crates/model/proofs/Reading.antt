@@ -16,7 +16,7 @@ use Rattle.rules.specs.Shape.{Hierarchy, noStore, lineOf, firstSlot}
 use Rattle.rules.specs.Lines.{slotOf, present, placeOf, cachedByte}
 use Rattle.rules.specs.Forward.{olderCovers, storeByte, loadByte, loadValue}
 use Rattle.rules.specs.Calls.{isNone, loadAnswer}
-use Rattle.model.specs.State.{Fine, answerOf}
+use Rattle.model.specs.State.{InOneLine, answerOf}
 use Rattle.store_queue.specs.Forwarded.{forwarded}
 use Rattle.model.specs.Reads.{byteAs, readOf, byteFrom, byteOrLine, joinedTo, isLacking, answerTo}
 use Rattle.store_queue.specs.declared.Byte.the-variants.{Known, Unknown}
@@ -98,7 +98,7 @@ module _ (i a : ℕ) (ss : List StoreEntry) (cache : List ℕ) (p : ℕ) (here :
 
 -- ---- the value
 
-module _ (i a w : ℕ) (ss : List StoreEntry) (b : Hierarchy) (f : Fine a w) where
+module _ (i a w : ℕ) (ss : List StoreEntry) (b : Hierarchy) (f : InOneLine a w) where
   -- where the line of the access stands, and whether it does
   abbrev pub place : ℕ
   place = 16 * slotOf b (lineOf a) + a % 16

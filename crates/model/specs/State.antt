@@ -120,7 +120,7 @@ pub record Shaped (s : State) (cacheLength : ℕ) : Type 0 where
   pub cache-long : cacheLength ≡ s .figures .sets * s .figures .ways * 16
 
 -- an access lies in one line of memory
-pub record Fine (a w : ℕ) : Type 0 where
+pub record InOneLine (a w : ℕ) : Type 0 where
   pub some-byte : 0 < w
   pub narrow : w ≤ 4
   pub one-line : a % 16 + w ≤ 16

@@ -30,15 +30,15 @@ victimIn tags f ways =
 -- ---- flush
 
 -- with no figures, which a flush does not look at
-abbrev pub held : List Tag → List ℕ → List ℕ → Hierarchy
-held = hierarchy noFigures 0
+abbrev pub unfigured : List Tag → List ℕ → List ℕ → Hierarchy
+unfigured = hierarchy noFigures 0
 
 -- memory, and the records, once the first n slots are written back, slot by slot
 unfoldable pub flushedMemory : ℕ → List Tag → List ℕ → List ℕ → List ℕ
-flushedMemory n tags cache memory = stepsFrom writeBackSlot 0 n (held tags cache memory) .memory
+flushedMemory n tags cache memory = stepsFrom writeBackSlot 0 n (unfigured tags cache memory) .memory
 
 unfoldable pub flushedTags : ℕ → List Tag → List Tag
-flushedTags n tags = stepsFrom writeBackSlot 0 n (held tags [] []) .tags
+flushedTags n tags = stepsFrom writeBackSlot 0 n (unfigured tags [] []) .tags
 
 -- the dirty lines of the first n slots lie in a memory of so many bytes
 abbrev pub DirtyInside : List Tag → ℕ → ℕ → Type 0

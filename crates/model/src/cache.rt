@@ -165,7 +165,8 @@ pub(crate) fn victim(tags: [Tag; TAG_RECORDS], first: usize, ways: usize) -> usi
     oldest(tags, first, ways)
 }
 
-// The 16 bytes of src go into slot v: "the reply copies the line's 16 bytes out of the middle of memory".
+// The 16 bytes of src go into slot v: "the reply copies the line's 16 bytes out of the middle of memory". (Write back uses it the
+// other way: memory in place of the cache, the line number in place of the slot.)
 pub(crate) fn fill_slot(cache: &mut [u8], v: usize, src: &[u8])
     requires { ⌜ (length (now src) ≡ 16) × (16 * v + 16 ≤ length (now cache)) ⌝ }
     ensures { λ _. ⌜ now (cache .exit) ≡ eachFrom (λ j x. cond (eqb (j / 16) v) (getD (now (src .entry)) (j % 16) 0) x) 0 (now (cache .entry)) ⌝ }

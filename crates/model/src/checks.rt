@@ -1,5 +1,5 @@
 // Checks 1 and 10 of a state: the lines first, with the figures and the lent lengths, then the queues and the register. And what calls
-// share: a refusal, and the state with another register.
+// share: whether a line is present, a refusal, and the state with another register.
 ghost use mathlib.Core.Path.{_≡_};
 ghost use mathlib.Core.Bool.{_&&_};
 ghost use Prim.Native.Nat.{_*_};

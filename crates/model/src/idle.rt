@@ -11,7 +11,7 @@ ghost use Rattle.line_checks.specs.Refusal.{hierarchy};
 ghost use Rattle.rules.specs.Calls.{wantsLine, oldestStore, storeReady, drainOldest, requestLine};
 ghost use Rattle.rules.specs.Calls as rules;
 ghost use Rattle.model.specs.Tables.{tabled, Writable};
-ghost use Rattle.model.specs.State.{queuesOf, hierarchyOf, outcomeOf, Shaped, Fine, idleRequest, Does, worldOf};
+ghost use Rattle.model.specs.State.{queuesOf, hierarchyOf, outcomeOf, Shaped, InOneLine, idleRequest, Does, worldOf};
 use crate::Answer;
 use crate::State;
 use crate::Step;
@@ -67,7 +67,7 @@ fn write_store(
 impl State {
     // (a) ".. remove the store": s is the oldest store, and its line is present.
     fn drain_oldest(mut self, cache: &mut [u8], s: StoreEntry) -> Step
-        requires { ⌜ Shaped self (length (now cache)) × Fine (s .address) (s .width) × (s ≡ oldestStore (queuesOf self)) × (present (tabled (self .figures) (self .tags)) (lineOf (s .address)) ≡ true) ⌝ }
+        requires { ⌜ Shaped self (length (now cache)) × InOneLine (s .address) (s .width) × (s ≡ oldestStore (queuesOf self)) × (present (tabled (self .figures) (self .tags)) (lineOf (s .address)) ≡ true) ⌝ }
         ensures { λ r. ⌜ ((m : List ℕ) → outcomeOf r (now (cache .exit)) m ≡ drainOldest (queuesOf self) (hierarchyOf self (now (cache .entry)) m)) ⌝ }
     {
         let tags = self.tags;

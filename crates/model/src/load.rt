@@ -6,7 +6,7 @@ ghost use lib.ListN.{length};
 ghost use Rattle.rules.specs.Shape.{topNumber};
 ghost use Rattle.rules.specs.Calls.{loadRule};
 ghost use Rattle.rules.specs.Calls as rules;
-ghost use Rattle.model.specs.State.{queuesOf, hierarchyOf, outcomeOf, Shaped, Fine, Does, worldOf};
+ghost use Rattle.model.specs.State.{queuesOf, hierarchyOf, outcomeOf, Shaped, InOneLine, Does, worldOf};
 use crate::State;
 use crate::Step;
 use crate::read;
@@ -20,7 +20,7 @@ use rules::TOP_NUMBER;
 impl State {
     // "Load takes last + 1 and joins the loads."
     fn load_accepted(mut self, cache: &[u8], a: Access) -> Step
-        requires { ⌜ Shaped self (length (now cache)) × Fine (a .address) (a .width) × (self .last < topNumber) ⌝ }
+        requires { ⌜ Shaped self (length (now cache)) × InOneLine (a .address) (a .width) × (self .last < topNumber) ⌝ }
         ensures { λ r. ⌜ ((m : List ℕ) → outcomeOf r (now (cache .entry)) m ≡ loadRule (a .address) (a .width) (queuesOf self) (hierarchyOf self (now (cache .entry)) m)) ⌝ }
     {
         let i = self.last + 1;

@@ -6,7 +6,7 @@ ghost use Prim.Native.Nat.{ℕ, _+_, _≤_, _<_};
 ghost use lib.ListN.{length};
 ghost use Rattle.lists.specs.Bytes.{gather};
 ghost use Rattle.rules.specs.Forward.{loadValue};
-ghost use Rattle.model.specs.State.{hierarchyOf, Shaped, Fine};
+ghost use Rattle.model.specs.State.{hierarchyOf, Shaped, InOneLine};
 ghost use Rattle.model.specs.Reads.{byteOrLine, joinedTo, byteFrom, readOf, isLacking, answerTo};
 use crate::Answer;
 use crate::State;
@@ -107,7 +107,7 @@ pub(crate) fn answer_to(i: u32, r: Read) -> Answer
 impl State {
     // What load i reads at the address: its line is looked up once.
     pub(crate) fn read(self, cache: &[u8], i: u32, address: u32, width: u32) -> Read
-        requires { ⌜ Shaped self (length (now cache)) × Fine address width ⌝ }
+        requires { ⌜ Shaped self (length (now cache)) × InOneLine address width ⌝ }
         ensures { λ r. ⌜ ((m : List ℕ) → r ≡ readOf (loadValue i address width (self .stores) (hierarchyOf self (now (cache .entry)) m))) ⌝ }
     {
         let line = address / LINE_BYTES;

@@ -7,7 +7,7 @@ ghost use Rattle.lists.specs.Padded.{first};
 ghost use Rattle.rules.specs.Shape.{noLoad};
 ghost use Rattle.rules.specs.Calls.{waitingAt, answerLoad, retryRule};
 ghost use Rattle.rules.specs.Calls as rules;
-ghost use Rattle.model.specs.State.{queuesOf, hierarchyOf, outcomeOf, Shaped, Fine, Does, worldOf};
+ghost use Rattle.model.specs.State.{queuesOf, hierarchyOf, outcomeOf, Shaped, InOneLine, Does, worldOf};
 use crate::Answer;
 use crate::State;
 use crate::Step;
@@ -46,7 +46,7 @@ impl State {
 
     // "tries a waiting load again by the same rule"
     fn retry_accepted(self, cache: &[u8], i: u32, l: LoadEntry) -> Step
-        requires { ⌜ Shaped self (length (now cache)) × Fine (l .address) (l .width) × (l ≡ first (waitingAt i) noLoad (self .loads)) ⌝ }
+        requires { ⌜ Shaped self (length (now cache)) × InOneLine (l .address) (l .width) × (l ≡ first (waitingAt i) noLoad (self .loads)) ⌝ }
         ensures { λ r. ⌜ ((m : List ℕ) → outcomeOf r (now (cache .entry)) m ≡ retryRule i (queuesOf self) (hierarchyOf self (now (cache .entry)) m)) ⌝ }
     {
         let r = self.read(cache, i, l.address, l.width);

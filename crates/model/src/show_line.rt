@@ -2,9 +2,12 @@
 ghost use mathlib.Core.Path.{_≡_};
 ghost use Prim.Native.Nat.{_+_, _*_, _≤_};
 ghost use lib.ListN.{length};
-ghost use Rattle.model.specs.State.{worldOf};
+ghost use Rattle.rules.specs.Calls as rules;
+ghost use Rattle.model.specs.State.{Does, worldOf};
 ghost use Rattle.model.specs.Shows.{shownPart, PartOf};
+use crate::Answer;
 use crate::State;
+use crate::Step;
 use crate::cache;
 use rules::LINE_BYTES;
 use rules::LINE_LENGTH;
@@ -58,5 +61,16 @@ impl State {
         let a = p.start;
         let e = a + p.length;
         &cache[a..e]
+    }
+
+    // Show line as a step: the place and the length of the part.
+    pub fn show(self, cache: &[u8], memory: &[u8], address: u32) -> Step
+        ensures { λ r. ⌜ Does (rules.show address) (worldOf self (now (cache .entry)) (now (memory .entry))) r (now (cache .entry)) (now (memory .entry)) ⌝ }
+    {
+        let p = self.show_part(cache, memory, address);
+        Step {
+            answer: Answer::Shown(p.start, p.length),
+            next: self,
+        }
     }
 }

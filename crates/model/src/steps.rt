@@ -1,7 +1,5 @@
 // One step over an enum of calls.
-ghost use Rattle.rules.specs.Calls as rules;
 ghost use Rattle.model.specs.State.{callOf, Does, worldOf};
-use crate::Answer;
 use crate::Call;
 use crate::State;
 use crate::Step;
@@ -21,17 +19,6 @@ impl State {
             Call::Reply => self.reply(cache, memory),
             Call::Flush => self.flush(cache, memory),
             Call::Show(address) => self.show(cache, memory, address),
-        }
-    }
-
-    // Show line as a step: the place and the length of the part.
-    pub fn show(self, cache: &[u8], memory: &[u8], address: u32) -> Step
-        ensures { λ r. ⌜ Does (rules.show address) (worldOf self (now (cache .entry)) (now (memory .entry))) r (now (cache .entry)) (now (memory .entry)) ⌝ }
-    {
-        let p = self.show_part(cache, memory, address);
-        Step {
-            answer: Answer::Shown(p.start, p.length),
-            next: self,
         }
     }
 }

@@ -4,7 +4,7 @@ ghost use lib.ListN.{length};
 use libc::STDOUT_FILENO;
 use script_play::Player;
 
-// The most bytes of input that are read at once: they print at most 65,536.
+// The most bytes of input that are read at once: they print at most 65,536 bytes, 32 for each.
 const CHUNK_BYTES: usize = 2048;
 
 // What a read gave: whether there may be more, and the player after it.
@@ -55,25 +55,27 @@ fn read_and_play(
 // Until a read gives nothing. A proved loop ends, and nothing says that the input does: the reads count down from a number that no
 // run uses up.
 fn run(input: &mut [u8], cache: &mut [u8], memory: &mut [u8], out: &mut [u8]) -> Player {
-    let mut now = Reading {
+    let mut reading = Reading {
         more: true,
         player: Player::new(),
     };
     let mut reads = u64::MAX;
-    while reads > 0 && now.more {
-        let p = now.player;
+    while reads > 0 && reading.more {
+        let p = reading.player;
         let next = read_and_play(p, input, cache, memory, out);
-        now = next;
+        reading = next;
         reads -= 1;
     }
-    let last = now.player;
+    let last = reading.player;
     last
 }
 
 // Lends the player its buffers, and writes what the end of the input prints.
 fn main() {
     let mut input = [0u8; CHUNK_BYTES];
+    // 4,096 bytes, the largest cache
     let mut cache = io::buffer();
+    // 65,536 bytes, the largest memory, and what a chunk prints at most
     let mut memory = io::large_buffer();
     let mut out = io::large_buffer();
     let p = run(&mut input, &mut cache, &mut memory, &mut out);

@@ -179,7 +179,8 @@ fn is_covered(stores: [StoreEntry; STORE_PLACES], i: u32, a: u32) -> bool
     false
 }
 
-// Whether some of the bytes from a on is covered by no held store with a smaller number than i.
+// "a waiting load has a byte that no older held store covers": whether some of the bytes from a on is covered by no held store with a
+// smaller number than i.
 fn has_uncovered(stores: [StoreEntry; STORE_PLACES], i: u32, a: u32, width: u32) -> bool
     requires { ⌜ a + width ≤ topNumber ⌝ }
     ensures { λ r. ⌜ r ≡ someUncovered i stores a width ⌝ }

@@ -41,8 +41,7 @@ cachedByte b a = cond (present b (lineOf a)) (some (getD (b .cache) (placeOf b a
 
 -- ---- use
 
--- "Use gives a line age 0 and adds 1 to each smaller age in its set."
--- The record of slot k, when slot v of the set that begins at slot f is used and had age a.
+-- the record t of slot k, when slot v of the set of so many ways that begins at slot f is used and had age a
 unfoldable pub agedAt : ℕ → ℕ → ℕ → ℕ → ℕ → Tag → Tag
 agedAt f ways v a k t =
     cond (eqb k v) (withAge 0 t)
@@ -53,7 +52,7 @@ unfoldable pub useSlot : ℕ → ℕ → Hierarchy → Hierarchy
 useSlot f v b =
     holding b (eachFrom (agedAt f (b .figures .ways) v (tagAt (b .tags) v .age)) 0 (b .tags)) (b .cache) (b .memory)
 
--- the line is used, if it is present
+-- "Use gives a line age 0 and adds 1 to each smaller age in its set.": the line is used, if it is present
 unfoldable pub useLine : ℕ → Hierarchy → Hierarchy
 useLine l b = cond (present b l) (useSlot (firstSlot b l) (slotOf b l) b) b
 

@@ -1,4 +1,5 @@
 -- Claims about refusals: a refused call changes nothing, and each refusal is given under its stated condition and under no other.
+-- The refusals themselves are `accessChecks` to `callChecks` in Calls (2 to 18) and `stateChecks` in Runs (1 and 10).
 use Prim.Native.Nat.{ℕ}
 use mathlib.Core.Path.{_≡_}
 use mathlib.Core.Bool.{Bool, true, false}

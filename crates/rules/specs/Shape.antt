@@ -160,7 +160,7 @@ withDirty d t = record { valid = t .valid; dirty = d; line = t .line; age = t .a
 
 -- ---- check 1
 
--- the figures are allowed
+-- sets, ways and the memory length are allowed
 unfoldable pub figuresAllowed : Figures → ℕ → Bool
 figuresAllowed f size = setsAllowed (f .sets) && (waysAllowed (f .ways) && memoryAllowed size)
 

@@ -1,4 +1,4 @@
-// A line played: a start or a call on the run, and the line that answers.
+// A line of a script played: a start or a call on the run, and the line that answers. (`LINE_LENGTH` is of a cache line.)
 ghost use mathlib.Core.Path.{_≡_};
 ghost use mathlib.Core.Option.{some};
 ghost use mathlib.Core.Bool.{true};

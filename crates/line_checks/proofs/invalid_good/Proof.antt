@@ -16,19 +16,19 @@ returns-2 c =
     let if1 = c .before .before .if1 in
     rw (if1 .left, ne-eqb _ _ (c .if2 .taken))
 
-mul-zero-bytes : tie.Need-mul-zero-bytes
-mul-zero-bytes c = search needs
+mul-is-zero-line : tie.Need-mul-is-zero-line
+mul-is-zero-line c = search needs
 
-zero-bytes-requires : tie.Need-zero-bytes-requires
-zero-bytes-requires c κs = search needs
+is-zero-line-requires : tie.Need-is-zero-line-requires
+is-zero-line-requires c κs = search needs
 
 returns-3 : tie.Need-returns-3
 unfolding invalidGood
 returns-3 c =
     let if1 = c .before .before .before .if1 in
     let if2 = c .before .if2 in
-    rw (if1 .left, eq-eqb _ _ (if2 .left)) (c .zero-bytes .ensures)
+    rw (if1 .left, eq-eqb _ _ (if2 .left)) (c .is-zero-line .ensures)
 
 pub invalid-good-spec : {M : Type 1} → statement M
 invalid-good-spec =
-    tie.close (tie.spec returns returns-2 mul-zero-bytes zero-bytes-requires returns-3)
+    tie.close (tie.spec returns returns-2 mul-is-zero-line is-zero-line-requires returns-3)

@@ -25,8 +25,8 @@ mul-l c = search needs
 array-copy-out-l : tie.Need-array-copy-out-l Inv-loop μ-loop
 array-copy-out-l c = search needs
 
-answer-load-requires : tie.Need-answer-load-requires Inv-loop μ-loop
-answer-load-requires c κs = search needs
+mark-answered-requires : tie.Need-mark-answered-requires Inv-loop μ-loop
+mark-answered-requires c κs = search needs
 
 mul-next : tie.Need-mul-next Inv-loop μ-loop
 mul-next c = search needs
@@ -46,8 +46,8 @@ loop-again c =
     let loop = c .before .before .before .loop in
     let h : length (args .loads) ≡ loadPlaces = search needs in (
       search needs,
-      done-step _ _ noLoad (loop .k) (args .loads) (loop .next) (c .answer-load .result) (omega arith)
-          (loop .inv .1) (c .answer-load .ensures),
+      done-step _ _ noLoad (loop .k) (args .loads) (loop .next) (c .mark-answered .result) (omega arith)
+          (loop .inv .1) (c .mark-answered .ensures),
     )
 
 returns : tie.Need-returns Inv-loop μ-loop
@@ -66,7 +66,7 @@ answer-waiting-spec =
     loop-holds
     mul-l
     array-copy-out-l
-    answer-load-requires
+    mark-answered-requires
     mul-next
     array-set-from-next
     add-k

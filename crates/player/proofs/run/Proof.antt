@@ -6,11 +6,11 @@ use Rattle.player.proofs.run.Statement.{statement}
 use Rattle.player.proofs.run.Tie as tie
 
 abbrev Inv-loop : tie.InvT-loop
-Inv-loop input₀ cache₀ memory₀ out₀ now₀ reads₀ input cache memory out now reads =
+Inv-loop input₀ cache₀ memory₀ out₀ reading₀ reads₀ input cache memory out reading reads =
     (length input ≡ length input₀) × (length cache ≡ length cache₀) × (length memory ≡ length memory₀) × (length out ≡ length out₀)
 
 abbrev μ-loop : tie.MeasureT-loop
-μ-loop input₀ cache₀ memory₀ out₀ now₀ reads₀ input cache memory out now reads = reads
+μ-loop input₀ cache₀ memory₀ out₀ reading₀ reads₀ input cache memory out reading reads = reads
 
 new-requires : tie.Need-new-requires Inv-loop μ-loop
 new-requires c κs = search needs

@@ -1,10 +1,10 @@
--- `load_queue::answer_load` meets its contract. By the test.
+-- `load_queue::mark_answered` meets its contract. By the test.
 use mathlib.Core.Path.{sym, _∙_}
 use borrow.Author.Needs.{needs}
 use Rattle.lists.proofs.Cond.{cond-then, cond-else}
 use Rattle.rules.specs.Calls.{answered}
-use Rattle.load_queue.proofs.answer_load.Statement.{statement}
-use Rattle.load_queue.proofs.answer_load.Tie as tie
+use Rattle.load_queue.proofs.mark_answered.Statement.{statement}
+use Rattle.load_queue.proofs.mark_answered.Tie as tie
 
 is-waiting-at-requires : tie.Need-is-waiting-at-requires
 is-waiting-at-requires c κs = search needs
@@ -20,5 +20,5 @@ returns-2 c =
     let is-waiting-at = c .before .is-waiting-at in
     cond-else _ _ (sym (is-waiting-at .ensures) ∙ c .if1 .left)
 
-pub answer-load-spec : {M : Type 1} → statement M
-answer-load-spec = tie.close (tie.spec is-waiting-at-requires returns returns-2)
+pub mark-answered-spec : {M : Type 1} → statement M
+mark-answered-spec = tie.close (tie.spec is-waiting-at-requires returns returns-2)

@@ -1,4 +1,4 @@
--- `zero_bytes` meets its contract. The answer so far is the test of the bytes so far.
+-- `is_zero_line` meets its contract. The answer so far is the test of the bytes so far.
 use mathlib.Core.Path.{_≡_, refl, sym, _∙_}
 use mathlib.Core.Logic.{⊎-elim}
 use Prim.Native.Nat.{_≤_, _-_, _+_}
@@ -10,8 +10,8 @@ use borrow.Author.Needs.{needs}
 use Rattle.lists.specs.Counted.{allFrom}
 use Rattle.lists.proofs.CountedLoops.{all-broken, all-kept}
 use Rattle.line_checks.specs.SlotTests.{zeroBytes}
-use Rattle.line_checks.proofs.zero_bytes.Statement.{statement}
-use Rattle.line_checks.proofs.zero_bytes.Tie as tie
+use Rattle.line_checks.proofs.is_zero_line.Statement.{statement}
+use Rattle.line_checks.proofs.is_zero_line.Tie as tie
 
 abbrev Inv-loop : tie.InvT-loop
 Inv-loop cache at zero₀ i₀ zero i =
@@ -52,8 +52,8 @@ returns c =
     let e : loop .i ≡ 16 = omega arith in
     rw e at (loop .inv .1)
 
-pub zero-bytes-spec : {M : Type 1} → statement M
-zero-bytes-spec =
+pub is-zero-line-spec : {M : Type 1} → statement M
+is-zero-line-spec =
     tie.close
     (tie.spec
     Inv-loop
