@@ -1,6 +1,6 @@
 /*
  * A bench in C: plays the scope paper's worked script by calls and prints what the script player prints for
- * it, then checks the boundary: what the image tells, refused calls, numbers that no call has, and show line.
+ * it, then checks the boundary: words, what the image tells, refused calls, numbers that no call has, and show line.
  * Exits with 1, and a line on standard error, where a check fails.
  */
 #include "nicoisetarn.h"
@@ -32,24 +32,25 @@ static nicoisetarn_unit lent(bench *b) {
 
 /* ---- 01's worked script */
 
+/* How many numbers an answer of a kind has. */
+static int numbers_of(uint32_t kind) {
+    switch (kind) {
+    case NICOISETARN_KIND_IDLE:
+    case NICOISETARN_KIND_READY:
+        return 0;
+    case NICOISETARN_KIND_VALUE:
+        return 2;
+    default:
+        return 1;
+    }
+}
+
 /* Prints an answer as the script player does. */
 static void print(nicoisetarn_answer answer) {
-    static const struct {
-        const char *word;
-        int numbers;
-    } kinds[] = {
-        [NICOISETARN_KIND_REFUSED] = {"refused", 1}, [NICOISETARN_KIND_STORED] = {"stored", 1},
-        [NICOISETARN_KIND_VALUE] = {"value", 2},     [NICOISETARN_KIND_WAITS] = {"waits", 1},
-        [NICOISETARN_KIND_COMMITTED] = {"committed", 1}, [NICOISETARN_KIND_KEPT] = {"kept", 1},
-        [NICOISETARN_KIND_DRAINED] = {"drained", 1}, [NICOISETARN_KIND_REQUEST] = {"request", 1},
-        [NICOISETARN_KIND_IDLE] = {"idle", 0},       [NICOISETARN_KIND_FILLED] = {"filled", 1},
-        [NICOISETARN_KIND_FLUSHED] = {"flushed", 1}, [NICOISETARN_KIND_SHOWN] = {"shown", 2},
-        [NICOISETARN_KIND_READY] = {"ready", 0},
-    };
-    CHECK(answer.kind <= NICOISETARN_KIND_READY);
     const uint32_t numbers[] = {answer.first, answer.second};
-    fputs(kinds[answer.kind].word, stdout);
-    for (int place = 0; place < kinds[answer.kind].numbers; place++) {
+    CHECK(answer.kind <= NICOISETARN_KIND_READY && answer.kind != NICOISETARN_KIND_SHOWN);
+    fputs(nicoisetarn_kind_word(answer.kind), stdout);
+    for (int place = 0; place < numbers_of(answer.kind); place++) {
         printf(" %lu", (unsigned long)numbers[place]);
     }
     putchar('\n');
@@ -78,6 +79,22 @@ static void play(bench *b) {
     print(nicoisetarn_idle(&unit));          /* I */
     print(nicoisetarn_flush(&unit));         /* F */
     print(nicoisetarn_load(&unit, 5, 1));    /* L 5 1 */
+}
+
+/* ---- words */
+
+/* Each kind and each refusal has words; other numbers have none. */
+static void check_words(void) {
+    for (uint32_t kind = 0; kind < 300; kind++) {
+        const int known = kind <= NICOISETARN_KIND_READY || kind == NICOISETARN_KIND_NO_SUCH_CALL;
+        CHECK((*nicoisetarn_kind_word(kind) != '\0') == known);
+    }
+    for (uint32_t number = 0; number < 300; number++) {
+        const int known = (number >= NICOISETARN_REFUSED_FIGURES && number <= NICOISETARN_REFUSED_VALUE) ||
+                          (number >= NICOISETARN_REFUSED_STATE && number <= NICOISETARN_REFUSED_FLUSH);
+        CHECK((*nicoisetarn_refusal_words(number) != '\0') == known);
+    }
+    CHECK(strcmp(nicoisetarn_refusal_words(NICOISETARN_REFUSED_FLUSH), "flush: a committed store is held") == 0);
 }
 
 /* ---- what the image tells */
@@ -208,6 +225,9 @@ static void check_damaged(void) {
     check_refused(nicoisetarn_idle(&unit), NICOISETARN_REFUSED_FIGURES, &b, &before);
     CHECK(same(nicoisetarn_show_line(&unit, 0), NICOISETARN_KIND_SHOWN, 0, 0));
     CHECK(memcmp(&b, &before, sizeof b) == 0);
+    memset(&b.image, 0, sizeof b.image);
+    before = b;
+    check_refused(nicoisetarn_idle(&unit), NICOISETARN_REFUSED_FIGURES, &b, &before);
 }
 
 /* A number that no call has: the library says so, and nothing changes, whatever the image is. */
@@ -265,6 +285,7 @@ static void check_shown_of_const(void) {
 int main(void) {
     bench b;
     play(&b);
+    check_words();
     check_image();
     check_refusals();
     check_full_queues();

@@ -11,6 +11,15 @@
  *     nicoisetarn_store(&unit, 4, 1, 7);         stored, number 1
  *     nicoisetarn_load(&unit, 4, 1);             value, number 2: 7, out of the store queue
  *
+ * A load that waits: commit it, idle (request), reply (filled), retry (value). An uncommitted load never asks for
+ * its line. An idle call may write an older store first (drained), and there is one request at a time.
+ *
+ *     nicoisetarn_load(&unit, 20, 1);            waits, number 3: its line is absent
+ *     nicoisetarn_commit(&unit, 3);              committed 3
+ *     nicoisetarn_idle(&unit);                   request 16, the line's first address
+ *     nicoisetarn_reply(&unit);                  filled 16
+ *     nicoisetarn_retry(&unit, 3);               value, number 3: the byte of memory
+ *
  * Who owns what. The bench owns everything: the image of the unit's state, the cache bytes and the memory bytes.
  * A nicoisetarn_unit only says where they are. The library keeps nothing between calls, allocates nothing and may
  * be called from several threads on different units. Image, cache and memory can be copied and stored byte for
@@ -22,7 +31,8 @@
  * anything, also before a start.
  *
  * What a refusal means. A refused call has changed nothing: image, cache and memory are as before, byte for byte.
- * An image that is damaged, or was never started, is refused by every call but a start and is never repaired.
+ * An image that is damaged, or was never started, is refused by every call but a start (show line gives the empty
+ * part) and is never repaired.
  */
 #ifndef NICOISETARN_H
 #define NICOISETARN_H
@@ -129,6 +139,49 @@ typedef enum nicoisetarn_refusal {
     NICOISETARN_REFUSED_FLUSH = 18        /* flush: a committed store is held */
 } nicoisetarn_refusal;
 
+/* The word of a kind, as the script player prints it; empty where there is no such kind. */
+static inline const char *nicoisetarn_kind_word(uint32_t kind) {
+    switch (kind) {
+    case NICOISETARN_KIND_REFUSED: return "refused";
+    case NICOISETARN_KIND_STORED: return "stored";
+    case NICOISETARN_KIND_VALUE: return "value";
+    case NICOISETARN_KIND_WAITS: return "waits";
+    case NICOISETARN_KIND_COMMITTED: return "committed";
+    case NICOISETARN_KIND_KEPT: return "kept";
+    case NICOISETARN_KIND_DRAINED: return "drained";
+    case NICOISETARN_KIND_REQUEST: return "request";
+    case NICOISETARN_KIND_IDLE: return "idle";
+    case NICOISETARN_KIND_FILLED: return "filled";
+    case NICOISETARN_KIND_FLUSHED: return "flushed";
+    case NICOISETARN_KIND_SHOWN: return "shown"; /* not printed by the player */
+    case NICOISETARN_KIND_READY: return "ready";
+    case NICOISETARN_KIND_NO_SUCH_CALL: return "no such call"; /* nor is this */
+    default: return "";
+    }
+}
+
+/* When a refusal is given, in the scope paper's words; empty where the library has no refusal of that number. */
+static inline const char *nicoisetarn_refusal_words(uint32_t number) {
+    switch (number) {
+    case NICOISETARN_REFUSED_FIGURES:
+        return "sets, ways, memory or cache length is not allowed, or a lent length disagrees with the state";
+    case NICOISETARN_REFUSED_WIDTH: return "width is not 1, 2 or 4";
+    case NICOISETARN_REFUSED_ALIGNMENT: return "address is not a multiple of width";
+    case NICOISETARN_REFUSED_ADDRESS: return "address + width exceeds memory length";
+    case NICOISETARN_REFUSED_VALUE: return "a stored value is 256 to the power width or more";
+    case NICOISETARN_REFUSED_STATE: return "state not well formed";
+    case NICOISETARN_REFUSED_STORES_FULL: return "store: 16 are held";
+    case NICOISETARN_REFUSED_LOADS_FULL: return "load: 8 are listed";
+    case NICOISETARN_REFUSED_NUMBERS: return "load or store: last is 4294967295";
+    case NICOISETARN_REFUSED_RETRY: return "inquiry: no waiting load of that number";
+    case NICOISETARN_REFUSED_COMMIT: return "commit: k is below h or above last";
+    case NICOISETARN_REFUSED_ABORT: return "abort: n is at most h or above last + 1";
+    case NICOISETARN_REFUSED_NO_REQUEST: return "reply: register free";
+    case NICOISETARN_REFUSED_FLUSH: return "flush: a committed store is held";
+    default: return "";
+    }
+}
+
 /* Call numbers of nicoisetarn_step_in, with the operands that each takes. */
 typedef enum nicoisetarn_call {
     NICOISETARN_CALL_LOAD = 0,     /* address, width */
@@ -170,12 +223,17 @@ static inline nicoisetarn_answer nicoisetarn_step(nicoisetarn_unit *unit, nicois
                                unit->cache, unit->cache_length, unit->memory, unit->memory_length);
 }
 
-/* ---- the calls by name; each may also be refused by 1 (lengths) or 10 (damaged or never started) */
+/* ---- the calls by name */
+
+/*
+ * Each but start and show line may also be refused by 1 (a length disagrees, or the image holds no allowed sets, ways
+ * and memory length: never started) or 10 (image, cache or memory is damaged).
+ */
 
 /*
  * Start, with these sets and ways: ready. The image becomes that of a unit with both queues empty, no line
- * present and last and committed number 0; the cache bytes become zero; the memory stays as found. It looks at no
- * earlier image.
+ * present and last and committed number 0; way w of each set has age w; the cache bytes become zero; the memory
+ * stays as found. It looks at no earlier image.
  * Refused by 1 alone: sets or ways is not allowed, the cache has not exactly sets * ways * 16 bytes, or the memory
  * is no multiple of 16 bytes from 16 to 65536. Image and cache then stay as they were.
  */
@@ -195,8 +253,7 @@ static inline nicoisetarn_answer nicoisetarn_load(nicoisetarn_unit *unit, uint32
 }
 
 /*
- * Store of the value's lowest width bytes, lowest byte first: it takes the next number and is held, uncommitted:
- * stored.
+ * Store of a value in width bytes, lowest byte first: it takes the next number and is held, uncommitted: stored.
  * Refused by 2 (width), 3 (alignment), 4 (address), 5 (value), 13 (no number left), 11 (16 stores are held).
  */
 static inline nicoisetarn_answer nicoisetarn_store(nicoisetarn_unit *unit, uint32_t address, uint32_t width,
@@ -214,8 +271,8 @@ static inline nicoisetarn_answer nicoisetarn_retry(nicoisetarn_unit *unit, uint3
 }
 
 /*
- * Commit of everything up to a number: committed. Answered loads up to it leave the queue, each using its line if
- * that is present; waiting ones stay.
+ * Commit of everything up to a number: committed. Answered loads up to it leave the queue in number order, each
+ * using its line if that is present; waiting ones stay.
  * Refused by 15: the number is below the committed one or above the last.
  */
 static inline nicoisetarn_answer nicoisetarn_commit(nicoisetarn_unit *unit, uint32_t number) {
@@ -234,9 +291,9 @@ static inline nicoisetarn_answer nicoisetarn_abort(nicoisetarn_unit *unit, uint3
 /*
  * Idle, the unit's background work, does the first of these that it can.
  * drained: the oldest held store is committed, no older load waits, and its line is present: it is written there,
- * and leaves the queue.
+ * the line becomes dirty and is used, and the store leaves the queue.
  * request: the miss register is free, and a committed load waits whose line is absent (the oldest such load), or
- * else the line of that store is absent: the line is asked for.
+ * else the oldest held store is committed, no older load waits and its line is absent: the line is asked for.
  * idle: there is nothing to do.
  */
 static inline nicoisetarn_answer nicoisetarn_idle(nicoisetarn_unit *unit) {
@@ -245,8 +302,8 @@ static inline nicoisetarn_answer nicoisetarn_idle(nicoisetarn_unit *unit) {
 
 /*
  * The memory's reply to the request: filled. The requested line is copied from memory into the lowest invalid way
- * of its set, else into the way of greatest age, whose line is written back first if it is dirty; the miss
- * register becomes free.
+ * of its set, else into the way of greatest age, whose line is written to memory first if it is dirty. The line is
+ * clean and used, and the miss register becomes free.
  * Refused by 17: the miss register is free.
  */
 static inline nicoisetarn_answer nicoisetarn_reply(nicoisetarn_unit *unit) {
@@ -310,7 +367,11 @@ typedef struct nicoisetarn_listed_load {
     uint32_t number, address, width, waiting;
 } nicoisetarn_listed_load;
 
-/* A tag record. valid, dirty: 0 or 1; age 0 is the line used last. */
+/*
+ * A tag record. valid, dirty: 0 or 1. A line is dirty when a store was written to it since it was filled or last
+ * flushed. age 0 is the way of its set used last; after a start way w has age w, invalid ways too. A use of a line
+ * gives its way age 0 and adds 1 to each smaller age of the set.
+ */
 typedef struct nicoisetarn_tag {
     uint32_t valid, dirty, line, age;
 } nicoisetarn_tag;
@@ -340,7 +401,7 @@ static inline uint32_t nicoisetarn_last(const nicoisetarn_image *image) {
     return nicoisetarn_number_at(image, NICOISETARN_AT_LAST);
 }
 
-/* The committed number: everything up to it is committed. */
+/* The committed number (the scope paper's h): everything up to it is committed. */
 static inline uint32_t nicoisetarn_committed(const nicoisetarn_image *image) {
     return nicoisetarn_number_at(image, NICOISETARN_AT_COMMITTED);
 }

@@ -12,7 +12,8 @@ use crate::boundary::{self, AnswerImage};
 #[derive(Clone, Copy, Debug, PartialEq, Eq, Hash)]
 #[repr(u32)]
 pub enum Refusal {
-    /// Sets, ways or a length is not allowed, or a lent length disagrees with the image.
+    /// Sets, ways or a length is not allowed, or a lent length disagrees with the image;
+    /// also a zeroed image that was never started.
     Figures = 1,
     /// Load or store: the width is not 1, 2 or 4.
     Width = 2,
@@ -22,7 +23,7 @@ pub enum Refusal {
     Address = 4,
     /// Store: the value is 256 to the power width or more.
     Value = 5,
-    /// The state is not well formed: it was damaged, or never started.
+    /// The state with its cache and memory is not well formed: it was damaged.
     State = 10,
     /// Store: 16 are held.
     StoresFull = 11,

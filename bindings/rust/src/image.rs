@@ -10,6 +10,10 @@ pub const LINE: usize = 16;
 pub const MAX_SETS: u32 = 64;
 /// The most ways that a start may choose.
 pub const MAX_WAYS: u32 = 4;
+/// The fewest bytes of memory; there may be any multiple of 16 from here to the most.
+pub const MIN_MEMORY: usize = 16;
+/// The most bytes of memory.
+pub const MAX_MEMORY: usize = 65536;
 /// Places of the tag table.
 pub const RECORDS: usize = 256;
 /// Places of the store queue.
@@ -24,6 +28,14 @@ pub struct Figures {
     pub sets: u32,
     /// Ways of each set: 1 to 4.
     pub ways: u32,
+}
+
+impl Figures {
+    /// Bytes of the cache that a start of these figures asks for, sets × ways × 16;
+    /// `usize::MAX` where that is more.
+    pub const fn cache_length(self) -> usize {
+        (self.sets as usize).saturating_mul(self.ways as usize).saturating_mul(LINE)
+    }
 }
 
 /// A held store; all zero where the place is free.
@@ -58,11 +70,13 @@ pub struct ListedLoad {
 pub struct Tag {
     /// A line is present here.
     pub valid: bool,
-    /// That line has bytes that memory has not.
+    /// A store was written to that line since it was filled or last flushed.
     pub dirty: bool,
     /// The line number: its first address divided by 16.
     pub line: u32,
-    /// 0 for the line of its set that was used last.
+    /// 0 for the way of its set that was used last; after a start way w has age w,
+    /// invalid ways too. A use of a line gives its way age 0 and adds 1 to each
+    /// smaller age of the set.
     pub age: u32,
 }
 
@@ -155,12 +169,13 @@ impl Image {
         self.last
     }
 
-    /// The committed number.
+    /// The committed number (the scope paper's h): everything up to it is committed.
     pub fn committed(&self) -> u32 {
         self.committed
     }
 
-    /// The line that the miss register names, or none where it is free.
+    /// The line number (first address / 16) that the miss register names, or none
+    /// where it is free.
     pub fn requested(&self) -> Option<u32> {
         (self.requested != 0).then_some(self.line)
     }

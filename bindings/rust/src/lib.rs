@@ -4,6 +4,9 @@
 //! A [`Unit`] owns all that it works on, and has a method for each call. A call
 //! that is refused says why and has changed nothing, byte for byte.
 //!
+//! Needs libnicoisetarn.a: `rt staticlib nicoisetarn`, or its folder in
+//! `NICOISETARN_LIB_DIR`.
+//!
 //! ```
 //! use nicoisetarn::{Answer, Figures, Refusal, Unit};
 //!
@@ -13,6 +16,22 @@
 //! assert_eq!(unit.load(5, 1)?, Answer::Waits(3));
 //! assert_eq!(unit.load(5, 3), Err(Refusal::Width));
 //! assert_eq!((unit.image().last(), unit.image().committed()), (3, 0));
+//! # Ok::<(), Refusal>(())
+//! ```
+//!
+//! A load that waits: commit it, idle (request), reply (filled), retry (value). An
+//! uncommitted load never asks for its line. An idle call may write an older store
+//! first (drained), and there is one request at a time.
+//!
+//! ```
+//! # use nicoisetarn::{Answer, Figures, Refusal, Unit};
+//! # let mut unit = Unit::start(Figures { sets: 1, ways: 1 }, vec![9; 32])?;
+//! assert_eq!(unit.load(20, 1)?, Answer::Waits(1));
+//! assert_eq!(unit.idle()?, Answer::Idle);
+//! assert_eq!(unit.commit(1)?, Answer::Committed(1));
+//! assert_eq!(unit.idle()?, Answer::Requested(16));
+//! assert_eq!(unit.reply()?, Answer::Filled(16));
+//! assert_eq!(unit.retry(1)?, Answer::Value { number: 1, value: 9 });
 //! # Ok::<(), Refusal>(())
 //! ```
 //!
@@ -44,6 +63,7 @@ mod unit;
 pub use answers::{Answer, Refusal};
 pub use calls::{Call, Part};
 pub use image::{
-    Figures, HeldStore, Image, ListedLoad, Tag, LINE, LOADS, MAX_SETS, MAX_WAYS, RECORDS, STORES,
+    Figures, HeldStore, Image, ListedLoad, Tag, LINE, LOADS, MAX_MEMORY, MAX_SETS, MAX_WAYS,
+    MIN_MEMORY, RECORDS, STORES,
 };
 pub use unit::Unit;

@@ -2,12 +2,12 @@
 
 use crate::answers::{Answer, Refusal};
 use crate::calls::{Call, Part};
-use crate::image::{Figures, Image, LINE, MAX_SETS, MAX_WAYS};
+use crate::image::{Figures, Image, MAX_SETS, MAX_WAYS};
 
 /// A load/store unit that owns its state, its cache and its memory.
 ///
-/// A refused call has changed nothing, byte for byte. After a start no call is
-/// refused by 1 or 10.
+/// A refused call has changed nothing, byte for byte. A unit that `start` made is
+/// never refused by 1 or 10.
 #[derive(Clone, Debug, PartialEq, Eq, Hash)]
 pub struct Unit {
     image: Image,
@@ -17,14 +17,15 @@ pub struct Unit {
 
 impl Unit {
     /// Start over a memory, which stays as found: both queues empty, no line
-    /// present, last and committed number 0.
+    /// present, last and committed number 0; way w of each set has age w.
     ///
     /// Refused by 1 alone: sets is not 1, 2, 4, 8, 16, 32 or 64, ways is not 1 to 4,
     /// or the memory is no multiple of 16 bytes from 16 to 65,536.
     pub fn start(figures: Figures, memory: Vec<u8>) -> Result<Unit, Refusal> {
         // Figures that are not allowed are refused whatever the cache is.
-        let (sets, ways) = (figures.sets.min(MAX_SETS), figures.ways.min(MAX_WAYS));
-        let mut cache = vec![0; sets as usize * ways as usize * LINE];
+        let bounded =
+            Figures { sets: figures.sets.min(MAX_SETS), ways: figures.ways.min(MAX_WAYS) };
+        let mut cache = vec![0; bounded.cache_length()];
         let image = Image::start(figures, &mut cache, &memory)?;
         Ok(Unit { image, cache, memory })
     }
@@ -50,12 +51,13 @@ impl Unit {
         &self.cache
     }
 
-    /// The memory bytes. Dirty lines are not yet in them: see [`Unit::flush`].
+    /// The memory bytes. Dirty lines are not yet in them (see [`Unit::flush`]), nor
+    /// are held stores.
     pub fn memory(&self) -> &[u8] {
         &self.memory
     }
 
-    /// Any call.
+    /// Any call but a start.
     pub fn call(&mut self, call: Call) -> Result<Answer, Refusal> {
         self.image.call(&mut self.cache, &mut self.memory, call)
     }
@@ -90,7 +92,8 @@ impl Unit {
     }
 
     /// Commit of everything up to a number: [`Answer::Committed`]. Answered loads up
-    /// to it leave the queue, each using its line if that is present.
+    /// to it leave the queue in number order, each using its line if that is present;
+    /// waiting ones stay.
     ///
     /// Refused by 15: the number is below the committed one or above the last.
     pub fn commit(&mut self, number: u32) -> Result<Answer, Refusal> {
@@ -105,23 +108,31 @@ impl Unit {
         self.call(Call::Abort(number))
     }
 
-    /// Idle, the background work: the oldest held store is drained, if it is
-    /// committed, no older load waits and its line is present ([`Answer::Drained`]);
-    /// else a line that a committed load or that store wants is requested
-    /// ([`Answer::Requested`]); else nothing ([`Answer::Idle`]).
+    /// Idle, the background work, does the first of these that it can.
+    ///
+    /// - [`Answer::Drained`]: the oldest held store is committed, no older load waits,
+    ///   and its line is present: it is written there, the line becomes dirty and is
+    ///   used, and the store leaves the queue.
+    /// - [`Answer::Requested`]: the miss register is free, and a committed load waits
+    ///   whose line is absent (the oldest such load), or else the oldest held store is
+    ///   committed, no older load waits and its line is absent: the line is asked for.
+    /// - [`Answer::Idle`]: there is nothing to do.
     pub fn idle(&mut self) -> Result<Answer, Refusal> {
         self.call(Call::Idle)
     }
 
-    /// The memory's reply: the requested line is filled, after its victim was
-    /// written back if that is dirty ([`Answer::Filled`]).
+    /// The memory's reply: [`Answer::Filled`]. The requested line is copied from memory
+    /// into the lowest invalid way of its set, else into the way of greatest age, whose
+    /// line is written to memory first if it is dirty. The line is clean and used, and
+    /// the miss register becomes free.
     ///
     /// Refused by 17: the miss register is free.
     pub fn reply(&mut self) -> Result<Answer, Refusal> {
         self.call(Call::Reply)
     }
 
-    /// Writes every dirty line to memory and marks it clean: [`Answer::Flushed`].
+    /// Writes every dirty line to memory and marks it clean: [`Answer::Flushed`]. Ages
+    /// stay.
     ///
     /// Refused by 18: a committed store is held.
     pub fn flush(&mut self) -> Result<Answer, Refusal> {

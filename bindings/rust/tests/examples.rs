@@ -4,7 +4,8 @@
 mod numbered;
 
 use nicoisetarn::{
-    Answer, Call, Figures, HeldStore, Image, ListedLoad, Part, Refusal, Tag, Unit, LINE,
+    Answer, Call, Figures, HeldStore, Image, ListedLoad, Part, Refusal, Tag, Unit, MAX_MEMORY,
+    MAX_SETS, MAX_WAYS, MIN_MEMORY,
 };
 
 const fn figures(sets: u32, ways: u32) -> Figures {
@@ -132,6 +133,10 @@ fn images_that_stand_for_no_state() {
     let (_, cache, memory) = unit.into_parts();
     let rubbish = Unit::from_parts(Image::from_bytes([0xA5; Image::SIZE]), cache, memory);
     refuses(&rubbish, Refusal::Figures, |u| u.idle());
+    let (_, cache, memory) = rubbish.into_parts();
+    let never_started = Unit::from_parts(Image::from_bytes([0; Image::SIZE]), cache, memory);
+    refuses(&never_started, Refusal::Figures, |u| u.idle());
+    assert_eq!(never_started.show_line(0), Part { place: 0, bytes: &[] });
 }
 
 /// A number that no call has: the library says so and changes nothing, also where
@@ -175,9 +180,21 @@ fn units_of_bad_figures() {
     for (sets, ways) in [(0, 1), (3, 1), (65, 4), (64, 5), (u32::MAX, u32::MAX), (1, 0)] {
         assert_eq!(Unit::start(figures(sets, ways), vec![0; 32]), Err(Refusal::Figures));
     }
-    assert_eq!(Unit::start(figures(1, 1), vec![0; 24]), Err(Refusal::Figures));
-    let most = Unit::start(figures(64, 4), vec![0; 65536]).unwrap();
-    assert_eq!(most.cache().len(), 64 * 4 * LINE);
+    for length in [MIN_MEMORY - 16, 24, MAX_MEMORY + 16] {
+        assert_eq!(Unit::start(figures(1, 1), vec![0; length]), Err(Refusal::Figures));
+    }
+}
+
+/// The smallest and the largest unit, and the cache bytes that each has.
+#[test]
+fn units_of_extreme_figures() {
+    let (least, most) = (figures(1, 1), figures(MAX_SETS, MAX_WAYS));
+    assert_eq!((least.cache_length(), most.cache_length()), (16, 4096));
+    for (figures, length) in [(least, MIN_MEMORY), (most, MAX_MEMORY)] {
+        let unit = Unit::start(figures, vec![0; length]).unwrap();
+        assert_eq!(unit.cache().len(), figures.cache_length());
+    }
+    assert_eq!(figures(u32::MAX, u32::MAX).cache_length(), usize::MAX);
 }
 
 #[test]
