@@ -423,7 +423,8 @@ module _ {b : Hierarchy} {s w k : ℕ} (h : Scanned b s w k) where
 
       module _ (few : b .figures .ways ≤ 4) (alone : r ≡ true) (apart : q ≡ true) where
         -- way j, which stands i places before way w
-        apart-at : (i m j : ℕ) → i + m ≡ 256 → 0 < i → j + i ≡ w → Clear (tagAt (b .tags) ((k + 255) % 256)) (tagAt (b .tags) ((k + 254) % 256)) (tagAt (b .tags) ((k + 253) % 256)) w (tagAt (b .tags) k) i (tagAt (b .tags) ((k + m) % 256)) → sameAgeOrLine (tag b s j) (tag b s w) ≡ false
+        apart-at : (i m j : ℕ) → i + m ≡ 256 → 0 < i → j + i ≡ w → Clear (tagAt (b .tags) ((k + 255) % 256)) (tagAt (b .tags) ((k + 254) % 256)) (tagAt (b .tags) ((k + 253) % 256)) w
+            (tagAt (b .tags) k) i (tagAt (b .tags) ((k + m) % 256)) → sameAgeOrLine (tag b s j) (tag b s w) ≡ false
         apart-at i m j e pos f g =
             let l : i ≤ w = omega arith in
             let z : w - i ≡ j = omega arith in

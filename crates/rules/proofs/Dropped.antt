@@ -39,7 +39,9 @@ squashed-self n w wf e = λ i. world (record {
   committed = w .queues .committed;
   request = w .queues .request;
   stores = sweep-none (youngStore n) noStore (goodStore (w .hierarchy) (w .queues .last)) (λ s g. lt-leb n (s .number) (omega (arith, store-low (w .hierarchy) (w .queues .last) s g))) (w .queues .stores) (parts (w .queues) (w .hierarchy) wf .stores-good) i;
-  loads = sweep-none (youngLoad n) noLoad (goodLoad (w .hierarchy) (w .queues .last) (w .queues .committed) (w .queues .stores)) (λ l g. lt-leb n (l .number) (omega (arith, load-low (w .hierarchy) (w .queues .last) (w .queues .committed) (w .queues .stores) l g))) (w .queues .loads) (parts (w .queues) (w .hierarchy) wf .loads-good) i;
+  loads = sweep-none (youngLoad n) noLoad (goodLoad (w .hierarchy) (w .queues .last) (w .queues .committed) (w .queues .stores))
+      (λ l g. lt-leb n (l .number) (omega (arith, load-low (w .hierarchy) (w .queues .last) (w .queues .committed) (w .queues .stores) l g))) (w .queues .loads)
+      (parts (w .queues) (w .hierarchy) wf .loads-good) i;
 })
     (w .hierarchy)
   where

@@ -215,4 +215,6 @@ whole q b p =
     (and-both _ _ (and-both _ _ (ss (storePasses b) (store-passes b (q .last))) (ls (loadPasses b) (load-passes b (q .last) (q .committed) (q .stores))))
     (and-both _ _ (ls (committedWaitAt (q .committed)) (load-waits b (q .last) (q .committed) (q .stores)))
     (and-both _ _ (ls (waitingUncoveredAt (q .stores)) (load-exposed b (q .last) (q .committed) (q .stores)))
-    (and-both (requestAbsent (q .request) b) _ (and-left (requestAbsent (q .request) b) (requestInside (q .request) b && requestWanted (q .request) q) (p .wanted)) (and-both (requestInside (q .request) b) _ (and-left (requestInside (q .request) b) _ w) (and-both (requestWanted (q .request) q) true (and-right (requestInside (q .request) b) _ w) refl)))))))))))))))
+    (and-both (requestAbsent (q .request) b) _ (and-left (requestAbsent (q .request) b) (requestInside (q .request) b && requestWanted (q .request) q) (p .wanted))
+    (and-both (requestInside (q .request) b) _ (and-left (requestInside (q .request) b) _ w)
+    (and-both (requestWanted (q .request) q) true (and-right (requestInside (q .request) b) _ w) refl)))))))))))))))

@@ -11,5 +11,14 @@ use Rattle.rules.specs.Runs.{startTags, started, startAllowed, unstarted
 use Rattle.rules.specs.Flat.{flatByte, applied, appliedAll, added, noted, history}
 
 unfoldable pub computed : Unit {0}
-unfolding any every ascending freeLast rising increasing first final filter select without shifted placed changed firstFrom allFrom someFrom greatestFrom stepsFrom eachFrom byteOf overlaid put valueAt addByte gather setsAllowed lineOf figuresAllowed fits holdsLine slotOf present placeOf cachedByte agedAt useSlot useLine putStore writeStore writtenBackAt writeBackSlot writeBackAll dirtyLines victim copiedAt install fillLine olderCovers loadByte loadValue someUncovered guarded committedStore waitingAt storeRule loadRule answerLoad retryWith retryRule answeredBy useEach commitRule squash abortRule waitsBelow storeReady wantsLine idleRule replyRule flushRule showRule zeroTag freeStoreZero freeLoadZero ageGood setAged linesInsideAt linesInSetAt linesOnceAt onlyValidDirtyAt invalidZeroAt invalidBytesAt cleanEqualAt alone storePasses loadPasses committedWaitAt waitingUncoveredAt requestAbsent requestInside waitsFor requestWanted linesFormed queuesFormed wellFormed startTags started startAllowed unstarted startAnswer startWorld outcome answer next answers after flatByte applied appliedAll added noted history
+unfolding any every ascending freeLast rising increasing first final filter select without shifted placed changed firstFrom
+    allFrom someFrom greatestFrom stepsFrom eachFrom byteOf overlaid put valueAt addByte gather setsAllowed lineOf
+    figuresAllowed fits holdsLine slotOf present placeOf cachedByte agedAt useSlot useLine putStore writeStore writtenBackAt
+    writeBackSlot writeBackAll dirtyLines victim copiedAt install fillLine olderCovers loadByte loadValue someUncovered
+    guarded committedStore waitingAt storeRule loadRule answerLoad retryWith retryRule answeredBy useEach commitRule squash
+    abortRule waitsBelow storeReady wantsLine idleRule replyRule flushRule showRule zeroTag freeStoreZero freeLoadZero
+    ageGood setAged linesInsideAt linesInSetAt linesOnceAt onlyValidDirtyAt invalidZeroAt invalidBytesAt cleanEqualAt alone
+    storePasses loadPasses committedWaitAt waitingUncoveredAt requestAbsent requestInside waitsFor requestWanted linesFormed
+    queuesFormed wellFormed startTags started startAllowed unstarted startAnswer startWorld outcome answer next answers
+    after flatByte applied appliedAll added noted history
 computed = tt

@@ -135,7 +135,10 @@ state-ref κ l δ h = MutRef (named 0) κ T.the-row .own (record { ptr = (l, 0);
 abbrev tokens3 : {M : Type 1} {𝓤 : URA M} → Lft → Lft → Lft → Share → Share → Share → Item 𝓤
 tokens3 κ₁ κ₂ κ₃ q₁ q₂ q₃ = ‵ (flft κ₁ q₁) ⊛ ‵ (flft κ₂ q₂) ⊛ ‵ (flft κ₃ q₃) ⊛ ‵ ftrue
 
-module _ {M : Type 1} (𝓤 : URA M) (H : Heap 𝓤) (A : Atoms 𝓤) (W : Given 𝓤 H A) (at-mem : Memory → SProp 𝓤) (run : Routine → Fun 𝓤) (κ-cache κ-memory : Lft) (q-cache q-memory : Share) (figures : Figures) (call : Call) (b-cache o-cache : ℕ) (γ-cache : GName) (cache : List ℕ) (b-memory o-memory : ℕ) (γ-memory : GName) (memory : List ℕ) (is-figures : Is Figures-T.the-row figures (LL.val Figures-T.the-type Figures-L.the-laws figures ∷ [])) (is-call : Is Call-T.the-row call (EL.val Call-T.the-type Call-L.the-laws call ∷ [])) (room-cache : Room u8 (length cache)) (room-memory : Room u8 (length memory)) where
+module _ {M : Type 1} (𝓤 : URA M) (H : Heap 𝓤) (A : Atoms 𝓤) (W : Given 𝓤 H A) (at-mem : Memory → SProp 𝓤) (run : Routine → Fun 𝓤) (κ-cache κ-memory : Lft) (q-cache q-memory : Share)
+    (figures : Figures) (call : Call) (b-cache o-cache : ℕ) (γ-cache : GName) (cache : List ℕ) (b-memory o-memory : ℕ) (γ-memory : GName) (memory : List ℕ)
+    (is-figures : Is Figures-T.the-row figures (LL.val Figures-T.the-type Figures-L.the-laws figures ∷ [])) (is-call : Is Call-T.the-row call (EL.val Call-T.the-type Call-L.the-laws call ∷ []))
+    (room-cache : Room u8 (length cache)) (room-memory : Room u8 (length memory)) where
   abbrev at-cache : GName → List ℕ → RefT (List ℕ)
   at-cache δ ys = record { ptr = (b-cache, o-cache); name = δ; now = ys }
 
@@ -164,12 +167,17 @@ module _ {M : Type 1} (𝓤 : URA M) (H : Heap 𝓤) (A : Atoms 𝓤) (W : Given
   Post = walkOf 𝓤 H A f.ended stayed (f.clauses 𝓤 H A at-mem run) .post (((κ-cache, (κ-memory, tt)), (q-cache, (q-memory, tt)), tt, arguments, values), tt)
 
   -- what is held at the end is what the contract promises
-  exits : (r₁ : StartAnswer) (r₂ : Answer) (cache′ memory′ : List ℕ) → Is B.the-row r₁ (valB r₁ ∷ []) → Is E.the-row r₂ (valE r₂ ∷ []) → ranOf (ran r₁ r₂) cache′ memory′ ≡ startThen figures (callOf call) cache memory → length cache′ ≡ length cache → length memory′ ≡ length memory
+  exits : (r₁ : StartAnswer) (r₂ : Answer) (cache′ memory′ : List ℕ) → Is B.the-row r₁ (valB r₁ ∷ []) → Is E.the-row r₂ (valE r₂ ∷ []) → ranOf (ran r₁ r₂) cache′ memory′ ≡ startThen figures
+      (callOf call) cache memory → length cache′ ≡ length cache → length memory′ ≡ length memory
       → ent 𝓤 (⋆ 𝓤 H A ((‵ (flft κ-cache q-cache) ⊛ ‵ (flft κ-memory q-memory) ⊛ ‵ ftrue) ∷ ‵ (finally u8 γ-cache cache′) ∷ ‵ (finally u8 γ-memory memory′) ∷ [])) (Post (vstruct (vcons (valB r₁) (vcons (valE r₂) vnil))))
   exits r₁ r₂ cache′ memory′ is₁ is₂ e len-cache len-memory =
       qed W ((‵ (flft κ-cache q-cache) ⊛ ‵ (flft κ-memory q-memory) ⊛ ‵ ftrue) ∷ ‵ (finally u8 γ-cache cache′) ∷ ‵ (finally u8 γ-memory memory′) ∷ []) ∵
-      suffices ! _ (ends-at 𝓤 H A f.ended stayed (f.clauses 𝓤 H A at-mem run) W (((κ-cache, (κ-memory, tt)), (q-cache, (q-memory, tt)), tt, arguments, values), tt) (vstruct (vcons (valB r₁) (vcons (valE r₂) vnil))) (ran r₁ r₂) (tt, (tt, (cache′, (memory′, tt)))) (tt, (tt, (len-cache, (len-memory, tt))))) $
-      says ! e $ frame ! $ nothing ! $ move ! (2 ∷ 0 ∷ []) $ fjoin ! $ move ! (1 ∷ 0 ∷ []) $ fjoin ! $ owned ! Call-T.the-row (Is Call-T.the-row) (EL.makes Call-T.the-type Call-L.the-plain 𝓤 H A) call _ is-call $ fjoin ! $ owned ! Figures-T.the-row (Is Figures-T.the-row) (LL.makes Figures-T.the-type Figures-L.the-plain 𝓤 H A) figures _ is-figures $ fjoin ! $ owned ! R.the-row (Is R.the-row) (LL.makes R.the-type R′.the-plain 𝓤 H A) (ran r₁ r₂) _ (ran-is r₁ r₂ is₁ is₂) $ move ! (1 ∷ 0 ∷ []) $ done !
+      suffices ! _ (ends-at 𝓤 H A f.ended stayed (f.clauses 𝓤 H A at-mem run) W (((κ-cache, (κ-memory, tt)), (q-cache, (q-memory, tt)), tt, arguments, values), tt)
+      (vstruct (vcons (valB r₁) (vcons (valE r₂) vnil))) (ran r₁ r₂) (tt, (tt, (cache′, (memory′, tt)))) (tt, (tt, (len-cache, (len-memory, tt))))) $
+      says ! e $ frame ! $ nothing ! $ move ! (2 ∷ 0 ∷ []) $ fjoin ! $ move ! (1 ∷ 0 ∷ []) $ fjoin ! $
+      owned ! Call-T.the-row (Is Call-T.the-row) (EL.makes Call-T.the-type Call-L.the-plain 𝓤 H A) call _ is-call $ fjoin ! $
+      owned ! Figures-T.the-row (Is Figures-T.the-row) (LL.makes Figures-T.the-type Figures-L.the-plain 𝓤 H A) figures _ is-figures $ fjoin ! $
+      owned ! R.the-row (Is R.the-row) (LL.makes R.the-type R′.the-plain 𝓤 H A) (ran r₁ r₂) _ (ran-is r₁ r₂ is₁ is₂) $ move ! (1 ∷ 0 ∷ []) $ done !
 
   -- ---- what each call asks
 
@@ -189,9 +197,13 @@ module _ {M : Type 1} (𝓤 : URA M) (H : Heap 𝓤) (A : Atoms 𝓤) (W : Given
   to-start α1 α2 α3 l γ1 γ2 γ3 h = (((α1 ∷ [], (α2 ∷ [], (α3 ∷ [], tt))), (fullShare, (fullShare, (fullShare, tt))), tt, start-args l γ1 γ2 γ3 h, start-values l), tt)
 
   asks-start : (α1 α2 α3 l : ℕ) (γ1 γ2 γ3 : GName) (h : State)
-      → ent 𝓤 (⋆ 𝓤 H A (tokens3 (α1 ∷ []) (α2 ∷ []) (α3 ∷ []) fullShare fullShare fullShare ∷ ‵ (owns (MutRef (named 0) (α1 ∷ []) T.the-row ∷ Figures-T.the-row ∷ MutSlice (named 1) (α2 ∷ []) u8 ∷ ShrSlice (named 2) (α3 ∷ []) u8 ∷ []) (start-args l γ1 γ2 γ3 h) (start-values l)) ∷ [])) (Start 𝓤 H A at-mem run .pre (to-start α1 α2 α3 l γ1 γ2 γ3 h))
+      → ent 𝓤 (⋆ 𝓤 H A (tokens3 (α1 ∷ []) (α2 ∷ []) (α3 ∷ []) fullShare fullShare fullShare ∷ ‵
+      (owns (MutRef (named 0) (α1 ∷ []) T.the-row ∷ Figures-T.the-row ∷ MutSlice (named 1) (α2 ∷ []) u8 ∷ ShrSlice (named 2) (α3 ∷ []) u8 ∷ []) (start-args l γ1 γ2 γ3 h) (start-values l)) ∷ []))
+      (Start 𝓤 H A at-mem run .pre (to-start α1 α2 α3 l γ1 γ2 γ3 h))
   asks-start α1 α2 α3 l γ1 γ2 γ3 h =
-      qed W (tokens3 (α1 ∷ []) (α2 ∷ []) (α3 ∷ []) fullShare fullShare fullShare ∷ ‵ (owns (MutRef (named 0) (α1 ∷ []) T.the-row ∷ Figures-T.the-row ∷ MutSlice (named 1) (α2 ∷ []) u8 ∷ ShrSlice (named 2) (α3 ∷ []) u8 ∷ []) (start-args l γ1 γ2 γ3 h) (start-values l)) ∷ []) ∵ join ! $ frame ! $ done !
+      qed W (tokens3 (α1 ∷ []) (α2 ∷ []) (α3 ∷ []) fullShare fullShare fullShare ∷ ‵
+      (owns (MutRef (named 0) (α1 ∷ []) T.the-row ∷ Figures-T.the-row ∷ MutSlice (named 1) (α2 ∷ []) u8 ∷ ShrSlice (named 2) (α3 ∷ []) u8 ∷ []) (start-args l γ1 γ2 γ3 h)
+      (start-values l)) ∷ []) ∵ join ! $ frame ! $ done !
 
   abbrev step-args : ℕ → GName → State → List ℕ → RefT State × (Call × (RefT (List ℕ) × (RefT (List ℕ) × Unit {0})))
   step-args l γ h cache₁ = (record { ptr = (l, 0); name = γ; now = h }, (call, (at-cache γ-cache cache₁, (at-memory γ-memory memory, tt))))
@@ -203,16 +215,28 @@ module _ {M : Type 1} (𝓤 : URA M) (H : Heap 𝓤) (A : Atoms 𝓤) (W : Given
   to-step β l γ h cache₁ = (((β ∷ [], (κ-cache, (κ-memory, tt))), (fullShare, (q-cache, (q-memory, tt))), tt, step-args l γ h cache₁, step-values l), tt)
 
   asks-step : (β l : ℕ) (γ : GName) (h : State) (cache₁ : List ℕ)
-      → ent 𝓤 (⋆ 𝓤 H A (tokens3 (β ∷ []) κ-cache κ-memory fullShare q-cache q-memory ∷ ‵ (owns (MutRef (named 0) (β ∷ []) T.the-row ∷ Call-T.the-row ∷ MutSlice (named 1) κ-cache u8 ∷ MutSlice (named 2) κ-memory u8 ∷ []) (step-args l γ h cache₁) (step-values l)) ∷ [])) (Step 𝓤 H A at-mem run .pre (to-step β l γ h cache₁))
+      → ent 𝓤 (⋆ 𝓤 H A (tokens3 (β ∷ []) κ-cache κ-memory fullShare q-cache q-memory ∷ ‵
+      (owns (MutRef (named 0) (β ∷ []) T.the-row ∷ Call-T.the-row ∷ MutSlice (named 1) κ-cache u8 ∷ MutSlice (named 2) κ-memory u8 ∷ []) (step-args l γ h cache₁) (step-values l)) ∷ []))
+      (Step 𝓤 H A at-mem run .pre (to-step β l γ h cache₁))
   asks-step β l γ h cache₁ =
-      qed W (tokens3 (β ∷ []) κ-cache κ-memory fullShare q-cache q-memory ∷ ‵ (owns (MutRef (named 0) (β ∷ []) T.the-row ∷ Call-T.the-row ∷ MutSlice (named 1) κ-cache u8 ∷ MutSlice (named 2) κ-memory u8 ∷ []) (step-args l γ h cache₁) (step-values l)) ∷ []) ∵ join ! $ frame ! $ done !
+      qed W (tokens3 (β ∷ []) κ-cache κ-memory fullShare q-cache q-memory ∷ ‵
+      (owns (MutRef (named 0) (β ∷ []) T.the-row ∷ Call-T.the-row ∷ MutSlice (named 1) κ-cache u8 ∷ MutSlice (named 2) κ-memory u8 ∷ []) (step-args l γ h cache₁)
+      (step-values l)) ∷ []) ∵ join ! $ frame ! $ done !
 
   module _ (C : Calls 𝓤 H) (Λ : Loops 𝓤 H) (fm : FmC 𝓤 H (W .laws) C) (known-none : Triple 𝓤 (C #none) (None 𝓤 H A at-mem run)) (known-start : Triple 𝓤 (C #start) (Start 𝓤 H A at-mem run)) (known-step : Triple 𝓤 (C #step) (Step 𝓤 H A at-mem run)) where
     walk : ent 𝓤 (onEntry 𝓤 H A f.signature (κ-cache, (κ-memory, tt)) (q-cache, (q-memory, tt)) arguments values) (WpFn 𝓤 H C Λ code.function (LL.val Figures-T.the-type Figures-L.the-laws figures ∷ EL.val Call-T.the-type Call-L.the-laws call ∷ val-cache ∷ val-memory ∷ []) Post)
     walk =
         qed W ((‵ (flft κ-cache q-cache) ⊛ ‵ (flft κ-memory q-memory) ⊛ ‵ ftrue) ∷ ‵ (owns (Figures-T.the-row ∷ Call-T.the-row ∷ MutSlice (named 0) κ-cache u8 ∷ MutSlice (named 1) κ-memory u8 ∷ []) arguments values) ∷ []) ∵
         enter ! C Λ code.function (LL.val Figures-T.the-type Figures-L.the-laws figures ∷ EL.val Call-T.the-type Call-L.the-laws call ∷ val-cache ∷ val-memory ∷ []) _ $
-        alloc1 ! (λ l0. alloc1 ! (λ l1. alloc1 ! (λ l2. alloc1 ! (λ l3. alloc1 ! (λ l4. alloc1 ! (λ l5. alloc1 ! (λ l6. alloc1 ! (λ l7. alloc1 ! (λ l8. alloc1 ! (λ l9. alloc1 ! (λ l10. alloc1 ! (λ l11. alloc1 ! (λ l12. alloc1 ! (λ l13. alloc1 ! (λ l14. alloc1 ! (λ l15. alloc1 ! (λ l16. alloc1 ! (λ l17. alloc1 ! (λ l18. alloc0 ! $ params1 ! $ pass1 ! (init ! 34 refl (LL.lawful Figures-T.the-type Figures-L.the-laws 𝓤 H A W .typed figures _ is-figures .0)) $ pass1 ! (init ! 32 refl (EL.lawful Call-T.the-type Call-L.the-laws 𝓤 H A W tt .typed call _ is-call .0)) $ pass1 ! (init ! 30 refl (tt, (tt, (record { fits = room-cache .0 }, tt)))) $ pass1 ! (init ! 28 refl (tt, (tt, (record { fits = room-memory .0 }, tt)))) $ pass0 ! $
+        alloc1 ! (λ l0. alloc1 ! (λ l1. alloc1 !
+        (λ l2. alloc1 ! (λ l3. alloc1 !
+        (λ l4. alloc1 ! (λ l5. alloc1 !
+        (λ l6. alloc1 ! (λ l7. alloc1 !
+        (λ l8. alloc1 ! (λ l9. alloc1 !
+        (λ l10. alloc1 ! (λ l11. alloc1 ! (λ l12. alloc1 ! (λ l13. alloc1 ! (λ l14. alloc1 ! (λ l15. alloc1 ! (λ l16. alloc1 ! (λ l17. alloc1 ! (λ l18. alloc0 ! $ params1 ! $
+        pass1 ! (init ! 34 refl (LL.lawful Figures-T.the-type Figures-L.the-laws 𝓤 H A W .typed figures _ is-figures .0)) $
+        pass1 ! (init ! 32 refl (EL.lawful Call-T.the-type Call-L.the-laws 𝓤 H A W tt .typed call _ is-call .0)) $ pass1 ! (init ! 30 refl (tt, (tt, (record { fits = room-cache .0 }, tt)))) $
+        pass1 ! (init ! 28 refl (tt, (tt, (record { fits = room-memory .0 }, tt)))) $ pass0 ! $
         move ! (39 ∷ []) $ fsplit ! $ drop ! $ fsplit ! $ drop ! $ fsplit ! $ move ! (1 ∷ []) $ fsplit ! $ move ! (1 ∷ []) $ drop ! $ move ! (40 ∷ []) $ split ! $ move ! (1 ∷ []) $ split ! $ move ! (1 ∷ []) $ drop ! $
         -- [the memory's token; the cache's token; the memory; the cache; _18; …; to _0; …]
         -- a state that is all zero, into its local
@@ -237,12 +261,27 @@ module _ {M : Type 1} (𝓤 : URA M) (H : Heap 𝓤) (A : Atoms 𝓤) (W : Given
         lft-new ! tt (λ α2.
         lft-new ! tt (λ α3.
         move ! (33 ∷ []) $ use1 W (later (some (λ (δ : GName). ‵ (state-ref (α1 ∷ []) l5 δ h) ⊛ ‵ (flent (α1 ∷ []) (Body (mem T.the-row) l5 0 δ))))) (lends-local 𝓤 H A W (named 0) (α1 ∷ []) l5 h (at-val h v is)) $ await ! tt $ pick ! (λ γ1. split ! $
-        move ! (8 ∷ 6 ∷ []) $ use2 W (later (some (λ (δ : GName). ‵ (MutSlice (named 1) (α2 ∷ []) u8 .own (at-cache δ cache) (val-cache ∷ [])) ⊛ ‵ (LentAgain u8 κ-cache (α2 ∷ []) q-cache γ-cache b-cache o-cache δ cache)))) (lends-again u8 κ-cache (α2 ∷ []) q-cache γ-cache b-cache o-cache 𝓤 H A W (named 0) (named 1) cache) $ await ! tt $ pick ! (λ γ2. split ! $
-        move ! (8 ∷ 7 ∷ []) $ use2 W (later (some (λ (δ : GName). ‵ (ShrSlice (named 2) (α3 ∷ []) u8 .own (at-memory δ memory) (val-memory ∷ [])) ⊛ ‵ (SharedAgain u8 κ-memory (α3 ∷ []) q-memory γ-memory b-memory o-memory memory)))) (shares-again u8 κ-memory (α3 ∷ []) q-memory γ-memory b-memory o-memory 𝓤 H A W (named 1) (named 2) memory) $ await ! tt $ pick ! (λ γ3. split ! $
-        nothing ! $ move ! (1 ∷ 0 ∷ []) $ fjoin ! $ move ! (2 ∷ 0 ∷ []) $ fjoin ! $ owned ! Figures-T.the-row (Is Figures-T.the-row) (LL.makes Figures-T.the-type Figures-L.the-plain 𝓤 H A) figures _ is-figures $ fjoin ! $ move ! (3 ∷ 0 ∷ []) $ fjoin ! $ nothing ! $ move ! (5 ∷ 0 ∷ []) $ join ! $ move ! (5 ∷ 0 ∷ []) $ join ! $ move ! (5 ∷ 0 ∷ []) $ join ! $ use2 W (raw (Start 𝓤 H A at-mem run .pre (to-start α1 α2 α3 l5 γ1 γ2 γ3 h))) (asks-start α1 α2 α3 l5 γ1 γ2 γ3 h) $
-        calls-at ! fm (Start 𝓤 H A at-mem run) known-start (to-start α1 α2 α3 l5 γ1 γ2 γ3 h) (and-then ! (load ! (from ! (stop !)) (look ! 22 refl)) (and-then ! (load ! (from ! (stop !)) (look ! 37 refl)) (and-then ! (load ! (from ! (stop !)) (look ! 18 refl)) (and-then ! (load ! (from ! (stop !)) (look ! 14 refl)) (no-more !))))) (λ v₁.
-        use1 W (later (some (λ (r : StartAnswer). (tokens3 (α1 ∷ []) (α2 ∷ []) (α3 ∷ []) fullShare fullShare fullShare ⊛ ‵ (B.the-row .own r (v₁ ∷ []))) ⊛ raw (ensured 𝓤 H A start.ended (start.clauses 𝓤 H A at-mem run) (α1 ∷ [], (α2 ∷ [], (α3 ∷ [], tt))) (start-args l5 γ1 γ2 γ3 h) tt r)))) (id⊢ 𝓤 _) $ await ! tt $ pick ! (λ r₁.
-        split ! $ move ! (1 ∷ []) $ use1 W (some (λ (zs₁ : State × (Unit {0} × (List ℕ × (Unit {0} × Unit {0})))). ‵ (lasts start.ended (α1 ∷ [], (α2 ∷ [], (α3 ∷ [], tt))) (start-args l5 γ1 γ2 γ3 h) zs₁) ⊛ raw (fact 𝓤 (StartFact h figures cache memory r₁ (zs₁ .0) (zs₁ .1 .1 .0))))) (id⊢ 𝓤 _) $ pick ! (λ zs₁.
+        move ! (8 ∷ 6 ∷ []) $
+        use2 W (later (some (λ (δ : GName). ‵ (MutSlice (named 1) (α2 ∷ []) u8 .own (at-cache δ cache) (val-cache ∷ [])) ⊛ ‵
+        (LentAgain u8 κ-cache (α2 ∷ []) q-cache γ-cache b-cache o-cache δ cache)))) (lends-again u8 κ-cache (α2 ∷ []) q-cache γ-cache b-cache o-cache 𝓤 H A W (named 0) (named 1) cache) $
+        await ! tt $ pick ! (λ γ2. split ! $
+        move ! (8 ∷ 7 ∷ []) $
+        use2 W (later (some (λ (δ : GName). ‵ (ShrSlice (named 2) (α3 ∷ []) u8 .own (at-memory δ memory) (val-memory ∷ [])) ⊛ ‵
+        (SharedAgain u8 κ-memory (α3 ∷ []) q-memory γ-memory b-memory o-memory memory))))
+        (shares-again u8 κ-memory (α3 ∷ []) q-memory γ-memory b-memory o-memory 𝓤 H A W (named 1) (named 2) memory) $ await ! tt $ pick ! (λ γ3. split ! $
+        nothing ! $ move ! (1 ∷ 0 ∷ []) $ fjoin ! $ move ! (2 ∷ 0 ∷ []) $ fjoin ! $
+        owned ! Figures-T.the-row (Is Figures-T.the-row) (LL.makes Figures-T.the-type Figures-L.the-plain 𝓤 H A) figures _ is-figures $ fjoin ! $ move ! (3 ∷ 0 ∷ []) $ fjoin ! $ nothing ! $
+        move ! (5 ∷ 0 ∷ []) $ join ! $ move ! (5 ∷ 0 ∷ []) $ join ! $ move ! (5 ∷ 0 ∷ []) $ join ! $
+        use2 W (raw (Start 𝓤 H A at-mem run .pre (to-start α1 α2 α3 l5 γ1 γ2 γ3 h))) (asks-start α1 α2 α3 l5 γ1 γ2 γ3 h) $
+        calls-at ! fm (Start 𝓤 H A at-mem run) known-start (to-start α1 α2 α3 l5 γ1 γ2 γ3 h)
+        (and-then ! (load ! (from ! (stop !)) (look ! 22 refl))
+        (and-then ! (load ! (from ! (stop !)) (look ! 37 refl)) (and-then ! (load ! (from ! (stop !)) (look ! 18 refl)) (and-then ! (load ! (from ! (stop !)) (look ! 14 refl)) (no-more !)))))
+        (λ v₁.
+        use1 W (later (some (λ (r : StartAnswer). (tokens3 (α1 ∷ []) (α2 ∷ []) (α3 ∷ []) fullShare fullShare fullShare ⊛ ‵ (B.the-row .own r (v₁ ∷ []))) ⊛ raw
+        (ensured 𝓤 H A start.ended (start.clauses 𝓤 H A at-mem run) (α1 ∷ [], (α2 ∷ [], (α3 ∷ [], tt))) (start-args l5 γ1 γ2 γ3 h) tt r)))) (id⊢ 𝓤 _) $ await ! tt $ pick ! (λ r₁.
+        split ! $ move ! (1 ∷ []) $
+        use1 W (some (λ (zs₁ : State × (Unit {0} × (List ℕ × (Unit {0} × Unit {0})))). ‵ (lasts start.ended (α1 ∷ [], (α2 ∷ [], (α3 ∷ [], tt))) (start-args l5 γ1 γ2 γ3 h) zs₁) ⊛ raw
+        (fact 𝓤 (StartFact h figures cache memory r₁ (zs₁ .0) (zs₁ .1 .1 .0))))) (id⊢ 𝓤 _) $ pick ! (λ zs₁.
         split ! $ move ! (1 ∷ []) $ heard ! (StartFact h figures cache memory r₁ (zs₁ .0) (zs₁ .1 .1 .0)) (λ e₁.
         fsplit ! $ move ! (1 ∷ []) $ fsplit ! $ drop ! $ fsplit ! $ fsplit ! $ move ! (1 ∷ []) $ feqL ! (λ len₁.
         move ! (1 ∷ []) $ drop ! $ move ! (2 ∷ []) $ split ! $ move ! (1 ∷ []) $ peeks ! B.the-row (Is B.the-row) (shows 𝓤 H A B.the-row) r₁ (v₁ ∷ []) (λ is₁.
@@ -253,8 +292,12 @@ module _ {M : Type 1} (𝓤 : URA M) (H : Heap 𝓤) (A : Atoms 𝓤) (W : Given
         -- the lifetimes are ended, and what was lent comes back
         split ! $ lft-end ! tt $ move ! (1 ∷ []) $ split ! $ lft-end ! tt $ move ! (1 ∷ []) $ split ! $ lft-end ! tt $ move ! (1 ∷ []) $ drop ! $
         move ! (2 ∷ 7 ∷ 4 ∷ []) $ use3 W (later (given (Is T.the-row (zs₁ .0) (valT (zs₁ .0) ∷ [])) (‵ (Holds l5 (zs₁ .0))))) (local-back 𝓤 H A W (named 0) (α1 ∷ []) l5 (zs₁ .0) γ1) $ await ! tt $ learn ! (λ was₁.
-        move ! (2 ∷ 5 ∷ 3 ∷ []) $ use3 W (later (‵ (MutSlice (named 0) κ-cache u8 .own (at-cache γ-cache (zs₁ .1 .1 .0)) (val-cache ∷ [])) ⊛ ‵ (flft κ-cache q-cache))) (comes-back u8 κ-cache (α2 ∷ []) q-cache γ-cache b-cache o-cache 𝓤 H A W (named 0) (named 1) cache γ2 (zs₁ .1 .1 .0) room-cache len₁) $ await ! tt $ split ! $
-        move ! (3 ∷ 4 ∷ []) $ use2 W (later (‵ (MutSlice (named 1) κ-memory u8 .own (at-memory γ-memory memory) (val-memory ∷ [])) ⊛ ‵ (flft κ-memory q-memory))) (shared-back u8 κ-memory (α3 ∷ []) q-memory γ-memory b-memory o-memory 𝓤 H A W (named 1) (named 2) memory room-memory) $ await ! tt $ split ! $
+        move ! (2 ∷ 5 ∷ 3 ∷ []) $
+        use3 W (later (‵ (MutSlice (named 0) κ-cache u8 .own (at-cache γ-cache (zs₁ .1 .1 .0)) (val-cache ∷ [])) ⊛ ‵ (flft κ-cache q-cache)))
+        (comes-back u8 κ-cache (α2 ∷ []) q-cache γ-cache b-cache o-cache 𝓤 H A W (named 0) (named 1) cache γ2 (zs₁ .1 .1 .0) room-cache len₁) $ await ! tt $ split ! $
+        move ! (3 ∷ 4 ∷ []) $
+        use2 W (later (‵ (MutSlice (named 1) κ-memory u8 .own (at-memory γ-memory memory) (val-memory ∷ [])) ⊛ ‵ (flft κ-memory q-memory)))
+        (shared-back u8 κ-memory (α3 ∷ []) q-memory γ-memory b-memory o-memory 𝓤 H A W (named 1) (named 2) memory room-memory) $ await ! tt $ split ! $
         -- [the memory; the memory's token; the cache; the cache's token; _5; _18; …; to _6; …; room of _5; _4; …; to _0; …]
         -- `step_in`: the state is lent once more, the cache and the memory go to it for good
         assigns ! (addr ! (from ! (stop !))) (from ! (stop !)) (init ! 13 refl (tt, tt)) $
@@ -264,10 +307,18 @@ module _ {M : Type 1} (𝓤 : URA M) (H : Heap 𝓤) (A : Atoms 𝓤) (W : Given
         assigns ! (agg ! (and-then ! (load ! (from ! (stop !)) (look ! 7 refl)) (and-then ! (load ! (from ! (fld ! refl (stop !))) (look-in ! 32 (sub ! 1 refl (whole !)))) (no-more !)))) (from ! (stop !)) (init ! 5 refl (tt, (tt, (record { fits = room-memory .0 }, tt)))) $
         lft-new ! tt (λ β.
         move ! (5 ∷ []) $ use1 W (later (some (λ (δ : GName). ‵ (state-ref (β ∷ []) l5 δ (zs₁ .0)) ⊛ ‵ (flent (β ∷ []) (Body (mem T.the-row) l5 0 δ))))) (lends-local 𝓤 H A W (named 0) (β ∷ []) l5 (zs₁ .0) was₁) $ await ! tt $ pick ! (λ γ4. split ! $
-        nothing ! $ move ! (4 ∷ 0 ∷ []) $ fjoin ! $ move ! (5 ∷ 0 ∷ []) $ fjoin ! $ owned ! Call-T.the-row (Is Call-T.the-row) (EL.makes Call-T.the-type Call-L.the-plain 𝓤 H A) call _ is-call $ fjoin ! $ move ! (1 ∷ 0 ∷ []) $ fjoin ! $ nothing ! $ move ! (4 ∷ 0 ∷ []) $ join ! $ move ! (4 ∷ 0 ∷ []) $ join ! $ move ! (3 ∷ 0 ∷ []) $ join ! $ use2 W (raw (Step 𝓤 H A at-mem run .pre (to-step β l5 γ4 (zs₁ .0) (zs₁ .1 .1 .0)))) (asks-step β l5 γ4 (zs₁ .0) (zs₁ .1 .1 .0)) $
-        calls-at ! fm (Step 𝓤 H A at-mem run) known-step (to-step β l5 γ4 (zs₁ .0) (zs₁ .1 .1 .0)) (and-then ! (load ! (from ! (stop !)) (look ! 10 refl)) (and-then ! (load ! (from ! (stop !)) (look ! 33 refl)) (and-then ! (load ! (from ! (stop !)) (look ! 6 refl)) (and-then ! (load ! (from ! (stop !)) (look ! 2 refl)) (no-more !))))) (λ v₂.
-        use1 W (later (some (λ (r : Answer). (tokens3 (β ∷ []) κ-cache κ-memory fullShare q-cache q-memory ⊛ ‵ (E.the-row .own r (v₂ ∷ []))) ⊛ raw (ensured 𝓤 H A step.ended (step.clauses 𝓤 H A at-mem run) (β ∷ [], (κ-cache, (κ-memory, tt))) (step-args l5 γ4 (zs₁ .0) (zs₁ .1 .1 .0)) tt r)))) (id⊢ 𝓤 _) $ await ! tt $ pick ! (λ r₂.
-        split ! $ move ! (1 ∷ []) $ use1 W (some (λ (zs₂ : State × (Unit {0} × (List ℕ × (List ℕ × Unit {0})))). ‵ (lasts step.ended (β ∷ [], (κ-cache, (κ-memory, tt))) (step-args l5 γ4 (zs₁ .0) (zs₁ .1 .1 .0)) zs₂) ⊛ raw (fact 𝓤 (StepFact (zs₁ .0) call (zs₁ .1 .1 .0) memory r₂ (zs₂ .0) (zs₂ .1 .1 .0) (zs₂ .1 .1 .1 .0))))) (id⊢ 𝓤 _) $ pick ! (λ zs₂.
+        nothing ! $ move ! (4 ∷ 0 ∷ []) $ fjoin ! $ move ! (5 ∷ 0 ∷ []) $ fjoin ! $ owned ! Call-T.the-row (Is Call-T.the-row) (EL.makes Call-T.the-type Call-L.the-plain 𝓤 H A) call _ is-call $
+        fjoin ! $ move ! (1 ∷ 0 ∷ []) $ fjoin ! $ nothing ! $ move ! (4 ∷ 0 ∷ []) $ join ! $ move ! (4 ∷ 0 ∷ []) $ join ! $ move ! (3 ∷ 0 ∷ []) $ join ! $
+        use2 W (raw (Step 𝓤 H A at-mem run .pre (to-step β l5 γ4 (zs₁ .0) (zs₁ .1 .1 .0)))) (asks-step β l5 γ4 (zs₁ .0) (zs₁ .1 .1 .0)) $
+        calls-at ! fm (Step 𝓤 H A at-mem run) known-step (to-step β l5 γ4 (zs₁ .0) (zs₁ .1 .1 .0))
+        (and-then ! (load ! (from ! (stop !)) (look ! 10 refl))
+        (and-then ! (load ! (from ! (stop !)) (look ! 33 refl)) (and-then ! (load ! (from ! (stop !)) (look ! 6 refl)) (and-then ! (load ! (from ! (stop !)) (look ! 2 refl)) (no-more !)))))
+        (λ v₂.
+        use1 W (later (some (λ (r : Answer). (tokens3 (β ∷ []) κ-cache κ-memory fullShare q-cache q-memory ⊛ ‵ (E.the-row .own r (v₂ ∷ []))) ⊛ raw
+        (ensured 𝓤 H A step.ended (step.clauses 𝓤 H A at-mem run) (β ∷ [], (κ-cache, (κ-memory, tt))) (step-args l5 γ4 (zs₁ .0) (zs₁ .1 .1 .0)) tt r)))) (id⊢ 𝓤 _) $ await ! tt $ pick ! (λ r₂.
+        split ! $ move ! (1 ∷ []) $
+        use1 W (some (λ (zs₂ : State × (Unit {0} × (List ℕ × (List ℕ × Unit {0})))). ‵ (lasts step.ended (β ∷ [], (κ-cache, (κ-memory, tt))) (step-args l5 γ4 (zs₁ .0) (zs₁ .1 .1 .0)) zs₂) ⊛ raw
+        (fact 𝓤 (StepFact (zs₁ .0) call (zs₁ .1 .1 .0) memory r₂ (zs₂ .0) (zs₂ .1 .1 .0) (zs₂ .1 .1 .1 .0))))) (id⊢ 𝓤 _) $ pick ! (λ zs₂.
         split ! $ move ! (1 ∷ []) $ heard ! (StepFact (zs₁ .0) call (zs₁ .1 .1 .0) memory r₂ (zs₂ .0) (zs₂ .1 .1 .0) (zs₂ .1 .1 .1 .0)) (λ e₂.
         fsplit ! $ move ! (1 ∷ []) $ fsplit ! $ drop ! $ fsplit ! $ fsplit ! $ move ! (1 ∷ []) $ feqL ! (λ len₂.
         move ! (1 ∷ []) $ fsplit ! $ fsplit ! $ move ! (1 ∷ []) $ feqL ! (λ len₃.
@@ -279,21 +330,34 @@ module _ {M : Type 1} (𝓤 : URA M) (H : Heap 𝓤) (A : Atoms 𝓤) (W : Given
         move ! (0 ∷ 5 ∷ 4 ∷ []) $ use3 W (later (given (Is T.the-row (zs₂ .0) (valT (zs₂ .0) ∷ [])) (‵ (Holds l5 (zs₂ .0))))) (local-back 𝓤 H A W (named 0) (β ∷ []) l5 (zs₂ .0) γ4) $ await ! tt $ learn ! (λ was₂.
         -- [_5; the tokens; the memory; the cache; _18; …; to _6; …; room of _5; _4; …; to _0; …]
         -- both answers are returned
-        assigns ! (agg ! (and-then ! (load ! (from ! (stop !)) (look ! 28 refl)) (and-then ! (load ! (from ! (stop !)) (look ! 26 refl)) (no-more !)))) (from ! (stop !)) (init ! 39 refl (LL.lawful R.the-type R′.the-laws 𝓤 H A W .typed (ran r₁ r₂) _ (ran-is r₁ r₂ (start-at r₁ v₁ is₁) (step-at r₂ v₂ is₂)) .0)) $
-        returns ! (look ! 39 refl) $ forget ! 4 refl $ forget ! 6 refl $ forget ! 8 refl $ forget ! 10 refl $ forget ! 12 refl $ forget ! 14 refl $ forget ! 16 refl $ forget ! 18 refl $ forget ! 20 refl $ forget ! 22 refl $ forget ! 24 refl $ forget ! 26 refl $ forget ! 28 refl $ forget ! 0 refl $ forget ! 31 refl $ forget ! 33 refl $ forget ! 35 refl $ forget ! 37 refl $ forget ! 39 refl $
-        move ! (39 ∷ 40 ∷ []) $ free1 ! $ move ! (37 ∷ 38 ∷ []) $ free1 ! $ move ! (35 ∷ 36 ∷ []) $ free1 ! $ move ! (33 ∷ 34 ∷ []) $ free1 ! $ move ! (31 ∷ 32 ∷ []) $ free1 ! $ move ! (0 ∷ 30 ∷ []) $ free1 ! $ move ! (27 ∷ 28 ∷ []) $ free1 ! $ move ! (25 ∷ 26 ∷ []) $ free1 ! $ move ! (23 ∷ 24 ∷ []) $ free1 ! $ move ! (21 ∷ 22 ∷ []) $ free1 ! $ move ! (19 ∷ 20 ∷ []) $ free1 ! $ move ! (17 ∷ 18 ∷ []) $ free1 ! $ move ! (15 ∷ 16 ∷ []) $ free1 ! $ move ! (13 ∷ 14 ∷ []) $ free1 ! $ move ! (11 ∷ 12 ∷ []) $ free1 ! $ move ! (9 ∷ 10 ∷ []) $ free1 ! $ move ! (7 ∷ 8 ∷ []) $ free1 ! $ move ! (5 ∷ 6 ∷ []) $ free1 ! $ move ! (3 ∷ 4 ∷ []) $ free1 ! $ free0 ! $ keep ! (0 ∷ 2 ∷ 1 ∷ []) $ by ! (exits r₁ r₂ (zs₂ .1 .1 .0) (zs₂ .1 .1 .1 .0) (start-at r₁ v₁ is₁) (step-at r₂ v₂ is₂) (start-then h figures call cache memory r₁ (zs₁ .0) (zs₁ .1 .1 .0) r₂ (zs₂ .0) (zs₂ .1 .1 .0) (zs₂ .1 .1 .1 .0) zero e₁ e₂) (len₂ ∙ len₁) len₃))))))))))))))))))))))))))))))))))))))))))))))))
+        assigns ! (agg ! (and-then ! (load ! (from ! (stop !)) (look ! 28 refl)) (and-then ! (load ! (from ! (stop !)) (look ! 26 refl)) (no-more !)))) (from ! (stop !))
+        (init ! 39 refl (LL.lawful R.the-type R′.the-laws 𝓤 H A W .typed (ran r₁ r₂) _ (ran-is r₁ r₂ (start-at r₁ v₁ is₁) (step-at r₂ v₂ is₂)) .0)) $
+        returns ! (look ! 39 refl) $ forget ! 4 refl $ forget ! 6 refl $ forget ! 8 refl $ forget ! 10 refl $ forget ! 12 refl $ forget ! 14 refl $ forget ! 16 refl $ forget ! 18 refl $
+        forget ! 20 refl $ forget ! 22 refl $ forget ! 24 refl $ forget ! 26 refl $ forget ! 28 refl $ forget ! 0 refl $ forget ! 31 refl $ forget ! 33 refl $ forget ! 35 refl $ forget ! 37 refl $
+        forget ! 39 refl $
+        move ! (39 ∷ 40 ∷ []) $ free1 ! $ move ! (37 ∷ 38 ∷ []) $ free1 ! $ move ! (35 ∷ 36 ∷ []) $ free1 ! $ move ! (33 ∷ 34 ∷ []) $ free1 ! $ move ! (31 ∷ 32 ∷ []) $ free1 ! $
+        move ! (0 ∷ 30 ∷ []) $ free1 ! $ move ! (27 ∷ 28 ∷ []) $ free1 ! $ move ! (25 ∷ 26 ∷ []) $ free1 ! $ move ! (23 ∷ 24 ∷ []) $ free1 ! $ move ! (21 ∷ 22 ∷ []) $ free1 ! $
+        move ! (19 ∷ 20 ∷ []) $ free1 ! $ move ! (17 ∷ 18 ∷ []) $ free1 ! $ move ! (15 ∷ 16 ∷ []) $ free1 ! $ move ! (13 ∷ 14 ∷ []) $ free1 ! $ move ! (11 ∷ 12 ∷ []) $ free1 ! $
+        move ! (9 ∷ 10 ∷ []) $ free1 ! $ move ! (7 ∷ 8 ∷ []) $ free1 ! $ move ! (5 ∷ 6 ∷ []) $ free1 ! $ move ! (3 ∷ 4 ∷ []) $ free1 ! $ free0 ! $ keep ! (0 ∷ 2 ∷ 1 ∷ []) $
+        by ! (exits r₁ r₂ (zs₂ .1 .1 .0) (zs₂ .1 .1 .1 .0) (start-at r₁ v₁ is₁) (step-at r₂ v₂ is₂)
+        (start-then h figures call cache memory r₁ (zs₁ .0) (zs₁ .1 .1 .0) r₂ (zs₂ .0) (zs₂ .1 .1 .0) (zs₂ .1 .1 .1 .0) zero e₁ e₂)
+        (len₂ ∙ len₁) len₃))))))))))))))))))))))))))))))))))))))))))))))))
 
 module _ {M : Type 1} (𝓤 : URA M) (H : Heap 𝓤) (A : Atoms 𝓤) (W : Given 𝓤 H A) (at-mem : Memory → SProp 𝓤) (run : Routine → Fun 𝓤) where
-  walks : (C : Calls 𝓤 H) (Λ : Loops 𝓤 H) → FmC 𝓤 H (W .laws) C → Triple 𝓤 (C #none) (None 𝓤 H A at-mem run) → Triple 𝓤 (C #start) (Start 𝓤 H A at-mem run) → Triple 𝓤 (C #step) (Step 𝓤 H A at-mem run) → Walks 𝓤 H A f.ended stayed (WpFn 𝓤 H C Λ code.function) (f.clauses 𝓤 H A at-mem run)
+  walks : (C : Calls 𝓤 H) (Λ : Loops 𝓤 H) → FmC 𝓤 H (W .laws) C → Triple 𝓤 (C #none) (None 𝓤 H A at-mem run) → Triple 𝓤 (C #start) (Start 𝓤 H A at-mem run) → Triple 𝓤 (C #step)
+      (Step 𝓤 H A at-mem run) → Walks 𝓤 H A f.ended stayed (WpFn 𝓤 H C Λ code.function) (f.clauses 𝓤 H A at-mem run)
   walks C Λ fm none-known start-known step-known = walked 𝓤 H A f.ended stayed (f.clauses 𝓤 H A at-mem run) (WpFn 𝓤 H C Λ code.function)
       (λ κs. (LL.vals Figures-T.the-type Figures-L.the-laws, (EL.vals Call-T.the-type Call-L.the-laws, (slice-vals, (slice-vals, tt)))))
       (λ κs. (LL.tells Figures-T.the-type Figures-L.the-laws, (EL.tells Call-T.the-type Call-L.the-laws, (mut-slice-tells (named 0) (κs .0) u8, (mut-slice-tells (named 1) (κs .1 .0) u8, tt)))))
-      (λ κs qs bounds a _ are. via 𝓤 _ (fst∗ 𝓤 _ (emp 𝓤)) (walk 𝓤 H A W at-mem run (κs .0) (κs .1 .0) (qs .0) (qs .1 .0) (a .0) (a .1 .0) (a .1 .1 .0 .ptr .0) (a .1 .1 .0 .ptr .1) (a .1 .1 .0 .name) (a .1 .1 .0 .now) (a .1 .1 .1 .0 .ptr .0) (a .1 .1 .1 .0 .ptr .1) (a .1 .1 .1 .0 .name) (a .1 .1 .1 .0 .now) (are .0) (are .1 .0) (are .1 .1 .0 .0 .1) (are .1 .1 .1 .0 .0 .1) C Λ fm none-known start-known step-known))
+      (λ κs qs bounds a _ are. via 𝓤 _ (fst∗ 𝓤 _ (emp 𝓤))
+      (walk 𝓤 H A W at-mem run (κs .0) (κs .1 .0) (qs .0) (qs .1 .0) (a .0) (a .1 .0) (a .1 .1 .0 .ptr .0) (a .1 .1 .0 .ptr .1) (a .1 .1 .0 .name) (a .1 .1 .0 .now) (a .1 .1 .1 .0 .ptr .0)
+      (a .1 .1 .1 .0 .ptr .1) (a .1 .1 .1 .0 .name) (a .1 .1 .1 .0 .now) (are .0) (are .1 .0) (are .1 .1 .0 .0 .1) (are .1 .1 .1 .0 .0 .1) C Λ fm none-known start-known step-known))
 
   goes : AllGo 𝓤 H A W 2 (f.signature .params) (f.ended .kept) stayed
   goes = (goes-none 𝓤 H A W 2 (λ _. Figures-T.the-row) yes (λ κs x f. refl), (goes-none 𝓤 H A W 2 (λ _. Call-T.the-row) yes (λ κs x f. refl), (goes-gave-slice 𝓤 H A W 2 0 tt (plain (λ _. u8)), (goes-gave-slice 𝓤 H A W 2 1 tt (plain (λ _. u8)), tt))))
 
-meets : {M : Type 1} (𝓤 : URA M) (H : Heap 𝓤) (A : Atoms 𝓤) → Given 𝓤 H A → (at-mem : Memory → SProp 𝓤) (run : Routine → Fun 𝓤) (𝓣 : Tables 𝓤 H) → Triple 𝓤 (𝓣 .C #none) (None 𝓤 H A at-mem run) → Triple 𝓤 (𝓣 .C #start) (Start 𝓤 H A at-mem run) → Triple 𝓤 (𝓣 .C #step) (Step 𝓤 H A at-mem run)
+meets : {M : Type 1} (𝓤 : URA M) (H : Heap 𝓤) (A : Atoms 𝓤) → Given 𝓤 H A → (at-mem : Memory → SProp 𝓤) (run : Routine → Fun 𝓤) (𝓣 : Tables 𝓤 H) → Triple 𝓤 (𝓣 .C #none)
+    (None 𝓤 H A at-mem run) → Triple 𝓤 (𝓣 .C #start) (Start 𝓤 H A at-mem run) → Triple 𝓤 (𝓣 .C #step) (Step 𝓤 H A at-mem run)
     → Meets 𝓤 H A f.signature (WpFn 𝓤 H (𝓣 .C) (𝓣 .Λ) code.function) (f.spec 𝓤 H A at-mem run)
 meets 𝓤 H A W at-mem run 𝓣 none-known start-known step-known = walk-meets 𝓤 H A f.ended stayed W (goes 𝓤 H A W at-mem run) (f.clauses 𝓤 H A at-mem run) (WpFn 𝓤 H (𝓣 .C) (𝓣 .Λ) code.function) (WpFn-mono 𝓤 H (W .laws) 𝓣 code.function)
     (walks 𝓤 H A W at-mem run (𝓣 .C) (𝓣 .Λ) (fmOf 𝓤 H (W .laws) 𝓣) none-known start-known step-known)
