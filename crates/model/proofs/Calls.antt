@@ -6,7 +6,7 @@ use mathlib.Core.List.{List, [], _∷_, _++_}
 use native.Mathlib.Omega.{arith}
 use lib.Dec.{ltb}
 use borrow.Author.Tests.{ltb-true, ltb-false, le-leb, lt-leb, eq-eqb, ne-eqb}
-use Rattle.lists.proofs.Cond.{cases}
+use Rattle.lists.proofs.Cond.{cases, and-left}
 use Rattle.rules.specs.Shape.{Queues, Hierarchy, fits, topNumber, isFreeStore, isFreeLoad}
 use Rattle.lists.specs.Padded.{any}
 use Rattle.rules.specs.Calls.{Call, Check, load, store, refused, check, numberCheck, loadRule, storeRule, guarded, passes, unchanged, accessChecks, callChecks, rule}
@@ -44,6 +44,11 @@ module _ (c : Call) (q : Queues) (b : Hierarchy) where
       (λ g. record { fit = f; formed = g; does = opened c q b f g })
       (λ g. let z : k ≡ 10 = rw (f, g) at e in let no : ⊥ = omega arith in absurd no))
       (λ f. let z : k ≡ 1 = rw f at e in let no : ⊥ = omega arith in absurd no)
+
+  -- a well-formed state passes both
+  pub formed-opens : wellFormed q b ≡ true → Open
+  unfolding wellFormed
+  formed-opens e = let f = and-left (fits b) _ e in record { fit = f; formed = e; does = opened c q b f e }
 
 -- ---- load, store: the access, then the rest of the checks
 

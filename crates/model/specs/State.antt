@@ -1,7 +1,7 @@
 -- The state as a struct, beside the two halves of the rules; answers and calls of the code as those of the rules.
 use Prim.Native.Nat.{ℕ, _+_, _*_, _%_, _<_, _≤_}
 use mathlib.Core.Path.{_≡_}
-use mathlib.Core.Bool.{cond, not}
+use mathlib.Core.Bool.{true, cond, not}
 use mathlib.Core.List.{List, [], _∷_}
 use lib.ListN.{getD, replicate}
 use Rattle.lists.specs.Counted.{eachFrom}
@@ -11,6 +11,7 @@ use Rattle.rules.specs.declared.Request.the-variants.{Free}
 use Rattle.rules.specs.Shape.{Queues, Hierarchy, World, world, tableSize, storePlaces, loadPlaces, noStore, noLoad, noTag, noFigures, isFreeStore}
 use Rattle.rules.specs.Calls.{Outcome, guarded}
 use Rattle.rules.specs.Calls as rules
+use Rattle.rules.specs.WellFormed.{wellFormed}
 use Rattle.rules.specs.Runs.{outcome}
 use Rattle.model.specs.declared.State.{State}
 use Rattle.model.specs.declared.Step.{Step}
@@ -41,6 +42,10 @@ hierarchyOf s cache memory = record {
 
 abbrev pub worldOf : State → List ℕ → List ℕ → World
 worldOf s cache memory = world (queuesOf s) (hierarchyOf s cache memory)
+
+-- the state is well formed, with this cache and this memory
+abbrev pub Formed : State → List ℕ → List ℕ → Type 0
+Formed s cache memory = wellFormed (queuesOf s) (hierarchyOf s cache memory) ≡ true
 
 -- the state that is all zero
 abbrev pub noState : State

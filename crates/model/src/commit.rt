@@ -6,7 +6,7 @@ ghost use Rattle.lists.specs.Padded.{filter};
 ghost use Rattle.rules.specs.Calls.{answeredBy, useEach, commitRule};
 ghost use Rattle.rules.specs.Calls as rules;
 ghost use Rattle.model.specs.Tables.{tabled};
-ghost use Rattle.model.specs.State.{queuesOf, hierarchyOf, outcomeOf, Shaped, Does, worldOf};
+ghost use Rattle.model.specs.State.{queuesOf, hierarchyOf, outcomeOf, Shaped, Does, worldOf, Formed};
 use crate::Answer;
 use crate::State;
 use crate::Step;
@@ -62,6 +62,20 @@ impl State {
         }
     }
 
+    // A commit on a well-formed state: check 15, then the commit.
+    pub(crate) fn commit_formed(self, cache: &[u8], memory: &[u8], k: u32) -> Step
+        requires { ⌜ Formed self (now cache) (now memory) ⌝ }
+        ensures { λ r. ⌜ Does (rules.commit k) (worldOf self (now (cache .entry)) (now (memory .entry))) r (now (cache .entry)) (now (memory .entry)) ⌝ }
+    {
+        if k < self.committed {
+            return self.refused(BAD_COMMIT);
+        }
+        if self.last < k {
+            return self.refused(BAD_COMMIT);
+        }
+        self.commit_accepted(k)
+    }
+
     // Commit up to number k. Refused: 1, 10, 15.
     pub fn commit(self, cache: &[u8], memory: &[u8], k: u32) -> Step
         ensures { λ r. ⌜ Does (rules.commit k) (worldOf self (now (cache .entry)) (now (memory .entry))) r (now (cache .entry)) (now (memory .entry)) ⌝ }
@@ -70,12 +84,6 @@ impl State {
         if n != 0 {
             return self.refused(n);
         }
-        if k < self.committed {
-            return self.refused(BAD_COMMIT);
-        }
-        if self.last < k {
-            return self.refused(BAD_COMMIT);
-        }
-        self.commit_accepted(k)
+        self.commit_formed(cache, memory, k)
     }
 }

@@ -1,10 +1,8 @@
 // Flush.
 ghost use mathlib.Core.Path.{_≡_};
-ghost use mathlib.Core.Bool.{true};
 ghost use Rattle.rules.specs.Calls.{flushRule};
 ghost use Rattle.rules.specs.Calls as rules;
-ghost use Rattle.rules.specs.WellFormed.{wellFormed};
-ghost use Rattle.model.specs.State.{queuesOf, hierarchyOf, outcomeOf, Does, worldOf};
+ghost use Rattle.model.specs.State.{queuesOf, hierarchyOf, outcomeOf, Does, worldOf, Formed};
 use crate::Answer;
 use crate::State;
 use crate::Step;
@@ -14,7 +12,7 @@ use rules::COMMITTED_STORE_HELD;
 impl State {
     // "Flush writes every dirty line to memory, marks it clean and answers the number of lines written. Ages stay."
     fn flush_accepted(mut self, cache: &[u8], memory: &mut [u8]) -> Step
-        requires { ⌜ wellFormed (queuesOf self) (hierarchyOf self (now cache) (now memory)) ≡ true ⌝ }
+        requires { ⌜ Formed self (now cache) (now memory) ⌝ }
         ensures { λ r. ⌜ outcomeOf r (now (cache .entry)) (now (memory .exit)) ≡ flushRule (queuesOf self) (hierarchyOf self (now (cache .entry)) (now (memory .entry))) ⌝ }
     {
         let tags = self.tags;
@@ -30,6 +28,18 @@ impl State {
         }
     }
 
+    // A flush on a well-formed state: check 18, then the flush.
+    pub(crate) fn flush_formed(self, cache: &[u8], memory: &mut [u8]) -> Step
+        requires { ⌜ Formed self (now cache) (now memory) ⌝ }
+        ensures { λ r. ⌜ Does rules.flush (worldOf self (now (cache .entry)) (now (memory .entry))) r (now (cache .entry)) (now (memory .exit)) ⌝ }
+    {
+        let stores = self.stores;
+        if store_queue::has_committed_store(stores, self.committed) {
+            return self.refused(COMMITTED_STORE_HELD);
+        }
+        self.flush_accepted(cache, memory)
+    }
+
     // Flush: every dirty line goes to memory. Refused: 1, 10, 18.
     pub fn flush(self, cache: &[u8], memory: &mut [u8]) -> Step
         ensures { λ r. ⌜ Does rules.flush (worldOf self (now (cache .entry)) (now (memory .entry))) r (now (cache .entry)) (now (memory .exit)) ⌝ }
@@ -38,10 +48,6 @@ impl State {
         if k != 0 {
             return self.refused(k);
         }
-        let stores = self.stores;
-        if store_queue::has_committed_store(stores, self.committed) {
-            return self.refused(COMMITTED_STORE_HELD);
-        }
-        self.flush_accepted(cache, memory)
+        self.flush_formed(cache, memory)
     }
 }

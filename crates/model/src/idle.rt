@@ -11,7 +11,7 @@ ghost use Rattle.line_checks.specs.Refusal.{hierarchy};
 ghost use Rattle.rules.specs.Calls.{wantsLine, oldestStore, storeReady, drainOldest, requestLine};
 ghost use Rattle.rules.specs.Calls as rules;
 ghost use Rattle.model.specs.Tables.{tabled, Writable};
-ghost use Rattle.model.specs.State.{queuesOf, hierarchyOf, outcomeOf, Shaped, InOneLine, idleRequest, Does, worldOf};
+ghost use Rattle.model.specs.State.{queuesOf, hierarchyOf, outcomeOf, Shaped, InOneLine, idleRequest, Does, worldOf, Formed};
 use crate::Answer;
 use crate::State;
 use crate::Step;
@@ -164,14 +164,11 @@ impl State {
         }
     }
 
-    // "Idle does the first that applies." Refused: 1, 10. (Memory is lent to be written, and is left as it was.)
-    pub fn idle(self, cache: &mut [u8], memory: &mut [u8]) -> Step
+    // Idle on a well-formed state.
+    pub(crate) fn idle_formed(self, cache: &mut [u8], memory: &mut [u8]) -> Step
+        requires { ⌜ Formed self (now cache) (now memory) ⌝ }
         ensures { λ r. ⌜ Does rules.idle (worldOf self (now (cache .entry)) (now (memory .entry))) r (now (cache .exit)) (now (memory .exit)) ⌝ }
     {
-        let k = self.state_refusal(cache, memory);
-        if k != 0 {
-            return self.refused(k);
-        }
         let stores = self.stores;
         let loads = self.loads;
         let s = stores[0];
@@ -184,5 +181,16 @@ impl State {
             return self.idle_request(ready, here, s);
         }
         self.idle_request(ready, here, s)
+    }
+
+    // "Idle does the first that applies." Refused: 1, 10. (Memory is lent to be written, and is left as it was.)
+    pub fn idle(self, cache: &mut [u8], memory: &mut [u8]) -> Step
+        ensures { λ r. ⌜ Does rules.idle (worldOf self (now (cache .entry)) (now (memory .entry))) r (now (cache .exit)) (now (memory .exit)) ⌝ }
+    {
+        let k = self.state_refusal(cache, memory);
+        if k != 0 {
+            return self.refused(k);
+        }
+        self.idle_formed(cache, memory)
     }
 }

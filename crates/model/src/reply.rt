@@ -1,12 +1,10 @@
 // Reply: a line comes from memory.
 ghost use mathlib.Core.Path.{_≡_};
-ghost use mathlib.Core.Bool.{true};
 ghost use Prim.Native.Nat.{_+_, _<_, _≤_};
 ghost use Rattle.rules.specs.Calls.{replyRule};
 ghost use Rattle.rules.specs.Calls as rules;
-ghost use Rattle.rules.specs.WellFormed.{wellFormed};
 ghost use Rattle.model.specs.Tables.{installedIn};
-ghost use Rattle.model.specs.State.{queuesOf, hierarchyOf, outcomeOf, Does, worldOf};
+ghost use Rattle.model.specs.State.{queuesOf, hierarchyOf, outcomeOf, Does, worldOf, Formed};
 use crate::Answer;
 use crate::State;
 use crate::Step;
@@ -43,7 +41,7 @@ fn installed(
 impl State {
     // The requested line comes from memory; a dirty victim is first written to memory.
     fn fill_line(self, line: u32, cache: &mut [u8], memory: &mut [u8]) -> Step
-        requires { ⌜ (wellFormed (queuesOf self) (hierarchyOf self (now cache) (now memory)) ≡ true) × (self .request ≡ Request.Line line) ⌝ }
+        requires { ⌜ Formed self (now cache) (now memory) × (self .request ≡ Request.Line line) ⌝ }
         ensures { λ r. ⌜ outcomeOf r (now (cache .exit)) (now (memory .exit)) ≡ replyRule (queuesOf self) (hierarchyOf self (now (cache .entry)) (now (memory .entry))) ⌝ }
     {
         let tags = self.tags;
@@ -68,6 +66,18 @@ impl State {
         }
     }
 
+    // A reply on a well-formed state: check 17, then the fill.
+    pub(crate) fn reply_formed(self, cache: &mut [u8], memory: &mut [u8]) -> Step
+        requires { ⌜ Formed self (now cache) (now memory) ⌝ }
+        ensures { λ r. ⌜ Does rules.reply (worldOf self (now (cache .entry)) (now (memory .entry))) r (now (cache .exit)) (now (memory .exit)) ⌝ }
+    {
+        let request = self.request;
+        match request {
+            Request::Free => self.refused(NOTHING_REQUESTED),
+            Request::Line(line) => self.fill_line(line, cache, memory),
+        }
+    }
+
     // The memory reply: the requested line is filled. Refused: 1, 10, 17.
     pub fn reply(self, cache: &mut [u8], memory: &mut [u8]) -> Step
         ensures { λ r. ⌜ Does rules.reply (worldOf self (now (cache .entry)) (now (memory .entry))) r (now (cache .exit)) (now (memory .exit)) ⌝ }
@@ -76,10 +86,6 @@ impl State {
         if k != 0 {
             return self.refused(k);
         }
-        let request = self.request;
-        match request {
-            Request::Free => self.refused(NOTHING_REQUESTED),
-            Request::Line(line) => self.fill_line(line, cache, memory),
-        }
+        self.reply_formed(cache, memory)
     }
 }
