@@ -103,6 +103,12 @@ module _ (t : Tag) (v : ℕ) (cache memory : List ℕ) where
   unfolding lineWritten
   written-outside h = rw (lt-leb (16 * v + 16) (length cache) h)
 
+  pub written-length : length (lineWritten t v cache memory) ≡ length memory
+  unfolding lineWritten
+  written-length =
+      either (λ (r : List ℕ). length r ≡ length memory) (lineInside v (length cache) && lineInside (t .line) (length memory))
+      (λ e. each-length _ 0 memory) (λ e. refl)
+
   -- where the slot lies in the cache, and the line in memory if it is dirty
   pub written-inside :
       16 * v + 16 ≤ length cache → (t .dirty ≡ true → 16 * t .line + 16 ≤ length memory)
