@@ -7,13 +7,12 @@ ghost use Rattle.rules.specs.Lines.{present};
 ghost use Rattle.rules.specs.Calls.{guarded};
 ghost use Rattle.rules.specs.WellFormed.{requestAbsent, requestInside, requestWanted};
 ghost use Rattle.rules.specs.Runs.{stateChecks};
-ghost use Rattle.model.specs.Tables.{tabled};
+ghost use Rattle.records.specs.Records.{tabled};
 ghost use Rattle.access.specs.AccessChecks.{sized};
 ghost use Rattle.model.specs.State.{queuesOf, hierarchyOf, withRegister, Shaped};
 use crate::Answer;
 use crate::State;
 use crate::Step;
-use crate::cache;
 use rules::LINE_BYTES;
 use rules::NOT_WELL_FORMED;
 use rules::Request;
@@ -27,8 +26,8 @@ impl State {
         let tags = self.tags;
         let figures = self.figures;
         let ways = figures.ways as usize;
-        let first = cache::first_slot(figures, line);
-        cache::find(tags, first, ways, line) < first + ways
+        let first = records::first_slot(figures, line);
+        records::find(tags, first, ways, line) < first + ways
     }
 
     // A requested line is absent, lies in memory, and is wanted.

@@ -1,16 +1,16 @@
 // Commit.
 ghost use mathlib.Core.Path.{_≡_};
 ghost use mathlib.Core.List.{List};
-ghost use Prim.Native.Nat.{ℕ, _*_, _<_, _≤_};
+ghost use mathlib.Core.Bool.{true};
+ghost use Prim.Native.Nat.{ℕ, _*_};
 ghost use Rattle.lists.specs.Padded.{filter};
 ghost use Rattle.rules.specs.Calls.{answeredBy, useEach, commitRule};
 ghost use Rattle.rules.specs.Calls as rules;
-ghost use Rattle.model.specs.Tables.{tabled};
+ghost use Rattle.records.specs.Records.{hasRoom, tabled};
 ghost use Rattle.model.specs.State.{queuesOf, hierarchyOf, outcomeOf, Shaped, Does, worldOf, Formed};
 use crate::Answer;
 use crate::State;
 use crate::Step;
-use crate::cache;
 use rules::BAD_COMMIT;
 use rules::Figures;
 use rules::LINE_BYTES;
@@ -26,7 +26,7 @@ fn use_all_answered(
     loads: [LoadEntry; LOAD_PLACES],
     k: u32,
 ) -> [Tag; TAG_RECORDS]
-    requires { ⌜ (0 < figures .sets) × (figures .sets * figures .ways ≤ 256) ⌝ }
+    requires { ⌜ hasRoom figures ≡ true ⌝ }
     ensures { λ r. ⌜ r ≡ useEach (filter (answeredBy k) loads) (tabled figures tags) .tags ⌝ }
 {
     let mut out = tags;
@@ -35,7 +35,7 @@ fn use_all_answered(
         let l = loads[j];
         j += 1;
         if load_queue::is_answered_by(l, k) {
-            let used = cache::use_line(out, figures, l.address / LINE_BYTES);
+            let used = records::use_line(out, figures, l.address / LINE_BYTES);
             out = used;
         }
     }

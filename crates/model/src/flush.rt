@@ -6,7 +6,6 @@ ghost use Rattle.model.specs.State.{queuesOf, hierarchyOf, outcomeOf, Do
 use crate::Answer;
 use crate::State;
 use crate::Step;
-use crate::cache;
 use rules::COMMITTED_STORE_HELD;
 
 impl State {
@@ -18,9 +17,9 @@ impl State {
         let tags = self.tags;
         let figures = self.figures;
         let count = (figures.sets * figures.ways) as usize;
-        let written = cache::dirty_count(tags);
-        cache::write_back_all(tags, count, cache, memory);
-        let clean = cache::clean_all(tags, count);
+        let written = records::dirty_count(tags);
+        line_bytes::write_back_all(tags, count, cache, memory);
+        let clean = records::clean_all(tags, count);
         self.tags = clean;
         Step {
             answer: Answer::Flushed(written),

@@ -2,20 +2,19 @@
 ghost use mathlib.Core.Path.{_≡_};
 ghost use mathlib.Core.Bool.{true};
 ghost use mathlib.Core.List.{List, []};
-ghost use Prim.Native.Nat.{ℕ, _*_, _<_};
-ghost use lib.ListN.{length, set};
+ghost use Prim.Native.Nat.{ℕ, _*_};
+ghost use lib.ListN.{length};
 ghost use Rattle.lists.specs.Padded.{first};
-ghost use Rattle.rules.specs.Shape.{noLoad, lineOf, tagAt, withDirty};
+ghost use Rattle.rules.specs.Shape.{noLoad, lineOf};
 ghost use Rattle.rules.specs.Lines.{present, writeStore};
 ghost use Rattle.line_checks.specs.Refusal.{hierarchy};
 ghost use Rattle.rules.specs.Calls.{wantsLine, oldestStore, storeReady, drainOldest, requestLine};
 ghost use Rattle.rules.specs.Calls as rules;
-ghost use Rattle.model.specs.Tables.{tabled, Writable};
-ghost use Rattle.model.specs.State.{queuesOf, hierarchyOf, outcomeOf, Shaped, InOneLine, idleRequest, Does, worldOf, Formed};
+ghost use Rattle.records.specs.Records.{tabled};
+ghost use Rattle.model.specs.State.{queuesOf, hierarchyOf, outcomeOf, Shaped, Writable, InOneLine, idleRequest, Does, worldOf, Formed};
 use crate::Answer;
 use crate::State;
 use crate::Step;
-use crate::cache;
 use rules::Figures;
 use rules::LINE_BYTES;
 use rules::LINE_LENGTH;
@@ -26,22 +25,6 @@ use rules::Request;
 use rules::StoreEntry;
 use rules::TAG_RECORDS;
 use rules::Tag;
-
-// Slot v is marked dirty.
-fn marked_dirty(tags: [Tag; TAG_RECORDS], v: usize) -> [Tag; TAG_RECORDS]
-    requires { ⌜ v < 256 ⌝ }
-    ensures { λ r. ⌜ r ≡ set tags v (withDirty true (tagAt tags v)) ⌝ }
-{
-    let mut out = tags;
-    let t = out[v];
-    out[v] = Tag {
-        valid: t.valid,
-        dirty: true,
-        line: t.line,
-        age: t.age,
-    };
-    out
-}
 
 // "write it, mark the line dirty, use the line": of a store whose line is present.
 fn write_store(
@@ -55,12 +38,12 @@ fn write_store(
 {
     let n = figures.ways as usize;
     let line = s.address / LINE_BYTES;
-    let first = cache::first_slot(figures, line);
-    let slot = cache::find(tags, first, n, line);
+    let first = records::first_slot(figures, line);
+    let slot = records::find(tags, first, n, line);
     let at = LINE_LENGTH * slot + (s.address % LINE_BYTES) as usize;
-    cache::put_store(cache, at, s.width, s.value);
-    let dirty = marked_dirty(tags, slot);
-    let used = cache::use_slot(dirty, first, n, slot);
+    line_bytes::put_store(cache, at, s.width, s.value);
+    let dirty = records::mark_dirty(tags, slot);
+    let used = records::use_slot(dirty, first, n, slot);
     used
 }
 

@@ -31,7 +31,7 @@ impl State {
             number: i,
             address: a.address,
             width: a.width,
-            waiting: read::is_lacking(r),
+            waiting: line_bytes::is_lacking(r),
         };
         let listed = load_queue::place_load(loads, entry);
         self.last = i;

@@ -1,42 +1,15 @@
 // Reply: a line comes from memory.
 ghost use mathlib.Core.Path.{_≡_};
-ghost use Prim.Native.Nat.{_+_, _<_, _≤_};
 ghost use Rattle.rules.specs.Calls.{replyRule};
 ghost use Rattle.rules.specs.Calls as rules;
-ghost use Rattle.model.specs.Tables.{installedIn};
 ghost use Rattle.model.specs.State.{queuesOf, hierarchyOf, outcomeOf, Does, worldOf, Formed};
 use crate::Answer;
 use crate::State;
 use crate::Step;
-use crate::cache;
 use rules::LINE_BYTES;
 use rules::LINE_LENGTH;
 use rules::NOTHING_REQUESTED;
 use rules::Request;
-use rules::TAG_RECORDS;
-use rules::Tag;
-
-// "the record becomes valid and clean, is used": line in slot v, whose age stays until it is used.
-fn installed(
-    tags: [Tag; TAG_RECORDS],
-    first: usize,
-    ways: usize,
-    v: usize,
-    line: u32,
-) -> [Tag; TAG_RECORDS]
-    requires { ⌜ (first + ways ≤ 256) × (first ≤ v) × (v < first + ways) × (line < 4096) ⌝ }
-    ensures { λ r. ⌜ r ≡ installedIn first ways v line tags ⌝ }
-{
-    let mut out = tags;
-    let old = out[v];
-    out[v] = Tag {
-        valid: true,
-        dirty: false,
-        line: (line % 65536) as u16,
-        age: old.age,
-    };
-    cache::use_slot(out, first, ways, v)
-}
 
 impl State {
     // The requested line comes from memory; a dirty victim is first written to memory.
@@ -47,17 +20,17 @@ impl State {
         let tags = self.tags;
         let figures = self.figures;
         let ways = figures.ways as usize;
-        let first = cache::first_slot(figures, line);
-        let v = cache::victim(tags, first, ways);
+        let first = records::first_slot(figures, line);
+        let v = records::victim(tags, first, ways);
         let old = tags[v];
-        cache::write_back(old, v, cache, memory);
+        line_bytes::write_back(old, v, cache, memory);
         let l = line as usize;
-        cache::fill_slot(
+        line_bytes::fill_slot(
             cache,
             v,
             &memory[LINE_LENGTH * l..LINE_LENGTH * l + LINE_LENGTH],
         );
-        let table = installed(tags, first, ways, v, line);
+        let table = records::install(tags, first, ways, v, line);
         let mut next = self.with_request(Request::Free);
         next.tags = table;
         Step {

@@ -11,8 +11,7 @@ ghost use Rattle.model.specs.State.{queuesOf, hierarchyOf, outcomeOf, Sh
 use crate::Answer;
 use crate::State;
 use crate::Step;
-use crate::cache;
-use crate::read::Read;
+use line_bytes::Read;
 use rules::LINE_BYTES;
 use rules::LoadEntry;
 use rules::NO_WAITING_LOAD;
@@ -28,7 +27,7 @@ impl State {
         let figures = self.figures;
         if i <= self.committed {
             let rest = load_queue::remove_waiting(loads, i);
-            let used = cache::use_line(tags, figures, l.address / LINE_BYTES);
+            let used = records::use_line(tags, figures, l.address / LINE_BYTES);
             self.loads = rest;
             self.tags = used;
             return Step {

@@ -8,7 +8,6 @@ ghost use Rattle.model.specs.Shows.{shownPart, PartOf};
 use crate::Answer;
 use crate::State;
 use crate::Step;
-use crate::cache;
 use rules::LINE_BYTES;
 use rules::LINE_LENGTH;
 
@@ -36,8 +35,8 @@ impl State {
         let figures = self.figures;
         let ways = figures.ways as usize;
         let line = address / LINE_BYTES;
-        let first = cache::first_slot(figures, line);
-        let slot = cache::find(tags, first, ways, line);
+        let first = records::first_slot(figures, line);
+        let slot = records::find(tags, first, ways, line);
         if slot < first + ways {
             return Part {
                 start: LINE_LENGTH * slot,

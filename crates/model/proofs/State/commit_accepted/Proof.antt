@@ -1,12 +1,13 @@
 -- `State::commit_accepted` meets its contract.
 use borrow.Author.Needs.{needs}
 use Rattle.rules.specs.Calls.{commitRule}
+use Rattle.model.proofs.Facts.{shaped-room}
 use Rattle.model.proofs.Moves.{used-each}
 use Rattle.model.proofs.State.commit_accepted.Statement.{statement}
 use Rattle.model.proofs.State.commit_accepted.Tie as tie
 
 use-all-answered-requires : tie.Need-use-all-answered-requires
-use-all-answered-requires c κs = search needs
+use-all-answered-requires c κs = shaped-room _ _ @pre
 
 remove-answered-requires : tie.Need-remove-answered-requires
 remove-answered-requires c κs = search needs

@@ -1,6 +1,8 @@
 -- `State::is_present` meets its contract.
 use borrow.Author.Needs.{needs}
-use Rattle.rules.specs.Lines.{present, slotOf}
+use native.Mathlib.Omega.{arith}
+use Rattle.records.specs.Records.{tabled}
+use Rattle.model.proofs.Leaves.{located}
 use Rattle.model.proofs.State.is_present.Statement.{statement}
 use Rattle.model.proofs.State.is_present.Tie as tie
 
@@ -14,13 +16,15 @@ find-requires : tie.Need-find-requires
 find-requires c κs = search needs
 
 add-result : tie.Need-add-result
-add-result c = search needs
+add-result c =
+    let s = @args .self in
+    let h = located (tabled (s .figures) (s .tags)) (@pre .some-set) (@pre .some-way) (@pre .room) _ _ _ (@first-slot .ensures) (@find .ensures) in
+    omega (arith, h .within, h .room)
 
 returns : tie.Need-returns
-unfolding present slotOf
 returns c =
-    let first-slot = c .before .first-slot in
-    rw (c .find .ensures, first-slot .ensures .0)
+    let s = @args .self in
+    located (tabled (s .figures) (s .tags)) (@pre .some-set) (@pre .some-way) (@pre .room) _ _ _ (@first-slot .ensures) (@find .ensures) .here
 
 pub is-present-spec : {M : Type 1} → statement M
 is-present-spec =

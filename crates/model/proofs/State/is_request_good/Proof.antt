@@ -7,7 +7,7 @@ use borrow.Author.Tests.{lt-ltb, le-ltb}
 use Rattle.rules.specs.declared.Request.{Request}
 use Rattle.rules.specs.WellFormed.{requestAbsent, requestInside, requestWanted}
 use Rattle.access.specs.AccessChecks.{sized}
-use Rattle.model.specs.Tables.{tabled}
+use Rattle.records.specs.Records.{tabled}
 use Rattle.model.specs.State.{queuesOf}
 use Rattle.model.proofs.Checking.{wanted-at}
 use Rattle.model.proofs.State.is_request_good.Statement.{statement}

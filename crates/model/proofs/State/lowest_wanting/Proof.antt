@@ -8,7 +8,7 @@ use Rattle.lists.specs.Padded.{first}
 use Rattle.lists.proofs.Loops.{rest-cons, rest-none}
 use Rattle.rules.specs.Shape.{noLoad}
 use Rattle.rules.specs.Calls.{wantsLine}
-use Rattle.model.specs.Tables.{tabled}
+use Rattle.records.specs.Records.{tabled}
 use Rattle.model.proofs.Facts.{length-of}
 use mathlib.Core.Bool.{Bool}
 use Rattle.rules.specs.declared.LoadEntry.{LoadEntry}

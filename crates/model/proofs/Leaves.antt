@@ -1,0 +1,124 @@
+-- What the functions of `records` and `line_bytes` answer where the figures leave room: where a line stands, a line used, a table and
+-- a memory flushed, as the rules have it.
+use Prim.Native.Nat.{ℕ, _+_, _*_, _%_, _<_, _≤_}
+use mathlib.Core.Path.{_≡_, refl, _∙_, ap, ap₂}
+use mathlib.Core.Bool.{Bool, true, cond, _&&_}
+use mathlib.Core.List.{List}
+use native.Mathlib.Omega.{arith}
+use lib.Dec.{ltb}
+use lib.ListN.{length}
+use borrow.Author.Tests.{lt-ltb, ltb-true}
+use Rattle.lists.specs.Counted.{firstFrom, stepsFrom}
+use Rattle.lists.proofs.Counting.{first-high}
+use Rattle.rules.specs.declared.Tag.{Tag}
+use Rattle.rules.specs.Shape.{Hierarchy, holding, slots, firstSlot, tagAt}
+use Rattle.rules.specs.Lines.{holdsLine, slotOf, present, useSlot, useLine, writeBackSlot, victim}
+use Rattle.rules.proofs.LineFacts.{Fits, Good, dirty-valid}
+use Rattle.records.specs.Records.{hasRoom, inTable, inSet, tabled, usedTags, victimIn, installedIn, flushedTags}
+use Rattle.records.proofs.Places.{has-room, slots-room, in-table, in-set}
+use Rattle.records.proofs.RecordLoops.{found-low, found-slot, found-present, victim-inside, flushed-tags}
+use Rattle.line_bytes.specs.Writes.{flushedMemory, DirtyInside}
+use Rattle.line_bytes.proofs.Writing.{saves, flushed-memory}
+
+-- what a function of the table answers in its range
+pub in-range : {A : Type 0} (t : Bool) {r x y : A} → t ≡ true → r ≡ cond t x y → r ≡ x
+in-range t {x = x} {y = y} e h = h ∙ ap (λ (t : Bool). cond t x y) e
+
+-- ---- where a line stands
+
+-- f is the first slot of the line's set, v the slot that was found there
+pub record Located (b : Hierarchy) (l f v : ℕ) : Type 0 where
+  pub first : f ≡ firstSlot b l
+  pub within : f + b .figures .ways ≤ slots b
+  pub room : slots b ≤ 256
+  pub low : f ≤ v
+  pub high : v ≤ f + b .figures .ways
+  pub slot : v ≡ slotOf b l
+  pub here : ltb v (f + b .figures .ways) ≡ present b l
+
+-- v is the victim of the line's set
+pub record Chosen (b : Hierarchy) (l f v : ℕ) : Type 0 where
+  pub first : f ≡ firstSlot b l
+  pub within : f + b .figures .ways ≤ slots b
+  pub room : slots b ≤ 256
+  pub low : f ≤ v
+  pub high : v < f + b .figures .ways
+  pub slot : v ≡ victim b l
+
+module _ (b : Hierarchy) (some-set : 0 < b .figures .sets) (some-way : 0 < b .figures .ways) (room : slots b ≤ 256) (l f v : ℕ)
+    (first : f ≡ cond (hasRoom (b .figures)) ((l % b .figures .sets) * b .figures .ways) 0) where
+  first-at : f ≡ firstSlot b l
+  first-at = in-range (hasRoom (b .figures)) (has-room (b .figures) some-set some-way room) first
+
+  within : f + b .figures .ways ≤ slots b
+  within = rw first-at (slots-room (b .figures) l some-set)
+
+  inside : inTable f (b .figures .ways) ≡ true
+  inside = in-table f (b .figures .ways) (omega (arith, within))
+
+  pub located :
+      v ≡ cond (inTable f (b .figures .ways)) (firstFrom (λ k. holdsLine l (tagAt (b .tags) k)) f (b .figures .ways)) 0 → Located b l f v
+  located e =
+      let found = in-range (inTable f (b .figures .ways)) inside e in
+      record {
+        first = first-at;
+        within = within;
+        room = room;
+        low = found-low b l f v first-at found;
+        high = omega (arith, found, first-high (λ k. holdsLine l (tagAt (b .tags) k)) (b .figures .ways) f);
+        slot = found-slot b l f v first-at found;
+        here = found-present b l f v first-at found;
+      }
+
+  pub chosen : v ≡ cond (inTable f (b .figures .ways) && ltb 0 (b .figures .ways)) (victimIn (b .tags) f (b .figures .ways)) 0 → Chosen b l f v
+  unfolding victim victimIn
+  chosen e =
+      let found : v ≡ victimIn (b .tags) f (b .figures .ways) = in-range (inTable f (b .figures .ways) && ltb 0 (b .figures .ways)) (rw (inside, lt-ltb 0 (b .figures .ways) some-way)) e in
+      let i = victim-inside (b .tags) f (b .figures .ways) some-way in
+      record {
+        first = first-at;
+        within = within;
+        room = room;
+        low = omega (arith, i .0, found);
+        high = omega (arith, i .1, found);
+        slot = found ∙ ap (λ (f : ℕ). victimIn (b .tags) f (b .figures .ways)) first-at;
+      }
+
+-- the slot of a present line is in the set
+pub present-slot : (b : Hierarchy) (l f v : ℕ) → Located b l f v → present b l ≡ true → v < f + b .figures .ways
+present-slot b l f v h p = ltb-true v (f + b .figures .ways) (h .here ∙ p)
+
+-- a slot of the set, named to a function of the table
+pub slot-in-set : (b : Hierarchy) (f v : ℕ) → f + b .figures .ways ≤ slots b → slots b ≤ 256 → f ≤ v → v < f + b .figures .ways → inSet f (b .figures .ways) v ≡ true
+slot-in-set b f v within room low high = in-set f (b .figures .ways) v (omega arith) low high
+
+-- ---- use
+
+-- the use of a line changes the records only, as the code has it
+pub used-line :
+    (l : ℕ) (b : Hierarchy) → useLine l b ≡ holding b (usedTags (b .figures) l (b .tags)) (b .cache) (b .memory)
+unfolding usedTags useLine present slotOf useSlot
+used-line l b = go (present b l)
+  where
+    go :
+        (t : Bool)
+        → cond t (useSlot (firstSlot b l) (slotOf b l) b) b
+        ≡ holding b (cond t (useSlot (firstSlot b l) (slotOf b l) (tabled (b .figures) (b .tags))) (tabled (b .figures) (b .tags)) .tags) (b .cache) (b .memory)
+    go true = refl
+    go false = refl
+
+-- ---- flush
+
+-- the dirty lines of a well-formed state lie in memory
+pub dirty-inside : (b : Hierarchy) → Fits b → Good b → (n : ℕ) → DirtyInside (b .tags) n (length (b .memory))
+dirty-inside b fit g n k h d =
+    omega (arith, g .lines .inside k (dirty-valid b g k d), fit .by-lines, fit .memory-long)
+
+-- the records and the memory of a flush
+pub flushed-all :
+    (n : ℕ) (b : Hierarchy)
+    → stepsFrom writeBackSlot 0 n b
+    ≡ holding b (flushedTags n (b .tags)) (b .cache) (flushedMemory n (b .tags) (b .cache) (b .memory))
+flushed-all n b =
+    saves n 0 b (b .tags) (λ k l. refl)
+    ∙ ap₂ (λ (t : List Tag) (m : List ℕ). holding b t (b .cache) m) (flushed-tags n (b .tags)) (flushed-memory n (b .tags) (b .cache) (b .memory))
