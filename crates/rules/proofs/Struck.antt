@@ -3,7 +3,7 @@
 use Prim.Native.Nat.{ℕ, _+_, _-_, _≤_, _<_}
 use mathlib.Core.Path.{_≡_, refl, sym, _∙_, ap, ap₂}
 use mathlib.Core.Bool.{Bool, true, false, not, _||_, true≢false, false≢true}
-use mathlib.Core.List.{List, [], _∷_}
+use mathlib.Core.List.{List, [], _∷_, _++_}
 use mathlib.Core.Option.{Option, some, none}
 use native.Mathlib.Omega.{arith}
 use lib.Dec.{ltb, leb}
@@ -15,11 +15,11 @@ use Rattle.rules.specs.declared.StoreEntry.{StoreEntry}
 use Rattle.rules.specs.declared.LoadEntry.{LoadEntry}
 use Rattle.rules.specs.Shape.{Queues, Hierarchy, noStore, noLoad, isFreeStore, isFreeLoad, fits}
 use Rattle.rules.specs.Forward.{loadValue}
-use Rattle.rules.specs.Calls.{Call, Answer, Outcome, Check, load, store, retry, commit, abort, idle, reply, flush, show, isAccepted, unchanged, check, guarded, passes, callChecks, waitingAt, youngStore, youngLoad, squash, answered, answerLoad, retryWith, retryRule, loadRule, storeRule, commitRule, abortRule, canDrain, canRequestLoad, canRequestStore, idleRule, replyRule, flushRule, showRule, rule}
+use Rattle.rules.specs.Calls.{Call, Answer, Outcome, Check, load, store, retry, commit, abort, idle, reply, flush, show, isAccepted, unchanged, check, guarded, passes, earlyChecks, callChecks, waitingAt, youngStore, youngLoad, squash, answered, answerLoad, retryWith, retryRule, loadRule, storeRule, commitRule, abortRule, canDrain, canRequestLoad, canRequestStore, idleRule, replyRule, flushRule, showRule, rule}
 use Rattle.rules.specs.WellFormed.{wellFormed}
 use Rattle.rules.specs.Runs.{refusal, outcome}
 use Rattle.rules.specs.Dropped.{struck, abortsBelow}
-use Rattle.rules.proofs.Checks.{guarded-same, guarded-map, shut, opened, checked, outcome-by, rule-accepts}
+use Rattle.rules.proofs.Checks.{guarded-same, guarded-map, shut, opened, ownChecks, checked, own-passes, outcome-by, rule-accepts}
 use Rattle.rules.proofs.QueueView.{parts, goodStore, goodLoad, free-store, free-load}
 use Rattle.rules.proofs.Squash.{squashedOutcome, n-positive, flush-check, flush-squash, reply-squash, show-squash, retry-check, retry-squash, commit-check, commit-squash, abort-check, idle-squash}
 
@@ -211,9 +211,9 @@ module _ (n : ℕ) (q : Queues) (b : Hierarchy) (low : n ≤ q .last + 1) where
         (c : Call) → struck n c ≡ false → Above n c (checked c q b .answer) → checked c q b .queues .committed < n
         → checked c (squash n q) b ≡ squashedOutcome n (checked c q b)
     checked-squash c s f k =
-        ap (λ (ks : List Check). guarded ks (λ j. unchanged (refusal c j) (squash n q) b) (rule c (squash n q) b)) (checks-squash c s f k)
-        ∙ guarded-same (λ j. unchanged (refusal c j) (squash n q) b) (callChecks c q b) (rule c (squash n q) b) (squashedOutcome n (rule c q b)) (rule-squash c s f k)
-        ∙ sym (guarded-map (squashedOutcome n) (λ j. unchanged (refusal c j) q b) (callChecks c q b) (rule c q b))
+        ap (λ (ks : List Check). guarded (earlyChecks c b ++ ks) (λ j. unchanged (refusal c j) (squash n q) b) (rule c (squash n q) b)) (checks-squash c s f k)
+        ∙ guarded-same (λ j. unchanged (refusal c j) (squash n q) b) (ownChecks c q b) (rule c (squash n q) b) (squashedOutcome n (rule c q b)) (λ p. rule-squash c s f k (own-passes c q b p))
+        ∙ sym (guarded-map (squashedOutcome n) (λ j. unchanged (refusal c j) q b) (ownChecks c q b) (rule c q b))
 
     pub outcome-squash :
         wellFormed q b ≡ true → wellFormed (squash n q) b ≡ true → (c : Call) → struck n c ≡ false → Above n c (outcome c q b .answer)
