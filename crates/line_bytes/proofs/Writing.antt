@@ -18,7 +18,7 @@ use Rattle.lists.proofs.Counting.{each-length}
 use Rattle.lists.proofs.CountedLoops.{change, changes-each, each-id, each-ext}
 use Rattle.rules.specs.declared.Tag.{Tag}
 use Rattle.rules.specs.Shape.{Hierarchy, holding, noFigures, noTag, tagAt, withDirty, lineOf}
-use Rattle.rules.specs.Lines.{writtenBackAt, writeBackSlot, copiedAt}
+use Rattle.rules.specs.Lines.{dirtyAt, writtenBackAt, writeBackSlot, copiedAt}
 use Rattle.line_bytes.specs.Writes.{lineInside, filledAt, lineFilled, lineWritten, linesWritten, flushedMemory, DirtyInside, placesInside, storePut}
 
 -- ---- a line of 16 bytes
@@ -72,7 +72,7 @@ fill-copies memory v l cache h k =
 fill-saves :
     (t : Tag) (cache : List ℕ) (v : ℕ) (memory : List ℕ) → t .dirty ≡ true
     → eachFrom (filledAt (t .line) (take 16 (drop (16 * v) cache))) 0 memory ≡ eachFrom (writtenBackAt t cache v) 0 memory
-unfolding writtenBackAt lineOf
+unfolding writtenBackAt lineOf dirtyAt
 fill-saves t cache v memory d =
     each-ext _ (writtenBackAt t cache v)
     (λ a x. rw d (ap (λ (y : ℕ). cond (eqb (a / 16) (t .line)) y x) (part-byte cache v (a % 16) (omega arith)))) memory
@@ -80,7 +80,7 @@ fill-saves t cache v memory d =
 -- a clean line is not written
 clean-saves :
     (t : Tag) (cache : List ℕ) (v : ℕ) (memory : List ℕ) → t .dirty ≡ false → memory ≡ eachFrom (writtenBackAt t cache v) 0 memory
-unfolding writtenBackAt
+unfolding writtenBackAt dirtyAt
 clean-saves t cache v memory d = sym (each-ext (writtenBackAt t cache v) (λ a x. x) (λ a x. rw d) memory ∙ each-id memory)
 
 module _ (t : Tag) (v : ℕ) (cache memory : List ℕ) where

@@ -1,6 +1,6 @@
 -- What an accepted call leaves is its rule: each law says of which facts of the queues, the records and the bytes that is made up.
 use Prim.Native.Nat.{ℕ, _*_, _-_, _<_, _≤_}
-use mathlib.Core.Path.{_≡_}
+use mathlib.Core.Path.{_≡_, sym, _∙_}
 use mathlib.Core.Bool.{true, cond}
 use mathlib.Core.List.{List}
 use native.Mathlib.Omega.{arith}
@@ -8,11 +8,12 @@ use lib.Dec.{leb}
 use borrow.Author.Tests.{le-leb, lt-leb}
 use lib.ListN.{length}
 use Rattle.lists.specs.Padded.{filter, without, changed}
+use Rattle.lists.proofs.Cond.{cond-then}
 use Rattle.rules.specs.declared.Tag.{Tag}
 use Rattle.rules.specs.declared.StoreEntry.{StoreEntry}
 use Rattle.rules.specs.declared.LoadEntry.{LoadEntry}
 use Rattle.rules.specs.Shape.{noStore, noLoad, lineOf, slots}
-use Rattle.rules.specs.Lines.{dirtyLines}
+use Rattle.rules.specs.Lines.{isDirty, dirtyLines}
 use Rattle.rules.specs.Calls.{waitingAt, answered, answerLoad, youngStore, youngLoad, squash, abortRule, flushRule}
 use Rattle.records.specs.Records.{hasRoom, usedTags, flushedTags}
 use Rattle.line_bytes.specs.Writes.{flushedMemory, linesWritten, DirtyInside}
@@ -22,7 +23,6 @@ use Rattle.model.specs.declared.Step.{Step}
 use Rattle.model.specs.declared.Answer.{Answer}
 use Rattle.model.specs.declared.Answer.the-variants.{Value, Kept, Flushed}
 use Rattle.line_bytes.proofs.Writing.{lines-flushed}
-use Rattle.model.proofs.Leaves.{in-range}
 use Rattle.model.proofs.Checking.{used-at}
 use Rattle.model.proofs.Moves.{flush-parts}
 
@@ -49,7 +49,7 @@ module _ (s : State) (i v : ℕ) (l : LoadEntry) (loads : List LoadEntry) where
       → tags ≡ cond (hasRoom (s .figures)) (usedTags (s .figures) (lineOf (l .address)) (s .tags)) (s .tags) → (c m : List ℕ)
       → outcomeOf (leaving (Value i v) s (s .last) (s .stores) loads tags) c m ≡ answerLoad i v l (queuesOf s) (hierarchyOf s c m)
   unfolding answerLoad
-  answered-leaves tags room h e f c m = rw (e, in-range _ room f, le-leb _ _ h, used-at)
+  answered-leaves tags room h e f c m = rw (e, f ∙ sym (cond-then _ _ room), le-leb _ _ h, used-at)
 
   -- an uncommitted one is marked answered
   pub answered-stays :
@@ -69,10 +69,10 @@ pub flushed-state :
     (s : State) (cache memory memory′ : List ℕ) (n : ℕ) (tags : List Tag)
     → slots (hierarchyOf s cache memory) ≤ 256 → length cache ≡ slots (hierarchyOf s cache memory) * 16
     → DirtyInside (s .tags) (slots (hierarchyOf s cache memory)) (length memory)
-    → n ≡ length (filter (λ t. t .dirty) (s .tags))
+    → n ≡ length (filter isDirty (s .tags))
     → tags ≡ cond (leb (slots (hierarchyOf s cache memory)) 256) (flushedTags (slots (hierarchyOf s cache memory)) (s .tags)) (s .tags)
     → memory′ ≡ linesWritten (s .tags) (slots (hierarchyOf s cache memory)) cache memory
     → outcomeOf (leaving (Flushed n) s (s .last) (s .stores) (s .loads) tags) cache memory′ ≡ flushRule (queuesOf s) (hierarchyOf s cache memory)
 unfolding flushRule dirtyLines
 flushed-state s cache memory memory′ n tags room long inside e f g =
-    rw (e, in-range _ (le-leb _ 256 room) f, g ∙ lines-flushed _ (s .tags) cache memory room (omega (arith, long)) inside, flush-parts)
+    rw (e, f ∙ sym (cond-then _ _ (le-leb _ 256 room)), g ∙ lines-flushed _ (s .tags) cache memory room (omega (arith, long)) inside, flush-parts)

@@ -122,6 +122,7 @@ module _ (q : Queues) (b : Hierarchy) (small : b .size ≤ 65536) (p : Parts q b
 -- what a well-formed state that requests line l leaves to the fill
 pub record Filling (b : Hierarchy) (l : ℕ) : Type 0 where
   pub fit : Fits b
+  pub room : hasRoom (b .figures) ≡ true
   pub inside : 16 * l + 16 ≤ length (b .memory)
   pub low : l < 4096
   pub dirty-lines : DirtyInside (b .tags) 256 (length (b .memory))
@@ -135,6 +136,7 @@ filling s cache memory l g e =
     let asked = request-inside (queuesOf s) b (f .most-size) p l e in
     record {
       fit = fits-tells _ (p .fit);
+      room = has-room (s .figures) (f .some-set) (f .some-way) (f .room);
       inside = omega (arith, asked, f .whole-lines, fit-memory s cache memory (p .fit));
       low = omega (arith, asked, f .most-size);
       dirty-lines = dirty-inside b (fits-tells _ (p .fit)) (good-tells _ (p .lines)) 256;

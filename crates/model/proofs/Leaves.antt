@@ -7,22 +7,19 @@ use mathlib.Core.List.{List}
 use native.Mathlib.Omega.{arith}
 use lib.Dec.{ltb}
 use lib.ListN.{length}
-use borrow.Author.Tests.{lt-ltb, ltb-true}
+use borrow.Author.Tests.{ltb-true}
 use Rattle.lists.specs.Counted.{firstFrom, stepsFrom}
 use Rattle.lists.proofs.Counting.{first-high}
 use Rattle.rules.specs.declared.Tag.{Tag}
-use Rattle.rules.specs.Shape.{Hierarchy, holding, slots, firstSlot, tagAt}
+use Rattle.rules.specs.Shape.{Hierarchy, holding, slots, setOf, firstSlot, tagAt}
 use Rattle.rules.specs.Lines.{holdsLine, slotOf, present, useSlot, useLine, writeBackSlot, victim}
 use Rattle.rules.proofs.LineFacts.{Fits, Good, dirty-valid}
-use Rattle.records.specs.Records.{hasRoom, inTable, inSet, tabled, usedTags, victimIn, installedIn, flushedTags}
-use Rattle.records.proofs.Places.{has-room, slots-room, in-table, in-set}
-use Rattle.records.proofs.RecordLoops.{found-low, found-slot, found-present, victim-inside, flushed-tags}
+use Rattle.records.specs.Records.{hasRoom, inTable, inSet, tabled, usedTags, victimIn, flushedTags}
+use Rattle.records.proofs.Places.{room-bounds, in-set}
+use Rattle.records.proofs.Answers.{at-first, set-in-use, set-in-table, found-first, found-low, found-slot, found-present, victim-inside, victim-known}
+use Rattle.records.proofs.RecordLoops.{flushed-tags}
 use Rattle.line_bytes.specs.Writes.{flushedMemory, DirtyInside}
 use Rattle.line_bytes.proofs.Writing.{saves, flushed-memory}
-
--- what a function of the table answers in its range
-pub in-range : {A : Type 0} (t : Bool) {r x y : A} → t ≡ true → r ≡ cond t x y → r ≡ x
-in-range t {x = x} {y = y} e h = h ∙ ap (λ (t : Bool). cond t x y) e
 
 -- ---- where a line stands
 
@@ -45,43 +42,36 @@ pub record Chosen (b : Hierarchy) (l f v : ℕ) : Type 0 where
   pub high : v < f + b .figures .ways
   pub slot : v ≡ victim b l
 
-module _ (b : Hierarchy) (some-set : 0 < b .figures .sets) (some-way : 0 < b .figures .ways) (room : slots b ≤ 256) (l f v : ℕ)
+module _ (b : Hierarchy) (room : hasRoom (b .figures) ≡ true) (l f v : ℕ)
     (first : f ≡ cond (hasRoom (b .figures)) ((l % b .figures .sets) * b .figures .ways) 0) where
-  first-at : f ≡ firstSlot b l
-  first-at = in-range (hasRoom (b .figures)) (has-room (b .figures) some-set some-way room) first
-
-  within : f + b .figures .ways ≤ slots b
-  within = rw first-at (slots-room (b .figures) l some-set)
-
-  inside : inTable f (b .figures .ways) ≡ true
-  inside = in-table f (b .figures .ways) (omega (arith, within))
-
   pub located :
       v ≡ cond (inTable f (b .figures .ways)) (firstFrom (λ k. holdsLine l (tagAt (b .tags) k)) f (b .figures .ways)) 0 → Located b l f v
+  unfolding present slotOf
   located e =
-      let found = in-range (inTable f (b .figures .ways)) inside e in
       record {
-        first = first-at;
-        within = within;
-        room = room;
-        low = found-low b l f v first-at found;
-        high = omega (arith, found, first-high (λ k. holdsLine l (tagAt (b .tags) k)) (b .figures .ways) f);
-        slot = found-slot b l f v first-at found;
-        here = found-present b l f v first-at found;
+        first = at-first (b .figures) l f room first;
+        within = set-in-use (b .figures) l f room first;
+        room = room-bounds (b .figures) room .in-all;
+        low = found-low (b .figures) l f room first (b .tags) v e;
+        high =
+            omega (arith, found-first (b .figures) l f room first (b .tags) v e, first-high (λ k. holdsLine l (tagAt (b .tags) k)) (b .figures .ways) f);
+        slot = found-slot (b .figures) l f room first (b .tags) v e;
+        here = found-present (b .figures) l f room first (b .tags) v e;
       }
 
   pub chosen : v ≡ cond (inTable f (b .figures .ways) && ltb 0 (b .figures .ways)) (victimIn (b .tags) f (b .figures .ways)) 0 → Chosen b l f v
   unfolding victim victimIn
   chosen e =
-      let found : v ≡ victimIn (b .tags) f (b .figures .ways) = in-range (inTable f (b .figures .ways) && ltb 0 (b .figures .ways)) (rw (inside, lt-ltb 0 (b .figures .ways) some-way)) e in
-      let i = victim-inside (b .tags) f (b .figures .ways) some-way in
+      let r = room-bounds (b .figures) room in
+      let found = victim-known (b .tags) f (b .figures .ways) v (set-in-table (b .figures) l f room first) (r .some-way) e in
+      let i = victim-inside (b .tags) f (b .figures .ways) (r .some-way) in
       record {
-        first = first-at;
-        within = within;
-        room = room;
+        first = at-first (b .figures) l f room first;
+        within = set-in-use (b .figures) l f room first;
+        room = r .in-all;
         low = omega (arith, i .0, found);
         high = omega (arith, i .1, found);
-        slot = found ∙ ap (λ (f : ℕ). victimIn (b .tags) f (b .figures .ways)) first-at;
+        slot = found ∙ ap (λ (f : ℕ). victimIn (b .tags) f (b .figures .ways)) (at-first (b .figures) l f room first);
       }
 
 -- the slot of a present line is in the set
@@ -102,8 +92,8 @@ used-line l b = go (present b l)
   where
     go :
         (t : Bool)
-        → cond t (useSlot (firstSlot b l) (slotOf b l) b) b
-        ≡ holding b (cond t (useSlot (firstSlot b l) (slotOf b l) (tabled (b .figures) (b .tags))) (tabled (b .figures) (b .tags)) .tags) (b .cache) (b .memory)
+        → cond t (useSlot (setOf b l) (slotOf b l) b) b
+        ≡ holding b (cond t (useSlot (setOf b l) (slotOf b l) (tabled (b .figures) (b .tags))) (tabled (b .figures) (b .tags)) .tags) (b .cache) (b .memory)
     go true = refl
     go false = refl
 

@@ -11,7 +11,7 @@ use borrow.Author.Tests.{lt-ltb, le-ltb, eq-eqb, ne-eqb, not-true}
 use Rattle.lists.specs.Padded.{any, first, filter, shifted}
 use Rattle.lists.specs.Bytes.{overlaid}
 use Rattle.lists.specs.Counted.{eachFrom}
-use Rattle.lists.proofs.Cond.{cases, and-left, wrong, or-left, or-right}
+use Rattle.lists.proofs.Cond.{cases, cond-then, and-left, wrong, or-left, or-right}
 use Rattle.lists.proofs.Counting.{each-length, each-at}
 use Rattle.lists.proofs.Some.{any-first}
 use Rattle.rules.specs.declared.Figures.{Figures}
@@ -29,7 +29,7 @@ use Rattle.line_checks.specs.Refusal.{hierarchy}
 use Rattle.records.specs.Records.{inSet, tabled, usedTags, installedIn, flushedTags}
 use Rattle.line_bytes.specs.Writes.{flushedMemory, lineWritten, lineFilled, storePut}
 use Rattle.line_bytes.proofs.Writing.{written-inside, written-length, fill-copies, put-inside}
-use Rattle.model.proofs.Leaves.{Located, Chosen, in-range, present-slot, slot-in-set, used-line, flushed-all}
+use Rattle.model.proofs.Leaves.{Located, Chosen, present-slot, slot-in-set, used-line, flushed-all}
 use Rattle.model.proofs.Facts.{Filling}
 use Rattle.model.specs.State.{bytesFrom, queuesOf, hierarchyOf, worldOf, outcomeOf, idleRequest}
 use Rattle.model.specs.Shows.{partIn, shownPart}
@@ -169,7 +169,7 @@ filled-whole b l f v n tags cache memory g h m e c t =
     let long : 16 * l + 16 ≤ length memory = rw (m, written-length) (g .inside) in
     let copied : cache ≡ eachFrom (copiedAt memory v l) 0 (b .cache) = c ∙ rw e (fill-copies memory v l (b .cache) slot long) in
     let installed : tags ≡ installedIn f (b .figures .ways) v l (b .tags) =
-    in-range _ (rw (slot-in-set b f v (h .within) (h .room) (h .low) (h .high)) (lt-ltb l 65536 (omega (arith, g .low)))) t in
+    t ∙ sym (cond-then _ _ (rw (slot-in-set b f v (h .within) (h .room) (h .low) (h .high)) (lt-ltb l 65536 (omega (arith, g .low))))) in
     rw (fill-parts b l v (h .slot), installed, copied, written, ← (h .first))
 
 -- the whole reply
@@ -220,7 +220,7 @@ written-whole b e f v dirty used cache h here narrow one-line long c d u =
     let put : cache ≡ eachFrom (overlaid (16 * v + e .address % 16) (e .width) (e .value)) 0 (b .cache) =
     c ∙ put-inside _ _ _ (b .cache) narrow (omega (arith, h .within)) in
     let aged : used ≡ eachFrom (agedAt f (b .figures .ways) v (tagAt dirty v .age)) 0 dirty =
-    in-range _ (slot-in-set b f v (h .within) (h .room) (h .low) high) u in
+    u ∙ sym (cond-then _ _ (slot-in-set b f v (h .within) (h .room) (h .low) high)) in
     rw (aged, d, put, h .slot, h .first)
 
 -- ---- flush

@@ -10,6 +10,7 @@ use borrow.Author.Tests.{ltb-true, leb-true, eqb-true, lt-ltb, le-ltb, le-leb, e
 use Rattle.lists.specs.Counted.{firstFrom, greatestFrom, stepsFrom, eachFrom}
 use Rattle.lists.proofs.Cond.{either, and-left, and-right}
 use Rattle.lists.proofs.CountedLoops.{change, changes-each}
+use Rattle.rules.specs.declared.Figures.{Figures}
 use Rattle.rules.specs.declared.Tag.{Tag}
 use Rattle.rules.specs.Shape.{Hierarchy, noTag, tagAt, withAge, withDirty}
 use Rattle.rules.specs.Lines.{agedAt, writeBackSlot}
@@ -75,11 +76,11 @@ abbrev pub startAt : ℕ → ℕ → ℕ → Tag → Tag
 startAt count ways k t = cond (ltb k count) (withAge (k % ways) t) t
 
 pub start-each :
-    (sets ways : ℕ) → stepsFrom (change (startAt (sets * ways) ways) noTag) 0 (sets * ways) (replicate 256 noTag) ≡ startTags sets ways
+    (g : Figures) → stepsFrom (change (startAt (g .sets * g .ways) (g .ways)) noTag) 0 (g .sets * g .ways) (replicate 256 noTag) ≡ startTags g
 unfolding startTags
-start-each sets ways =
-    changes-each (startAt (sets * ways) ways) noTag 0 (sets * ways) (replicate 256 noTag)
-    (λ k x o. rw (le-ltb k (sets * ways) (not-below k (sets * ways) (λ l. o (omega arith) (omega arith)))))
+start-each g =
+    changes-each (startAt (g .sets * g .ways) (g .ways)) noTag 0 (g .sets * g .ways) (replicate 256 noTag)
+    (λ k x o. rw (le-ltb k (g .sets * g .ways) (not-below k (g .sets * g .ways) (λ l. o (omega arith) (omega arith)))))
   where
     not-below : (k n : ℕ) → (k < n → ⊥) → n ≤ k
     not-below k n h = omega arith

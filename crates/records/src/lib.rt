@@ -10,7 +10,7 @@ ghost use lib.ListN.{length, set, replicate};
 ghost use Rattle.lists.specs.Padded.{filter};
 ghost use Rattle.lists.specs.Counted.{firstFrom, greatestFrom, eachFrom};
 ghost use Rattle.rules.specs.Shape.{noTag, tagAt, withDirty};
-ghost use Rattle.rules.specs.Lines.{holdsLine, agedAt};
+ghost use Rattle.rules.specs.Lines.{holdsLine, agedAt, isDirty};
 ghost use Rattle.rules.specs.Runs.{startTags};
 ghost use Rattle.records.specs.Records.{hasRoom, inTable, inSet, usedTags, victimIn, installedIn, flushedTags};
 use rules::Figures;
@@ -292,7 +292,7 @@ fn dirty_one(t: Tag) -> u32
 
 // The number of dirty records: "the number of lines written" by a flush.
 pub fn dirty_count(tags: [Tag; TAG_RECORDS]) -> u32
-    ensures { λ r. ⌜ r ≡ length (filter (λ t. t .dirty) tags) ⌝ }
+    ensures { λ r. ⌜ r ≡ length (filter isDirty tags) ⌝ }
 {
     let mut n: u32 = 0;
     let mut k: usize = 0;
@@ -306,7 +306,7 @@ pub fn dirty_count(tags: [Tag; TAG_RECORDS]) -> u32
 
 // "gives way w age w, invalidates every record": slot s × ways + w has age w; the other records are zero.
 pub fn start_tags(figures: Figures) -> [Tag; TAG_RECORDS]
-    ensures { λ r. ⌜ r ≡ cond (hasRoom figures) (startTags (figures .sets) (figures .ways)) (replicate 256 noTag) ⌝ }
+    ensures { λ r. ⌜ r ≡ cond (hasRoom figures) (startTags figures) (replicate 256 noTag) ⌝ }
 {
     let mut out = [NO_TAG; TAG_RECORDS];
     if !has_room(figures) {

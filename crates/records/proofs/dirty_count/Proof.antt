@@ -7,12 +7,13 @@ use borrow.Author.Needs.{needs}
 use Rattle.lists.specs.Padded.{filter}
 use Rattle.lists.proofs.CountedLoops.{count-next, count-end}
 use Rattle.rules.specs.Shape.{noTag}
+use Rattle.rules.specs.Lines.{isDirty}
 use Rattle.records.proofs.dirty_count.Statement.{statement}
 use Rattle.records.proofs.dirty_count.Tie as tie
 
 abbrev Inv-loop : tie.InvT-loop
 Inv-loop tags n₀ k₀ n k =
-    (k ≤ 256) × (n ≤ k) × (n + length (filter (λ t. t .dirty) (drop k tags)) ≡ length (filter (λ t. t .dirty) tags))
+    (k ≤ 256) × (n ≤ k) × (n + length (filter isDirty (drop k tags)) ≡ length (filter isDirty tags))
 
 abbrev μ-loop : tie.MeasureT-loop
 μ-loop tags n₀ k₀ n k = 256 - k

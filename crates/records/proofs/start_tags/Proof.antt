@@ -95,7 +95,7 @@ returns-2 c =
     let if1 = c .before .before .before .before .if1 in
     let loop = c .before .loop in
     sym (steps-end _ _ _ _ (c .loop-test .left))
-    ∙ (sym (loop .inv .3) ∙ start-each (args .figures .sets) (args .figures .ways))
+    ∙ (sym (loop .inv .3) ∙ start-each (args .figures))
     ∙ cond-then _ _ (test-passed (has-room .ensures) (if1 .left))
 
 pub start-tags-spec : {M : Type 1} → statement M

@@ -1,8 +1,7 @@
 -- `State::commit` meets its contract: checks 1 and 10, then the call on a well-formed state.
 use borrow.Author.Needs.{needs}
 use mathlib.Core.Path.{sym}
-use Rattle.rules.specs.Calls as rules
-use Rattle.model.proofs.Calls.{state-refuses, state-opens}
+use Rattle.model.proofs.Calls.{state-refuses, state-formed}
 use Rattle.model.proofs.State.commit.Statement.{statement}
 use Rattle.model.proofs.State.commit.Tie as tie
 
@@ -16,12 +15,12 @@ returns : tie.Need-returns
 returns c =
     let state-refusal = c .before .before .state-refusal in
     let if1 = c .before .if1 in
-    rw (c .refused .ensures) (sym (state-refuses _ _ _ _ (state-refusal .ensures) (if1 .taken)))
+    rw (c .refused .ensures) (sym (state-refuses _ _ _ _ (state-refusal .ensures) (if1 .taken) tt))
 
 commit-formed-requires : tie.Need-commit-formed-requires
 commit-formed-requires c κs =
     let state-refusal = c .before .state-refusal in
-    state-opens rules.idle _ _ _ (state-refusal .ensures) (c .if1 .left) .formed
+    state-formed _ _ _ (state-refusal .ensures) (c .if1 .left)
 
 returns-2 : tie.Need-returns-2
 returns-2 c = c .commit-formed .ensures

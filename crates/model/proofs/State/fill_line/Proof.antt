@@ -24,7 +24,7 @@ mul-old c =
     let a = @args in
     let b = hierarchyOf (a .self) (now (a .cache)) (now (a .memory)) in
     let g = filling (a .self) (now (a .cache)) (now (a .memory)) (a .line) (@pre .0) (@pre .1) in
-    let h = chosen b (g .fit .some-set) (g .fit .some-way) (g .fit .room) _ _ _ (@first-slot .ensures) (@victim .ensures) in
+    let h = chosen b (g .room) _ _ _ (@first-slot .ensures) (@victim .ensures) in
     omega (arith, h .high, h .within, h .room)
 
 array-copy-out-old : tie.Need-array-copy-out-old
@@ -32,7 +32,7 @@ array-copy-out-old c =
     let a = @args in
     let b = hierarchyOf (a .self) (now (a .cache)) (now (a .memory)) in
     let g = filling (a .self) (now (a .cache)) (now (a .memory)) (a .line) (@pre .0) (@pre .1) in
-    let h = chosen b (g .fit .some-set) (g .fit .some-way) (g .fit .room) _ _ _ (@first-slot .ensures) (@victim .ensures) in
+    let h = chosen b (g .room) _ _ _ (@first-slot .ensures) (@victim .ensures) in
     omega (arith, h .high, h .within, h .room)
 
 write-back-requires : tie.Need-write-back-requires
@@ -87,7 +87,7 @@ returns c =
     let a = @args in
     let b = hierarchyOf (a .self) (now (a .cache)) (now (a .memory)) in
     let g = filling (a .self) (now (a .cache)) (now (a .memory)) (a .line) (@pre .0) (@pre .1) in
-    let h = chosen b (g .fit .some-set) (g .fit .some-way) (g .fit .room) _ _ _ (@first-slot .ensures) (@victim .ensures) in
+    let h = chosen b (g .room) _ _ _ (@first-slot .ensures) (@victim .ensures) in
     rw (@with-request .ensures)
     (filled-state (a .self) (now (a .cache)) (now (a .memory)) (a .line) _ _ _ (@pre .1)
     (filled-whole b (a .line) _ _ _ _ _ _ g h (@write-back .ensures) (omega arith) (@fill-slot .ensures) (@install .ensures)))

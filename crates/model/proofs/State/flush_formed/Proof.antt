@@ -20,12 +20,12 @@ returns c =
     let pre = c .before .before .before .before .before .before .pre in
     let has-committed-store = c .before .before .has-committed-store in
     let if1 = c .before .if1 in
-    rw (c .refused .ensures) (sym (one-refuses _ _ _ (formed-opens _ _ _ pre) _ _ refl (sym (has-committed-store .ensures) ∙ if1 .taken)))
+    rw (c .refused .ensures) (sym (one-refuses _ _ _ (formed-opens _ _ _ pre tt) _ _ refl (sym (has-committed-store .ensures) ∙ if1 .taken)))
 
 flush-accepted-requires : tie.Need-flush-accepted-requires
 flush-accepted-requires c κs =
     let pre = c .before .before .before .before .before .before .pre in
-    (formed-opens rules.idle _ _ pre) .formed
+    (formed-opens rules.idle _ _ pre tt) .formed
 
 returns-2 : tie.Need-returns-2
 returns-2 c =
@@ -33,7 +33,7 @@ returns-2 c =
     let has-committed-store = c .before .before .before .before .before .has-committed-store in
     let if1 = c .before .before .before .before .if1 in
     let flush-accepted = c .before .before .flush-accepted in
-    flush-accepted .ensures ∙ sym (one-does _ _ _ (formed-opens _ _ _ pre) _ _ refl (sym (has-committed-store .ensures) ∙ if1 .left))
+    flush-accepted .ensures ∙ sym (one-does _ _ _ (formed-opens _ _ _ pre tt) _ _ refl (sym (has-committed-store .ensures) ∙ if1 .left))
 
 pub flush-formed-spec : {M : Type 1} → statement M
 flush-formed-spec =

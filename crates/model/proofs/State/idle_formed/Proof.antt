@@ -26,7 +26,7 @@ is-present-requires c κs =
     let s = args .self in
     let cache = now (args .cache) in
     let memory = now (args .memory) in
-    shaped-self _ _ (fit-shaped s cache memory ((formed-opens rules.idle _ _ pre) .fit))
+    shaped-self _ _ (fit-shaped s cache memory ((formed-opens rules.idle _ _ pre tt) .fit))
 
 drain-oldest-requires : tie.Need-drain-oldest-requires
 unfolding lineOf
@@ -41,7 +41,7 @@ drain-oldest-requires c κs =
     let cache = now (args .cache) in
     let memory = now (args .memory) in
     let ready = sym (store-ready .ensures ∙ ready-at s cache memory) ∙ if1 .taken in
-    let o = (formed-opens rules.idle _ _ pre) in
+    let o = (formed-opens rules.idle _ _ pre tt) in
     let f = fit-figures s cache memory (o .fit) in
     (fit-shaped s cache memory (o .fit), oldest-fine (queuesOf s) (hierarchyOf s cache memory) (f .most-size) (parts _ _ (o .formed)) ready, refl, (sym (is-present .ensures) ∙ if2 .taken))
 
@@ -62,7 +62,7 @@ returns c =
     let cache = now (args .cache) in
     let memory = now (args .memory) in
     let ready = sym (store-ready .ensures ∙ ready-at s cache memory) ∙ if1 .taken in
-    let o = (formed-opens rules.idle _ _ pre) in
+    let o = (formed-opens rules.idle _ _ pre tt) in
     drain-oldest .ensures _ ∙ sym (none-does rules.idle _ _ o refl ∙ idle-drains s cache memory ready (sym (is-present .ensures) ∙ if2 .taken))
 
 idle-request-requires : tie.Need-idle-request-requires
@@ -75,7 +75,7 @@ idle-request-requires c κs =
     let s = args .self in
     let cache = now (args .cache) in
     let memory = now (args .memory) in
-    (shaped-self _ _ (fit-shaped s cache memory ((formed-opens rules.idle _ _ pre) .fit)), (store-ready .ensures ∙ ready-at s cache memory), refl, is-present .ensures)
+    (shaped-self _ _ (fit-shaped s cache memory ((formed-opens rules.idle _ _ pre tt) .fit)), (store-ready .ensures ∙ ready-at s cache memory), refl, is-present .ensures)
 
 returns-2 : tie.Need-returns-2
 unfolding lineOf
@@ -87,7 +87,7 @@ returns-2 c =
     let s = args .self in
     let cache = now (args .cache) in
     let memory = now (args .memory) in
-    let o = (formed-opens rules.idle _ _ pre) in
+    let o = (formed-opens rules.idle _ _ pre tt) in
     c .idle-request .ensures _ _ ∙ sym (none-does rules.idle _ _ o refl ∙ idle-absent s cache memory (sym (is-present .ensures) ∙ if2 .left))
 
 idle-request-requires-2 : tie.Need-idle-request-requires-2
@@ -100,7 +100,7 @@ idle-request-requires-2 c κs =
     let s = args .self in
     let cache = now (args .cache) in
     let memory = now (args .memory) in
-    (shaped-self _ _ (fit-shaped s cache memory ((formed-opens rules.idle _ _ pre) .fit)), (store-ready .ensures ∙ ready-at s cache memory), refl, is-present .ensures)
+    (shaped-self _ _ (fit-shaped s cache memory ((formed-opens rules.idle _ _ pre tt) .fit)), (store-ready .ensures ∙ ready-at s cache memory), refl, is-present .ensures)
 
 returns-3 : tie.Need-returns-3
 returns-3 c =
@@ -112,7 +112,7 @@ returns-3 c =
     let cache = now (args .cache) in
     let memory = now (args .memory) in
     let unready = sym (store-ready .ensures ∙ ready-at s cache memory) ∙ if1 .left in
-    let o = (formed-opens rules.idle _ _ pre) in
+    let o = (formed-opens rules.idle _ _ pre tt) in
     c .idle-request2 .ensures _ _ ∙ sym (none-does rules.idle _ _ o refl ∙ idle-unready s cache memory unready)
 
 pub idle-formed-spec : {M : Type 1} → statement M

@@ -3,6 +3,7 @@ use borrow.Author.Needs.{needs}
 use native.Mathlib.Omega.{arith}
 use Rattle.records.specs.Records.{tabled}
 use Rattle.model.proofs.Leaves.{located}
+use Rattle.model.proofs.Facts.{shaped-room}
 use Rattle.model.proofs.State.is_present.Statement.{statement}
 use Rattle.model.proofs.State.is_present.Tie as tie
 
@@ -18,13 +19,13 @@ find-requires c κs = search needs
 add-result : tie.Need-add-result
 add-result c =
     let s = @args .self in
-    let h = located (tabled (s .figures) (s .tags)) (@pre .some-set) (@pre .some-way) (@pre .room) _ _ _ (@first-slot .ensures) (@find .ensures) in
+    let h = located (tabled (s .figures) (s .tags)) (shaped-room _ _ @pre) _ _ _ (@first-slot .ensures) (@find .ensures) in
     omega (arith, h .within, h .room)
 
 returns : tie.Need-returns
 returns c =
     let s = @args .self in
-    located (tabled (s .figures) (s .tags)) (@pre .some-set) (@pre .some-way) (@pre .room) _ _ _ (@first-slot .ensures) (@find .ensures) .here
+    located (tabled (s .figures) (s .tags)) (shaped-room _ _ @pre) _ _ _ (@first-slot .ensures) (@find .ensures) .here
 
 pub is-present-spec : {M : Type 1} → statement M
 is-present-spec =

@@ -33,7 +33,7 @@ returns c =
     let enum-told = c .before .before .enum-told in
     let failure = c .before .failure in
     rw (c .refused .ensures, failure .ensures, enum-told .given .1)
-    (sym (access-refuses _ _ _ _ _ _ refl (formed-opens _ _ _ pre) _ (sym (check-access .ensures) ∙ enum-told .given .1)))
+    (sym (access-refuses _ _ _ _ _ _ refl (formed-opens _ _ _ pre tt) _ (sym (check-access .ensures) ∙ enum-told .given .1)))
 
 refused-requires-2 : tie.Need-refused-requires-2
 refused-requires-2 c κs = search needs
@@ -45,7 +45,7 @@ returns-2 c =
     let checked = c .before .before .before .before .checked in
     let if1 = c .before .if1 in
     rw (c .refused2 .ensures)
-    (sym (load-numbers _ _ _ _ (formed-opens _ _ _ pre) _ (sym (check-access .ensures) ∙ checked .given .1) (if1 .taken)))
+    (sym (load-numbers _ _ _ _ (formed-opens _ _ _ pre tt) _ (sym (check-access .ensures) ∙ checked .given .1) (if1 .taken)))
 
 has-free-load-requires : tie.Need-has-free-load-requires
 has-free-load-requires c κs = search needs
@@ -57,7 +57,7 @@ load-accepted-requires c κs =
     let check-access = c .before .before .before .before .before .before .before .before .check-access in
     let checked = c .before .before .before .before .before .before .checked in
     let if1 = c .before .before .before .if1 in
-    let o = (formed-opens rules.idle _ _ pre) in
+    let o = (formed-opens rules.idle _ _ pre tt) in
     let p = passed-access _ _ _ _ (sym (check-access .ensures) ∙ checked .given .1) in
     (fit-shaped (args .self) (now (args .cache)) (now (args .memory)) (o .fit), rw (p .1) (access-fine (sized (args .self .size)) _ _ (fit-figures (args .self) (now (args .cache)) (now (args .memory)) (o .fit) .most-size) (p .0)), omega (arith, parts _ _ (o .formed) .last-fits, if1 .left))
 
@@ -72,7 +72,7 @@ returns-3 c =
     let if1 = c .before .before .before .before .if1 in
     let has-free-load = c .before .before .has-free-load in
     let if2 = c .before .if2 in
-    let o = (formed-opens _ _ _ pre) in
+    let o = (formed-opens _ _ _ pre tt) in
     let e = sym (check-access .ensures) ∙ checked .given .1 in
     c .load-accepted .ensures _ ∙ rw (passed-access _ _ _ _ e .1) (sym (load-does _ _ _ _ o _ e (if1 .left) (sym (has-free-load .ensures) ∙ if2 .taken)))
 
@@ -85,7 +85,7 @@ returns-4 c =
     let has-free-load = c .before .before .has-free-load in
     let if2 = c .before .if2 in
     rw (c .refused3 .ensures)
-    (sym (load-full _ _ _ _ (formed-opens _ _ _ pre) _ (sym (check-access .ensures) ∙ checked .given .1) (if1 .left) (sym (has-free-load .ensures) ∙ if2 .left)))
+    (sym (load-full _ _ _ _ (formed-opens _ _ _ pre tt) _ (sym (check-access .ensures) ∙ checked .given .1) (if1 .left) (sym (has-free-load .ensures) ∙ if2 .left)))
 
 pub load-formed-spec : {M : Type 1} → statement M
 load-formed-spec =

@@ -10,12 +10,12 @@ use Rattle.model.specs.State.{hierarchyOf}
 use Rattle.model.proofs.Leaves.{located}
 use Rattle.model.proofs.Moves.{show-outside, show-absent, show-present}
 use Rattle.model.proofs.Calls.{formed-opens, none-does}
-use Rattle.model.proofs.Facts.{fit-shaped}
+use Rattle.model.proofs.Facts.{fit-shaped, shaped-room}
 use Rattle.model.proofs.State.part_formed.Statement.{statement}
 use Rattle.model.proofs.State.part_formed.Tie as tie
 
 returns : tie.Need-returns
-returns c = (show-outside _ _ _ _ (none-does _ _ _ (formed-opens (rules.show (@args .address)) _ _ @pre) refl) (c .if1 .taken), omega arith)
+returns c = (show-outside _ _ _ _ (none-does _ _ _ (formed-opens (rules.show (@args .address)) _ _ @pre tt) refl) (c .if1 .taken), omega arith)
 
 cast-ways : tie.Need-cast-ways
 cast-ways c = search needs
@@ -30,18 +30,18 @@ add-if2 : tie.Need-add-if2
 add-if2 c =
     let s = @args .self in
     let b = hierarchyOf s (now (@args .cache)) (now (@args .memory)) in
-    let o = formed-opens (rules.show (@args .address)) _ _ @pre in
+    let o = formed-opens (rules.show (@args .address)) _ _ @pre tt in
     let f = fit-shaped s (now (@args .cache)) (now (@args .memory)) (o .fit) in
-    let h = located b (f .some-set) (f .some-way) (f .room) _ _ _ (@first-slot .ensures) (@find .ensures) in
+    let h = located b (shaped-room _ _ f) _ _ _ (@first-slot .ensures) (@find .ensures) in
     omega (arith, h .within, h .room)
 
 mul-t13 : tie.Need-mul-t13
 mul-t13 c =
     let s = @args .self in
     let b = hierarchyOf s (now (@args .cache)) (now (@args .memory)) in
-    let o = formed-opens (rules.show (@args .address)) _ _ @pre in
+    let o = formed-opens (rules.show (@args .address)) _ _ @pre tt in
     let f = fit-shaped s (now (@args .cache)) (now (@args .memory)) (o .fit) in
-    let h = located b (f .some-set) (f .some-way) (f .room) _ _ _ (@first-slot .ensures) (@find .ensures) in
+    let h = located b (shaped-room _ _ f) _ _ _ (@first-slot .ensures) (@find .ensures) in
     omega (arith, h .high, h .within, h .room)
 
 returns-2 : tie.Need-returns-2
@@ -49,9 +49,9 @@ unfolding lineOf
 returns-2 c =
     let s = @args .self in
     let b = hierarchyOf s (now (@args .cache)) (now (@args .memory)) in
-    let o = formed-opens (rules.show (@args .address)) _ _ @pre in
+    let o = formed-opens (rules.show (@args .address)) _ _ @pre tt in
     let f = fit-shaped s (now (@args .cache)) (now (@args .memory)) (o .fit) in
-    let h = located b (f .some-set) (f .some-way) (f .room) _ _ _ (@first-slot .ensures) (@find .ensures) in
+    let h = located b (shaped-room _ _ f) _ _ _ (@first-slot .ensures) (@find .ensures) in
     let bytes = f .cache-long in
     (show-present _ _ _ _ (none-does _ _ _ o refl) _ (@if1 .left) (sym (h .here) ∙ lt-ltb _ _ (c .if2 .taken)) (h .slot) (omega (arith, bytes, h .within)), omega (arith, bytes, h .within))
 
@@ -60,9 +60,9 @@ unfolding lineOf
 returns-3 c =
     let s = @args .self in
     let b = hierarchyOf s (now (@args .cache)) (now (@args .memory)) in
-    let o = formed-opens (rules.show (@args .address)) _ _ @pre in
+    let o = formed-opens (rules.show (@args .address)) _ _ @pre tt in
     let f = fit-shaped s (now (@args .cache)) (now (@args .memory)) (o .fit) in
-    let h = located b (f .some-set) (f .some-way) (f .room) _ _ _ (@first-slot .ensures) (@find .ensures) in
+    let h = located b (shaped-room _ _ f) _ _ _ (@first-slot .ensures) (@find .ensures) in
     (show-absent _ _ _ _ (none-does _ _ _ o refl) (@if1 .left) (sym (h .here) ∙ le-ltb _ _ (c .if2 .left)), omega arith)
 
 pub part-formed-spec : {M : Type 1} → statement M

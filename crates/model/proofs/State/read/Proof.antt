@@ -7,6 +7,7 @@ use denote.Ref.{now}
 use Rattle.rules.specs.Shape.{lineOf}
 use Rattle.model.specs.State.{hierarchyOf}
 use Rattle.model.proofs.Leaves.{located}
+use Rattle.model.proofs.Facts.{shaped-room}
 use Rattle.model.proofs.Reading.{read-located}
 use Rattle.model.proofs.State.read.Statement.{statement}
 use Rattle.model.proofs.State.read.Tie as tie
@@ -23,7 +24,7 @@ find-requires c κs = search needs
 mul-place : tie.Need-mul-place
 mul-place c =
     let s = @args .self in
-    let h = located (hierarchyOf s (now (@args .cache)) []) (@pre .0 .some-set) (@pre .0 .some-way) (@pre .0 .room) _ _ _ (@first-slot .ensures) (@find .ensures) in
+    let h = located (hierarchyOf s (now (@args .cache)) []) (shaped-room _ _ (@pre .0)) _ _ _ (@first-slot .ensures) (@find .ensures) in
     omega (arith, h .high, h .within, h .room)
 
 cast-place : tie.Need-cast-place
@@ -32,13 +33,13 @@ cast-place c = search needs
 add-place : tie.Need-add-place
 add-place c =
     let s = @args .self in
-    let h = located (hierarchyOf s (now (@args .cache)) []) (@pre .0 .some-set) (@pre .0 .some-way) (@pre .0 .room) _ _ _ (@first-slot .ensures) (@find .ensures) in
+    let h = located (hierarchyOf s (now (@args .cache)) []) (shaped-room _ _ (@pre .0)) _ _ _ (@first-slot .ensures) (@find .ensures) in
     omega (arith, h .high, h .within, h .room)
 
 add-read-bytes : tie.Need-add-read-bytes
 add-read-bytes c =
     let s = @args .self in
-    let h = located (hierarchyOf s (now (@args .cache)) []) (@pre .0 .some-set) (@pre .0 .some-way) (@pre .0 .room) _ _ _ (@first-slot .ensures) (@find .ensures) in
+    let h = located (hierarchyOf s (now (@args .cache)) []) (shaped-room _ _ (@pre .0)) _ _ _ (@first-slot .ensures) (@find .ensures) in
     omega (arith, h .within, h .room)
 
 read-bytes-requires : tie.Need-read-bytes-requires
@@ -50,7 +51,7 @@ returns c =
     let s = @args .self in
     λ m.
     let b = hierarchyOf s (now (@args .cache)) m in
-    let h = located b (@pre .0 .some-set) (@pre .0 .some-way) (@pre .0 .room) _ _ _ (@first-slot .ensures) (@find .ensures) in
+    let h = located b (shaped-room _ _ (@pre .0)) _ _ _ (@first-slot .ensures) (@find .ensures) in
     c .read-bytes .ensures ∙ read-located (@args .i) (@args .address) (@args .width) (s .stores) b (@pre .1) _ _ h (@pre .0 .cache-long)
 
 pub read-spec : {M : Type 1} → statement M

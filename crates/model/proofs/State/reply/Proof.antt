@@ -1,8 +1,7 @@
 -- `State::reply` meets its contract: checks 1 and 10, then the call on a well-formed state.
 use borrow.Author.Needs.{needs}
 use mathlib.Core.Path.{sym}
-use Rattle.rules.specs.Calls as rules
-use Rattle.model.proofs.Calls.{state-refuses, state-opens}
+use Rattle.model.proofs.Calls.{state-refuses, state-formed}
 use Rattle.model.proofs.State.reply.Statement.{statement}
 use Rattle.model.proofs.State.reply.Tie as tie
 
@@ -22,13 +21,13 @@ returns : tie.Need-returns
 returns c =
     let state-refusal = c .before .before .state-refusal in
     let if1 = c .before .if1 in
-    rw (c .refused .ensures) (sym (state-refuses _ _ _ _ (state-refusal .ensures) (if1 .taken)))
+    rw (c .refused .ensures) (sym (state-refuses _ _ _ _ (state-refusal .ensures) (if1 .taken) tt))
 
 reply-formed-requires : tie.Need-reply-formed-requires
 reply-formed-requires c κs =
     let state-refusal = c .before .before .before .state-refusal in
     let if1 = c .before .before .if1 in
-    state-opens rules.idle _ _ _ (state-refusal .ensures) (if1 .left) .formed
+    state-formed _ _ _ (state-refusal .ensures) (if1 .left)
 
 same-length-3 : tie.Need-same-length-3
 same-length-3 c = search needs

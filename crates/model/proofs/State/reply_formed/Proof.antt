@@ -20,7 +20,7 @@ fill-line-requires : tie.Need-fill-line-requires
 fill-line-requires c κs =
     let pre = c .before .before .before .before .before .before .before .pre in
     let request = c .before .before .before .request in
-    ((formed-opens rules.idle _ _ pre) .formed, request .given .1)
+    ((formed-opens rules.idle _ _ pre tt) .formed, request .given .1)
 
 same-length : tie.Need-same-length
 same-length c = search needs
@@ -32,14 +32,14 @@ returns : tie.Need-returns
 returns c =
     let pre = c .before .before .before .before .before .pre in
     let enum-told = c .before .enum-told in
-    rw (c .refused .ensures) (sym (one-refuses _ _ _ (formed-opens _ _ _ pre) _ _ refl (ap isFree (enum-told .given .1))))
+    rw (c .refused .ensures) (sym (one-refuses _ _ _ (formed-opens _ _ _ pre tt) _ _ refl (ap isFree (enum-told .given .1))))
 
 returns-2 : tie.Need-returns-2
 returns-2 c =
     let pre = c .before .before .before .before .before .before .before .before .before .before .before .before .pre in
     let request = c .before .before .before .before .before .before .before .before .request in
     let fill-line = c .before .before .before .before .fill-line in
-    fill-line .ensures ∙ sym (one-does _ _ _ (formed-opens _ _ _ pre) _ _ refl (ap isFree (request .given .1)))
+    fill-line .ensures ∙ sym (one-does _ _ _ (formed-opens _ _ _ pre tt) _ _ refl (ap isFree (request .given .1)))
 
 pub reply-formed-spec : {M : Type 1} → statement M
 reply-formed-spec =

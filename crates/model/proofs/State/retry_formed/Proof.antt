@@ -23,7 +23,7 @@ retry-accepted-requires c κs =
     let args = c .before .before .before .before .before .before .args in
     let has-waiting = c .before .before .has-waiting in
     let if1 = c .before .if1 in
-    let o = (formed-opens rules.idle _ _ pre) in
+    let o = (formed-opens rules.idle _ _ pre tt) in
     let s = args .self in
     let cache = now (args .cache) in
     let memory = now (args .memory) in
@@ -40,14 +40,14 @@ returns c =
     let pre = c .before .before .before .before .before .before .before .pre in
     let has-waiting = c .before .before .before .has-waiting in
     let if1 = c .before .before .if1 in
-    c .retry-accepted .ensures _ ∙ sym (one-does _ _ _ (formed-opens _ _ _ pre) _ _ refl (ap not (sym (has-waiting .ensures) ∙ if1 .taken)))
+    c .retry-accepted .ensures _ ∙ sym (one-does _ _ _ (formed-opens _ _ _ pre tt) _ _ refl (ap not (sym (has-waiting .ensures) ∙ if1 .taken)))
 
 returns-2 : tie.Need-returns-2
 returns-2 c =
     let pre = c .before .before .before .before .before .before .pre in
     let has-waiting = c .before .before .has-waiting in
     let if1 = c .before .if1 in
-    rw (c .refused .ensures) (sym (one-refuses _ _ _ (formed-opens _ _ _ pre) _ _ refl (ap not (sym (has-waiting .ensures) ∙ if1 .left))))
+    rw (c .refused .ensures) (sym (one-refuses _ _ _ (formed-opens _ _ _ pre tt) _ _ refl (ap not (sym (has-waiting .ensures) ∙ if1 .left))))
 
 pub retry-formed-spec : {M : Type 1} → statement M
 retry-formed-spec =

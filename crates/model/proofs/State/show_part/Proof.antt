@@ -1,9 +1,8 @@
 -- `State::show_part` meets its contract: check 1 or 10 refuses, or the state is well formed.
 use borrow.Author.Needs.{needs}
 use native.Mathlib.Omega.{arith}
-use Rattle.rules.specs.Calls as rules
 use Rattle.model.proofs.Moves.{show-refused}
-use Rattle.model.proofs.Calls.{state-refuses, state-opens}
+use Rattle.model.proofs.Calls.{state-refuses, state-formed}
 use Rattle.model.proofs.State.show_part.Statement.{statement}
 use Rattle.model.proofs.State.show_part.Tie as tie
 
@@ -13,12 +12,12 @@ state-refusal-requires c κs = search needs
 returns : tie.Need-returns
 returns c =
     let state-refusal = c .before .state-refusal in
-    (show-refused _ _ _ _ 0 (state-refuses _ _ _ _ (state-refusal .ensures) (c .if1 .taken)), omega arith)
+    (show-refused _ _ _ _ 0 (state-refuses _ _ _ _ (state-refusal .ensures) (c .if1 .taken) tt), omega arith)
 
 part-formed-requires : tie.Need-part-formed-requires
 part-formed-requires c κs =
     let state-refusal = c .before .state-refusal in
-    state-opens rules.idle _ _ _ (state-refusal .ensures) (c .if1 .left) .formed
+    state-formed _ _ _ (state-refusal .ensures) (c .if1 .left)
 
 returns-2 : tie.Need-returns-2
 returns-2 c = c .part-formed .ensures

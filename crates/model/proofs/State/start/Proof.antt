@@ -6,7 +6,7 @@ use borrow.Author.Tests.{eq-eqb, ne-eqb}
 use Rattle.line_checks.proofs.Figures.{figures-tell}
 use Rattle.rules.specs.Runs.{startAllowed, startAnswer, startWorld, started, unstarted}
 use Rattle.records.proofs.Places.{has-room}
-use Rattle.model.proofs.Leaves.{in-range}
+use Rattle.lists.proofs.Cond.{cond-then}
 use Rattle.model.proofs.State.start.Statement.{statement}
 use Rattle.model.proofs.State.start.Tie as tie
 
@@ -70,7 +70,7 @@ returns-2 c =
     let zero-bytes = c .before .before .before .before .zero-bytes in
     let start-tags = c .before .start-tags in
     let f = figures-tell _ _ (sym (figures-allowed .ensures) ∙ if1 .taken) in
-    rw (sym (figures-allowed .ensures) ∙ if1 .taken, eq-eqb _ _ (if2 .left), c .empty-state .ensures, in-range _ (has-room _ (f .some-set) (f .some-way) (f .room)) (start-tags .ensures), zero-bytes .ensures, if2 .left) (refl, refl)
+    rw (sym (figures-allowed .ensures) ∙ if1 .taken, eq-eqb _ _ (if2 .left), c .empty-state .ensures, start-tags .ensures ∙ sym (cond-then _ _ (has-room _ (f .some-set) (f .some-way) (f .room))), zero-bytes .ensures, if2 .left) (refl, refl)
 
 not-started-requires-2 : tie.Need-not-started-requires-2
 not-started-requires-2 c κs = search needs

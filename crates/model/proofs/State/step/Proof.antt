@@ -1,10 +1,27 @@
 -- `State::step` meets its contract: checks 1 and 10, then the call on a well-formed state.
 use borrow.Author.Needs.{needs}
 use mathlib.Core.Path.{sym, _∙_}
-use Rattle.rules.specs.Calls as rules
-use Rattle.model.proofs.Calls.{state-refuses, state-opens}
+use Rattle.model.proofs.Calls.{state-refuses, state-formed}
+use Rattle.rules.specs.Shape.{Hierarchy}
+use Rattle.rules.specs.Calls.{earlyChecks}
+use Rattle.rules.proofs.Checks.{Passed}
+use Rattle.model.specs.State.{callOf}
+use Rattle.model.specs.declared.Call.{Call}
+use Rattle.model.specs.declared.Call.the-variants.{Load, Store, Retry, Commit, Abort, Idle, Reply, Flush, Show}
 use Rattle.model.proofs.State.step.Statement.{statement}
 use Rattle.model.proofs.State.step.Tie as tie
+
+-- no call has a check between 1 and 10
+early : (c : Call) (b : Hierarchy) → Passed (earlyChecks (callOf c) b)
+early (Load a w) b = tt
+early (Store a w v) b = tt
+early (Retry i) b = tt
+early (Commit k) b = tt
+early (Abort n) b = tt
+early Idle b = tt
+early Reply b = tt
+early Flush b = tt
+early (Show a) b = tt
 
 state-refusal-requires : tie.Need-state-refusal-requires
 state-refusal-requires c κs = search needs
@@ -22,13 +39,13 @@ returns : tie.Need-returns
 returns c =
     let state-refusal = c .before .before .state-refusal in
     let if1 = c .before .if1 in
-    c .refused-call .ensures _ _ ∙ sym (state-refuses _ _ _ _ (state-refusal .ensures) (if1 .taken))
+    c .refused-call .ensures _ _ ∙ sym (state-refuses _ _ _ _ (state-refusal .ensures) (if1 .taken) (early _ _))
 
 step-formed-requires : tie.Need-step-formed-requires
 step-formed-requires c κs =
     let state-refusal = c .before .before .before .state-refusal in
     let if1 = c .before .before .if1 in
-    state-opens rules.idle _ _ _ (state-refusal .ensures) (if1 .left) .formed
+    state-formed _ _ _ (state-refusal .ensures) (if1 .left)
 
 same-length-3 : tie.Need-same-length-3
 same-length-3 c = search needs

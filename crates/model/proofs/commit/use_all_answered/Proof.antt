@@ -5,11 +5,11 @@ use native.Mathlib.Omega.{arith}
 use Prim.Native.Nat.{_-_, _≤_}
 use lib.ListN.{length, drop}
 use Rattle.lists.specs.Padded.{filter}
+use Rattle.lists.proofs.Cond.{cond-then}
 use Rattle.lists.proofs.Loops.{rest-cons, rest-none}
 use Rattle.rules.specs.Shape.{noLoad, lineOf}
 use Rattle.rules.specs.Calls.{answeredBy, useEach}
 use Rattle.records.specs.Records.{tabled}
-use Rattle.model.proofs.Leaves.{in-range}
 use Rattle.model.proofs.Facts.{length-of}
 use Rattle.model.proofs.Moves.{answered-step, other-step}
 use Rattle.model.proofs.commit.use_all_answered.Statement.{statement}
@@ -48,7 +48,7 @@ loop-again c =
     let args = c .before .before .before .before .before .before .before .args in
     let loop = c .before .before .before .before .before .before .loop in
     let h : length (args .t3) ≡ 8 = search (needs, length-of) in
-    (search needs, loop .inv .1 ∙ rw (rest-cons (answeredBy (args .k)) noLoad (args .t3) (loop .j) (omega arith)) (answered-step _ _ _ _ _ (sym (c .before .before .before .is-answered-by .ensures) ∙ c .before .before .if1 .taken) ∙ rw (in-range _ @pre (c .use-line .ensures))))
+    (search needs, loop .inv .1 ∙ rw (rest-cons (answeredBy (args .k)) noLoad (args .t3) (loop .j) (omega arith)) (answered-step _ _ _ _ _ (sym (c .before .before .before .is-answered-by .ensures) ∙ c .before .before .if1 .taken) ∙ rw (c .use-line .ensures ∙ sym (cond-then _ _ @pre))))
 
 loop-less-2 : tie.Need-loop-less-2 Inv-loop μ-loop
 loop-less-2 c = search needs

@@ -6,6 +6,7 @@ use denote.Ref.{now}
 use Rattle.rules.specs.Shape.{lineOf}
 use Rattle.rules.specs.Lines.{present, slotOf}
 use Rattle.line_checks.specs.Refusal.{hierarchy}
+use Rattle.records.proofs.Places.{has-room}
 use Rattle.model.proofs.Leaves.{located}
 use Rattle.model.proofs.Moves.{written-whole}
 use Rattle.model.proofs.idle.write_store.Statement.{statement}
@@ -25,7 +26,7 @@ mul-at c =
     let a = @args in
     let p = @pre in
     let b = hierarchy (a .figures) 0 (a .tags) (now (a .cache)) [] in
-    let h = located b (p .some-set) (p .some-way) (p .room) _ _ _ (@first-slot .ensures) (@find .ensures) in
+    let h = located b (has-room (a .figures) (p .some-set) (p .some-way) (p .room)) _ _ _ (@first-slot .ensures) (@find .ensures) in
     omega (arith, h .high, h .within, h .room)
 
 cast-at : tie.Need-cast-at
@@ -36,7 +37,7 @@ add-at c =
     let a = @args in
     let p = @pre in
     let b = hierarchy (a .figures) 0 (a .tags) (now (a .cache)) [] in
-    let h = located b (p .some-set) (p .some-way) (p .room) _ _ _ (@first-slot .ensures) (@find .ensures) in
+    let h = located b (has-room (a .figures) (p .some-set) (p .some-way) (p .room)) _ _ _ (@first-slot .ensures) (@find .ensures) in
     omega (arith, h .high, h .within, h .room)
 
 put-store-requires : tie.Need-put-store-requires
@@ -57,7 +58,7 @@ returns c =
     let a = @args in
     let p = @pre in
     let b = hierarchy (a .figures) 0 (a .tags) (now (a .cache)) [] in
-    let h = located b (p .some-set) (p .some-way) (p .room) _ _ _ (@first-slot .ensures) (@find .ensures) in
+    let h = located b (has-room (a .figures) (p .some-set) (p .some-way) (p .room)) _ _ _ (@first-slot .ensures) (@find .ensures) in
     written-whole b (a .s) _ _ _ _ _ h (p .here) (p .narrow) (p .one-line) (p .cache-long) (@put-store .ensures) (@mark-dirty .ensures) (c .use-slot .ensures)
 
 pub write-store-spec : {M : Type 1} → statement M
