@@ -1,7 +1,7 @@
 -- Laws for what a load reads: a value joined from its bytes, the highest first; a byte from the held stores, else from the line.
 use Prim.Native.Nat.{ℕ, zero, suc, _+_, _*_, _-_, _/_, _%_, _^_, _<_, _≤_}
 use mathlib.Core.Path.{_≡_, refl, sym, _∙_, ap}
-use mathlib.Core.Bool.{Bool, true, false, cond, not, _||_}
+use mathlib.Core.Bool.{Bool, true, false, cond, not}
 use mathlib.Core.List.{List}
 use mathlib.Core.Option.{Option, some, none}
 use native.Mathlib.Omega.{arith}
@@ -11,7 +11,7 @@ use lib.ListN.{length, getD}
 use borrow.Author.Tests.{leb-true, le-leb, lt-leb}
 use Rattle.lists.specs.Padded.{any, final}
 use Rattle.lists.specs.Bytes.{byteOf, addByte, gather}
-use Rattle.lists.proofs.Cond.{cases, either, and-left, and-right, and-both, or-by, or-then}
+use Rattle.lists.proofs.Cond.{cases, either, and-left, and-right, or-then}
 use Rattle.rules.specs.declared.StoreEntry.{StoreEntry}
 use Rattle.rules.specs.Shape.{noStore}
 use Rattle.rules.specs.Forward.{olderCovers, storeByte}

@@ -9,7 +9,7 @@ use lib.ListN.{length, getD}
 use Rattle.lists.specs.Counted.{stepsFrom, eachFrom}
 use Rattle.lists.specs.Bytes.{overlaid}
 use Rattle.rules.specs.declared.Tag.{Tag}
-use Rattle.rules.specs.Shape.{Hierarchy, noFigures, lineBytes, tableSize, tagAt}
+use Rattle.rules.specs.Shape.{noFigures, lineBytes, tableSize, tagAt}
 use Rattle.rules.specs.Lines.{writtenBackAt, writeBackSlot}
 
 -- ---- lines
@@ -22,7 +22,7 @@ lineInside v n = leb (lineBytes * v + lineBytes) n
 abbrev pub filledAt : ℕ → List ℕ → ℕ → ℕ → ℕ
 filledAt v src j x = cond (eqb (j / lineBytes) v) (getD src (j % lineBytes) 0) x
 
--- slot v, filled from 16 bytes
+-- slot v, filled from src, if that is 16 bytes
 unfoldable pub lineFilled : ℕ → List ℕ → List ℕ → List ℕ
 lineFilled v src bytes =
     cond (eqb (length src) lineBytes && lineInside v (length bytes)) (eachFrom (filledAt v src) 0 bytes) bytes
@@ -32,7 +32,7 @@ unfoldable pub lineWritten : Tag → ℕ → List ℕ → List ℕ → List ℕ
 lineWritten t v cache memory =
     cond (lineInside v (length cache) && lineInside (t .line) (length memory)) (eachFrom (writtenBackAt t cache v) 0 memory) memory
 
--- memory, once the lines of the first n slots are written back, slot by slot
+-- memory, once the lines of the first n slots are written back, slot by slot, if the table has so many
 unfoldable pub linesWritten : List Tag → ℕ → List ℕ → List ℕ → List ℕ
 linesWritten tags n cache memory =
     cond (leb n tableSize) (stepsFrom (λ k m. lineWritten (tagAt tags k) k cache m) 0 n memory) memory
@@ -52,6 +52,6 @@ DirtyInside tags n size = (k : ℕ) → k < n → tagAt tags k .dirty ≡ true �
 unfoldable pub placesInside : ℕ → ℕ → ℕ → Bool
 placesInside p w n = leb w 4 && leb (p + w) n
 
--- the w bytes of a value stand from place p on
+-- the lowest w bytes of a value stand from place p on
 unfoldable pub storePut : ℕ → ℕ → ℕ → List ℕ → List ℕ
 storePut p w value bytes = cond (placesInside p w (length bytes)) (eachFrom (overlaid p w value) 0 bytes) bytes

@@ -170,7 +170,7 @@ fn join_bytes(
     r
 }
 
-// The bytes lie in memory, and in the cache if their line is there.
+// The addresses lie in the largest memory, and the places in the cache if the line is there.
 fn is_readable(a: u32, width: u32, p: usize, here: bool, length: usize) -> bool
     ensures { λ r. ⌜ r ≡ readable a width p here length ⌝ }
 {

@@ -3,6 +3,7 @@ use mathlib.Core.Path.{_≡_, _∙_}
 use Prim.Native.Nat.{_-_, _+_, _*_}
 use native.Mathlib.Omega.{arith}
 use borrow.Author.Needs.{needs}
+use denote.Ref.{now}
 use Rattle.line_bytes.proofs.Writing.{written-dirty, written-clean, written-outside}
 use Rattle.line_bytes.proofs.write_back.Statement.{statement}
 use Rattle.line_bytes.proofs.write_back.Tie as tie
@@ -39,7 +40,7 @@ returns c =
     let fill-slot = c .before .before .fill-slot in
     let h = if2 .taken in
     let e : 16 * args .v + 16 - 16 * args .v ≡ 16 = omega arith in
-    rw e at (fill-slot .ensures) ∙ written-dirty _ _ _ _ (if1 .taken) (omega arith)
+    rw e at (fill-slot .ensures) ∙ written-dirty (args .t) (args .v) (now (args .cache)) (now (args .memory)) (if1 .taken) (omega arith)
 
 returns-2 : tie.Need-returns-2
 returns-2 c =
