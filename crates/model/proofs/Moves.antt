@@ -11,7 +11,7 @@ use borrow.Author.Tests.{lt-ltb, le-ltb, eq-eqb, ne-eqb, not-true}
 use Rattle.lists.specs.Padded.{any, first, filter, shifted}
 use Rattle.lists.specs.Bytes.{overlaid}
 use Rattle.lists.specs.Counted.{eachFrom}
-use Rattle.lists.proofs.Cond.{cases, cond-then, and-left, wrong, or-left, or-right}
+use Rattle.lists.proofs.Cond.{cases, cond-then, and-left, and-both, wrong, or-left, or-right}
 use Rattle.lists.proofs.Counting.{each-length, each-at}
 use Rattle.lists.proofs.Some.{any-first}
 use Rattle.rules.specs.declared.Figures.{Figures}
@@ -168,8 +168,9 @@ filled-whole b l f v n tags cache memory g h m e c t =
     m ∙ written-inside (tagAt (b .tags) v) v (b .cache) (b .memory) slot (g .dirty-lines v (omega (arith, h .high, h .within, h .room))) in
     let long : 16 * l + 16 ≤ length memory = rw (m, written-length) (g .inside) in
     let copied : cache ≡ eachFrom (copiedAt memory v l) 0 (b .cache) = c ∙ rw e (fill-copies memory v l (b .cache) slot long) in
-    let installed : tags ≡ installedIn f (b .figures .ways) v l (b .tags) =
-    t ∙ sym (cond-then _ _ (rw (slot-in-set b f v (h .within) (h .room) (h .low) (h .high)) (lt-ltb l 65536 (omega (arith, g .low))))) in
+    let in-range : (inSet f (b .figures .ways) v && ltb l 65536) ≡ true =
+    and-both _ _ (slot-in-set b f v (h .within) (h .room) (h .low) (h .high)) (lt-ltb l 65536 (omega (arith, g .low))) in
+    let installed : tags ≡ installedIn f (b .figures .ways) v l (b .tags) = t ∙ sym (cond-then _ _ in-range) in
     rw (fill-parts b l v (h .slot), installed, copied, written, ← (h .first))
 
 -- the whole reply

@@ -59,7 +59,8 @@ module _ (i a w : ℕ) (ss : List StoreEntry) (b : Hierarchy) (f : InOneLine a w
         place-low = omega (arith, h .high, h .within, h .room);
         in-cache = λ t. omega (arith, ltb-true v (g + b .figures .ways) t, h .within, f .one-line);
       }) in
-      read-inside i a w ss (b .cache) _ _ r ∙ ap readOf (rw (h .slot, h .first) read-value)
+      let value : gather (byteFrom i a ss (b .cache) (16 * v + a % 16) (ltb v (g + b .figures .ways))) a w ≡ loadValue i a w ss b = rw (h .slot, h .first) read-value in
+      read-inside i a w ss (b .cache) _ _ r ∙ ap readOf value
 
 -- ---- a load's answer
 

@@ -15,9 +15,10 @@ use-line-requires c κs = search needs
 returns : tie.Need-returns
 unfolding lineOf
 returns c =
+    let pre = c .before .before .before .before .before .before .before .before .pre in
     let if1 = c .before .before .before .if1 in
     let remove-waiting = c .before .before .remove-waiting in
-    answered-leaves _ _ _ _ _ _ (shaped-room _ _ @pre) (if1 .taken) (remove-waiting .ensures) (c .use-line .ensures)
+    answered-leaves _ _ _ _ _ _ (shaped-room _ _ pre) (if1 .taken) (remove-waiting .ensures) (c .use-line .ensures)
 
 answer-waiting-requires : tie.Need-answer-waiting-requires
 answer-waiting-requires c κs = search needs

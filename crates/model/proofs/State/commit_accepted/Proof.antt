@@ -7,7 +7,9 @@ use Rattle.model.proofs.State.commit_accepted.Statement.{statement}
 use Rattle.model.proofs.State.commit_accepted.Tie as tie
 
 use-all-answered-requires : tie.Need-use-all-answered-requires
-use-all-answered-requires c κs = shaped-room _ _ @pre
+use-all-answered-requires c κs =
+    let pre = c .before .before .before .pre in
+    shaped-room _ _ pre
 
 remove-answered-requires : tie.Need-remove-answered-requires
 remove-answered-requires c κs = search needs

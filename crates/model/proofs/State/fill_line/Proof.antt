@@ -1,6 +1,7 @@
 -- `State::fill_line` meets its contract.
 use borrow.Author.Needs.{needs}
 use native.Mathlib.Omega.{arith}
+use Prim.Native.Nat.{_+_, _*_, _-_}
 use denote.Ref.{now}
 use Rattle.line_bytes.proofs.Writing.{written-length}
 use Rattle.model.specs.State.{hierarchyOf}
@@ -21,18 +22,22 @@ victim-requires c κs = search needs
 
 mul-old : tie.Need-mul-old
 mul-old c =
-    let a = @args in
+    let a = c .before .before .before .before .before .before .before .args in
+    let pre = c .before .before .before .before .before .before .before .pre in
+    let first-slot = c .before .first-slot in
     let b = hierarchyOf (a .self) (now (a .cache)) (now (a .memory)) in
-    let g = filling (a .self) (now (a .cache)) (now (a .memory)) (a .line) (@pre .0) (@pre .1) in
-    let h = chosen b (g .room) _ _ _ (@first-slot .ensures) (@victim .ensures) in
+    let g = filling (a .self) (now (a .cache)) (now (a .memory)) (a .line) (pre .0) (pre .1) in
+    let h = chosen b (g .room) _ _ _ (first-slot .ensures) (c .victim .ensures) in
     omega (arith, h .high, h .within, h .room)
 
 array-copy-out-old : tie.Need-array-copy-out-old
 array-copy-out-old c =
-    let a = @args in
+    let a = c .before .before .before .before .before .before .before .args in
+    let pre = c .before .before .before .before .before .before .before .pre in
+    let first-slot = c .before .first-slot in
     let b = hierarchyOf (a .self) (now (a .cache)) (now (a .memory)) in
-    let g = filling (a .self) (now (a .cache)) (now (a .memory)) (a .line) (@pre .0) (@pre .1) in
-    let h = chosen b (g .room) _ _ _ (@first-slot .ensures) (@victim .ensures) in
+    let g = filling (a .self) (now (a .cache)) (now (a .memory)) (a .line) (pre .0) (pre .1) in
+    let h = chosen b (g .room) _ _ _ (first-slot .ensures) (c .victim .ensures) in
     omega (arith, h .high, h .within, h .room)
 
 write-back-requires : tie.Need-write-back-requires
@@ -55,10 +60,12 @@ part-fill-slot-start c = search needs
 
 part-fill-slot-end : tie.Need-part-fill-slot-end
 part-fill-slot-end c =
-    let a = @args in
+    let a = c .before .before .before .before .before .before .before .before .before .before .before .before .before .before .before .args in
+    let pre = c .before .before .before .before .before .before .before .before .before .before .before .before .before .before .before .pre in
+    let write-back = c .before .before .before .before .write-back in
     let b = hierarchyOf (a .self) (now (a .cache)) (now (a .memory)) in
-    let g = filling (a .self) (now (a .cache)) (now (a .memory)) (a .line) (@pre .0) (@pre .1) in
-    rw (@write-back .ensures, written-length) (g .inside)
+    let g = filling (a .self) (now (a .cache)) (now (a .memory)) (a .line) (pre .0) (pre .1) in
+    rw (write-back .ensures, written-length) (g .inside)
 
 fill-slot-requires : tie.Need-fill-slot-requires
 fill-slot-requires c κs = search needs
@@ -71,9 +78,10 @@ with-request-requires c κs = search needs
 
 mul-t33 : tie.Need-mul-t33
 mul-t33 c =
-    let a = @args in
+    let a = c .before .before .before .before .before .before .before .before .before .before .before .before .before .before .before .before .before .before .before .before .before .args in
+    let pre = c .before .before .before .before .before .before .before .before .before .before .before .before .before .before .before .before .before .before .before .before .before .pre in
     let b = hierarchyOf (a .self) (now (a .cache)) (now (a .memory)) in
-    let g = filling (a .self) (now (a .cache)) (now (a .memory)) (a .line) (@pre .0) (@pre .1) in
+    let g = filling (a .self) (now (a .cache)) (now (a .memory)) (a .line) (pre .0) (pre .1) in
     omega (arith, g .low)
 
 same-length : tie.Need-same-length
@@ -84,13 +92,19 @@ same-length-2 c = search needs
 
 returns : tie.Need-returns
 returns c =
-    let a = @args in
+    let a = c .before .before .before .before .before .before .before .before .before .before .before .before .before .before .before .before .before .before .before .before .before .args in
+    let pre = c .before .before .before .before .before .before .before .before .before .before .before .before .before .before .before .before .before .before .before .before .before .pre in
+    let first-slot = c .before .before .before .before .before .before .before .before .before .before .before .before .before .before .before .first-slot in
+    let victim = c .before .before .before .before .before .before .before .before .before .before .before .before .before .before .victim in
+    let write-back = c .before .before .before .before .before .before .before .before .before .before .write-back in
+    let fill-slot = c .before .before .before .before .fill-slot in
+    let install = c .before .install in
     let b = hierarchyOf (a .self) (now (a .cache)) (now (a .memory)) in
-    let g = filling (a .self) (now (a .cache)) (now (a .memory)) (a .line) (@pre .0) (@pre .1) in
-    let h = chosen b (g .room) _ _ _ (@first-slot .ensures) (@victim .ensures) in
-    rw (@with-request .ensures)
-    (filled-state (a .self) (now (a .cache)) (now (a .memory)) (a .line) _ _ _ (@pre .1)
-    (filled-whole b (a .line) _ _ _ _ _ _ g h (@write-back .ensures) (omega arith) (@fill-slot .ensures) (@install .ensures)))
+    let g = filling (a .self) (now (a .cache)) (now (a .memory)) (a .line) (pre .0) (pre .1) in
+    let h = chosen b (g .room) _ _ _ (first-slot .ensures) (victim .ensures) in
+    rw (c .with-request .ensures)
+    (filled-state (a .self) (now (a .cache)) (now (a .memory)) (a .line) _ _ _ (pre .1)
+    (filled-whole b (a .line) _ _ (16 * a .line + 16 - 16 * a .line) _ _ _ g h (write-back .ensures) (omega arith) (fill-slot .ensures) (install .ensures)))
 
 pub fill-line-spec : {M : Type 1} → statement M
 fill-line-spec =

@@ -40,11 +40,14 @@ same-length c = search needs
 
 returns : tie.Need-returns
 returns c =
-    let a = @args in
-    let p = parts _ _ @pre in
+    let a = c .before .before .before .before .before .before .before .before .before .before .before .args in
+    let pre = c .before .before .before .before .before .before .before .before .before .before .before .pre in
+    let dirty-count = c .before .before .before .before .before .dirty-count in
+    let write-back-all = c .before .before .before .write-back-all in
+    let p = parts _ _ pre in
     let f = fit-figures (a .self) (now (a .cache)) (now (a .memory)) (p .fit) in
     flushed-state (a .self) (now (a .cache)) (now (a .memory)) _ _ _ (f .room) (fit-cache (a .self) (now (a .cache)) (now (a .memory)) (p .fit))
-    (dirty-inside _ (fits-tells _ (p .fit)) (good-tells _ (p .lines)) _) (@dirty-count .ensures) (@clean-all .ensures) (@write-back-all .ensures)
+    (dirty-inside _ (fits-tells _ (p .fit)) (good-tells _ (p .lines)) _) (dirty-count .ensures) (c .clean-all .ensures) (write-back-all .ensures)
 
 pub flush-accepted-spec : {M : Type 1} → statement M
 flush-accepted-spec =

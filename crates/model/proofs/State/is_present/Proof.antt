@@ -18,14 +18,20 @@ find-requires c κs = search needs
 
 add-result : tie.Need-add-result
 add-result c =
-    let s = @args .self in
-    let h = located (tabled (s .figures) (s .tags)) (shaped-room _ _ @pre) _ _ _ (@first-slot .ensures) (@find .ensures) in
+    let args = c .before .before .before .before .before .args in
+    let pre = c .before .before .before .before .before .pre in
+    let first-slot = c .before .first-slot in
+    let s = args .self in
+    let h = located (tabled (s .figures) (s .tags)) (shaped-room _ _ pre) _ _ _ (first-slot .ensures) (c .find .ensures) in
     omega (arith, h .within, h .room)
 
 returns : tie.Need-returns
 returns c =
-    let s = @args .self in
-    located (tabled (s .figures) (s .tags)) (shaped-room _ _ @pre) _ _ _ (@first-slot .ensures) (@find .ensures) .here
+    let args = c .before .before .before .before .before .args in
+    let pre = c .before .before .before .before .before .pre in
+    let first-slot = c .before .first-slot in
+    let s = args .self in
+    located (tabled (s .figures) (s .tags)) (shaped-room _ _ pre) _ _ _ (first-slot .ensures) (c .find .ensures) .here
 
 pub is-present-spec : {M : Type 1} → statement M
 is-present-spec =

@@ -23,8 +23,11 @@ find-requires c κs = search needs
 
 mul-place : tie.Need-mul-place
 mul-place c =
-    let s = @args .self in
-    let h = located (hierarchyOf s (now (@args .cache)) []) (shaped-room _ _ (@pre .0)) _ _ _ (@first-slot .ensures) (@find .ensures) in
+    let args = c .before .before .before .before .before .before .before .args in
+    let pre = c .before .before .before .before .before .before .before .pre in
+    let first-slot = c .before .first-slot in
+    let s = args .self in
+    let h = located (hierarchyOf s (now (args .cache)) []) (shaped-room _ _ (pre .0)) _ _ _ (first-slot .ensures) (c .find .ensures) in
     omega (arith, h .high, h .within, h .room)
 
 cast-place : tie.Need-cast-place
@@ -32,14 +35,20 @@ cast-place c = search needs
 
 add-place : tie.Need-add-place
 add-place c =
-    let s = @args .self in
-    let h = located (hierarchyOf s (now (@args .cache)) []) (shaped-room _ _ (@pre .0)) _ _ _ (@first-slot .ensures) (@find .ensures) in
+    let args = c .before .before .before .before .before .before .before .args in
+    let pre = c .before .before .before .before .before .before .before .pre in
+    let first-slot = c .before .first-slot in
+    let s = args .self in
+    let h = located (hierarchyOf s (now (args .cache)) []) (shaped-room _ _ (pre .0)) _ _ _ (first-slot .ensures) (c .find .ensures) in
     omega (arith, h .high, h .within, h .room)
 
 add-read-bytes : tie.Need-add-read-bytes
 add-read-bytes c =
-    let s = @args .self in
-    let h = located (hierarchyOf s (now (@args .cache)) []) (shaped-room _ _ (@pre .0)) _ _ _ (@first-slot .ensures) (@find .ensures) in
+    let args = c .before .before .before .before .before .before .before .args in
+    let pre = c .before .before .before .before .before .before .before .pre in
+    let first-slot = c .before .first-slot in
+    let s = args .self in
+    let h = located (hierarchyOf s (now (args .cache)) []) (shaped-room _ _ (pre .0)) _ _ _ (first-slot .ensures) (c .find .ensures) in
     omega (arith, h .within, h .room)
 
 read-bytes-requires : tie.Need-read-bytes-requires
@@ -48,11 +57,15 @@ read-bytes-requires c κs = search needs
 returns : tie.Need-returns
 unfolding lineOf
 returns c =
-    let s = @args .self in
+    let args = c .before .before .before .before .before .before .before .before .args in
+    let pre = c .before .before .before .before .before .before .before .before .pre in
+    let first-slot = c .before .before .first-slot in
+    let find = c .before .find in
+    let s = args .self in
     λ m.
-    let b = hierarchyOf s (now (@args .cache)) m in
-    let h = located b (shaped-room _ _ (@pre .0)) _ _ _ (@first-slot .ensures) (@find .ensures) in
-    c .read-bytes .ensures ∙ read-located (@args .i) (@args .address) (@args .width) (s .stores) b (@pre .1) _ _ h (@pre .0 .cache-long)
+    let b = hierarchyOf s (now (args .cache)) m in
+    let h = located b (shaped-room _ _ (pre .0)) _ _ _ (first-slot .ensures) (find .ensures) in
+    c .read-bytes .ensures ∙ read-located (args .i) (args .address) (args .width) (s .stores) b (pre .1) _ _ h (pre .0 .cache-long)
 
 pub read-spec : {M : Type 1} → statement M
 read-spec =

@@ -1,14 +1,14 @@
 -- `State::refused_call` meets its contract: show line, or one of the calls that name their refusal.
 use borrow.Author.Needs.{needs}
 use Prim.Native.Nat.{ℕ}
-use mathlib.Core.Path.{_≡_, refl, _∙_}
+use mathlib.Core.Path.{_≡_, refl, ap}
 use mathlib.Core.List.{List, [], _∷_}
 use types.Run.{OneOf, miss}
 use denote.Enum.Declared.{tagOf}
-use Rattle.rules.specs.Calls.{refused}
+use Rattle.rules.specs.Calls.{Answer, refused, unchanged}
 use Rattle.rules.specs.Runs.{refusal}
 use Rattle.lists.specs.Counted.{eachFrom}
-use Rattle.model.specs.State.{callOf, bytesFrom}
+use Rattle.model.specs.State.{callOf, queuesOf, hierarchyOf, bytesFrom}
 use Rattle.model.specs.declared.Call.{Call}
 use Rattle.model.specs.declared.Call.the-variants.{Load, Store, Retry, Commit, Abort, Idle, Reply, Flush, Show}
 use Rattle.model.proofs.Call as call
@@ -44,7 +44,8 @@ returns-2 : tie.Need-returns-2
 returns-2 c cache memory =
     let args = c .before .before .args in
     let match = c .before .match in
-    rw (c .refused .ensures, named (args .k) (args .call) (match .keys2))
+    rw (c .refused .ensures)
+    (ap (λ (r : Answer). unchanged r (queuesOf (args .self)) (hierarchyOf (args .self) cache memory)) (named (args .k) (args .call) (match .keys2)))
 
 pub refused-call-spec : {M : Type 1} → statement M
 refused-call-spec = tie.close (tie.spec enum-told returns refused-requires returns-2)

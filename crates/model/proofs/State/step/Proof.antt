@@ -1,11 +1,12 @@
 -- `State::step` meets its contract: checks 1 and 10, then the call on a well-formed state.
 use borrow.Author.Needs.{needs}
 use mathlib.Core.Path.{sym, _∙_}
+use denote.Ref.{now}
 use Rattle.model.proofs.Calls.{state-refuses, state-formed}
 use Rattle.rules.specs.Shape.{Hierarchy}
 use Rattle.rules.specs.Calls.{earlyChecks}
 use Rattle.rules.proofs.Checks.{Passed}
-use Rattle.model.specs.State.{callOf}
+use Rattle.model.specs.State.{callOf, hierarchyOf}
 use Rattle.model.specs.declared.Call.{Call}
 use Rattle.model.specs.declared.Call.the-variants.{Load, Store, Retry, Commit, Abort, Idle, Reply, Flush, Show}
 use Rattle.model.proofs.State.step.Statement.{statement}
@@ -37,9 +38,10 @@ same-length-2 c = search needs
 
 returns : tie.Need-returns
 returns c =
+    let args = c .before .before .before .before .before .before .before .args in
     let state-refusal = c .before .before .state-refusal in
     let if1 = c .before .if1 in
-    c .refused-call .ensures _ _ ∙ sym (state-refuses _ _ _ _ (state-refusal .ensures) (if1 .taken) (early _ _))
+    c .refused-call .ensures _ _ ∙ sym (state-refuses _ _ _ _ (state-refusal .ensures) (if1 .taken) (early (args .call) (hierarchyOf (args .self) (now (args .cache)) (now (args .memory)))))
 
 step-formed-requires : tie.Need-step-formed-requires
 step-formed-requires c κs =

@@ -48,7 +48,7 @@ loop-again c =
     let args = c .before .before .before .before .before .before .before .args in
     let loop = c .before .before .before .before .before .before .loop in
     let h : length (args .t3) ≡ 8 = search (needs, length-of) in
-    (search needs, loop .inv .1 ∙ rw (rest-cons (answeredBy (args .k)) noLoad (args .t3) (loop .j) (omega arith)) (answered-step _ _ _ _ _ (sym (c .before .before .before .is-answered-by .ensures) ∙ c .before .before .if1 .taken) ∙ rw (c .use-line .ensures ∙ sym (cond-then _ _ @pre))))
+    (search needs, loop .inv .1 ∙ rw (rest-cons (answeredBy (args .k)) noLoad (args .t3) (loop .j) (omega arith)) (answered-step _ _ _ _ _ (sym (c .before .before .before .is-answered-by .ensures) ∙ c .before .before .if1 .taken) ∙ rw (c .use-line .ensures ∙ sym (cond-then _ _ (c .before .before .before .before .before .before .before .pre)))))
 
 loop-less-2 : tie.Need-loop-less-2 Inv-loop μ-loop
 loop-less-2 c = search needs

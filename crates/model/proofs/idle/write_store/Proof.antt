@@ -23,10 +23,11 @@ find-requires c κs = search needs
 
 mul-at : tie.Need-mul-at
 mul-at c =
-    let a = @args in
-    let p = @pre in
+    let a = c .before .before .before .before .before .args in
+    let p = c .before .before .before .before .before .pre in
+    let first-slot = c .before .first-slot in
     let b = hierarchy (a .figures) 0 (a .tags) (now (a .cache)) [] in
-    let h = located b (has-room (a .figures) (p .some-set) (p .some-way) (p .room)) _ _ _ (@first-slot .ensures) (@find .ensures) in
+    let h = located b (has-room (a .figures) (p .some-set) (p .some-way) (p .room)) _ _ _ (first-slot .ensures) (c .find .ensures) in
     omega (arith, h .high, h .within, h .room)
 
 cast-at : tie.Need-cast-at
@@ -34,10 +35,12 @@ cast-at c = search needs
 
 add-at : tie.Need-add-at
 add-at c =
-    let a = @args in
-    let p = @pre in
+    let a = c .before .before .before .before .before .before .args in
+    let p = c .before .before .before .before .before .before .pre in
+    let first-slot = c .before .before .first-slot in
+    let find = c .before .find in
     let b = hierarchy (a .figures) 0 (a .tags) (now (a .cache)) [] in
-    let h = located b (has-room (a .figures) (p .some-set) (p .some-way) (p .room)) _ _ _ (@first-slot .ensures) (@find .ensures) in
+    let h = located b (has-room (a .figures) (p .some-set) (p .some-way) (p .room)) _ _ _ (first-slot .ensures) (find .ensures) in
     omega (arith, h .high, h .within, h .room)
 
 put-store-requires : tie.Need-put-store-requires
@@ -55,11 +58,15 @@ same-length c = search needs
 returns : tie.Need-returns
 unfolding lineOf present slotOf
 returns c =
-    let a = @args in
-    let p = @pre in
+    let a = c .before .before .before .before .before .before .before .before .before .before .before .before .args in
+    let p = c .before .before .before .before .before .before .before .before .before .before .before .before .pre in
+    let first-slot = c .before .before .before .before .before .before .before .before .first-slot in
+    let find = c .before .before .before .before .before .before .before .find in
+    let put-store = c .before .before .before .before .put-store in
+    let mark-dirty = c .before .mark-dirty in
     let b = hierarchy (a .figures) 0 (a .tags) (now (a .cache)) [] in
-    let h = located b (has-room (a .figures) (p .some-set) (p .some-way) (p .room)) _ _ _ (@first-slot .ensures) (@find .ensures) in
-    written-whole b (a .s) _ _ _ _ _ h (p .here) (p .narrow) (p .one-line) (p .cache-long) (@put-store .ensures) (@mark-dirty .ensures) (c .use-slot .ensures)
+    let h = located b (has-room (a .figures) (p .some-set) (p .some-way) (p .room)) _ _ _ (first-slot .ensures) (find .ensures) in
+    written-whole b (a .s) _ _ _ _ _ h (p .here) (p .narrow) (p .one-line) (p .cache-long) (put-store .ensures) (mark-dirty .ensures) (c .use-slot .ensures)
 
 pub write-store-spec : {M : Type 1} → statement M
 write-store-spec =
