@@ -63,25 +63,30 @@ guarded-map f refuse (k ∷ ks) x = cases (k .applies) (λ e. rw e) (λ e. rw e 
 
 -- ---- checks 1 and 10, and the call's own between them and after them
 
--- a call without early checks passes them
-pub none-early : passes [] ≡ true
+-- none of the checks applies, one by one
+abbrev pub EachPasses : List Check → Type 0
+EachPasses [] = Unit {0}
+EachPasses (k ∷ ks) = (k .applies ≡ false) × EachPasses ks
+
+each-passes : (ks : List Check) → EachPasses ks → passes ks ≡ true
 unfolding every
-none-early = refl
+each-passes [] e = refl
+each-passes (k ∷ ks) e = rw (e .0) (each-passes ks (e .1))
 
 module _ (c : Call) (q : Queues) (b : Hierarchy) where
   abbrev refuse : ℕ → Outcome
   refuse k = unchanged (refusal c k) q b
 
   -- what the checks after 10 let the call do
-  abbrev pub settled : Outcome
-  settled = guarded (callChecks c q b) refuse (rule c q b)
+  abbrev pub checked : Outcome
+  checked = guarded (callChecks c q b) (λ k. unchanged (refusal c k) q b) (rule c q b)
 
-  -- what the call's own checks let it do
+  -- what all of the call's own checks let it do
   abbrev pub ownChecks : List Check
   ownChecks = earlyChecks c b ++ callChecks c q b
 
-  abbrev pub checked : Outcome
-  checked = guarded ownChecks (λ k. unchanged (refusal c k) q b) (rule c q b)
+  abbrev pub decided : Outcome
+  decided = guarded ownChecks (λ k. unchanged (refusal c k) q b) (rule c q b)
 
   pub shut : fits b ≡ false → outcome c q b ≡ unchanged (refusal c 1) q b
   unfolding outcome guarded
@@ -91,23 +96,22 @@ module _ (c : Call) (q : Queues) (b : Hierarchy) where
   unfolding outcome guarded
   after-fits e = rw e (guarded-append refuse (earlyChecks c b) (formedCheck q b ∷ callChecks c q b) (rule c q b))
 
-  -- check 10 applies where the early checks pass
   malformed-by : fits b ≡ true → wellFormed q b ≡ false → outcome c q b ≡ guarded (earlyChecks c b) refuse (refuse 10)
   unfolding guarded
   malformed-by e f = after-fits e ∙ rw f
 
-  pub opened : fits b ≡ true → wellFormed q b ≡ true → outcome c q b ≡ checked
+  pub opened-by : fits b ≡ true → wellFormed q b ≡ true → outcome c q b ≡ decided
   unfolding guarded
-  opened e f = after-fits e ∙ rw f (sym (guarded-append refuse (earlyChecks c b) (callChecks c q b) (rule c q b)))
+  opened-by e f = after-fits e ∙ rw f (sym (guarded-append refuse (earlyChecks c b) (callChecks c q b) (rule c q b)))
 
-  -- the call passes its early checks
-  module _ (early : passes (earlyChecks c b) ≡ true) where
+  -- where the call's early checks pass
+  module _ (early : EachPasses (earlyChecks c b)) where
     pub malformed : fits b ≡ true → wellFormed q b ≡ false → outcome c q b ≡ unchanged (refusal c 10) q b
-    malformed e f = malformed-by e f ∙ guarded-passes refuse (earlyChecks c b) (refuse 10) early
+    malformed e f = malformed-by e f ∙ guarded-passes refuse (earlyChecks c b) (refuse 10) (each-passes (earlyChecks c b) early)
 
-    pub settles : fits b ≡ true → wellFormed q b ≡ true → outcome c q b ≡ settled
-    settles e f =
-        opened e f ∙ guarded-append refuse (earlyChecks c b) (callChecks c q b) (rule c q b) ∙ guarded-passes refuse (earlyChecks c b) settled early
+    pub opened : fits b ≡ true → wellFormed q b ≡ true → outcome c q b ≡ checked
+    opened e f =
+        opened-by e f ∙ guarded-append refuse (earlyChecks c b) (callChecks c q b) (rule c q b) ∙ guarded-passes refuse (earlyChecks c b) checked (each-passes (earlyChecks c b) early)
 
   pub own-passes : passes ownChecks ≡ true → passes (callChecks c q b) ≡ true
   own-passes p = every-split (λ k. not (k .applies)) (earlyChecks c b) (callChecks c q b) p .1
@@ -118,7 +122,7 @@ module _ (c : Call) (q : Queues) (b : Hierarchy) where
       → (fits b ≡ true → wellFormed q b ≡ true → passes (callChecks c q b) ≡ true → P (rule c q b)) → P (outcome c q b)
   outcome-by P r h = cases (fits b)
       (λ e. cases (wellFormed q b)
-      (λ f. subst P (sym (opened e f)) (guarded-by refuse P ownChecks (rule c q b) r (λ p. h e f (own-passes p))))
+      (λ f. subst P (sym (opened-by e f)) (guarded-by refuse P ownChecks (rule c q b) r (λ p. h e f (own-passes p))))
       (λ f. subst P (sym (malformed-by e f)) (guarded-by refuse P (earlyChecks c b) (refuse 10) r (λ p. r 10))))
       (λ e. subst P (sym (shut e)) (r 1))
 

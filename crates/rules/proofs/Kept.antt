@@ -23,7 +23,7 @@ use Rattle.rules.specs.Calls.{Call, Outcome, load, store, retry, commit,
 use Rattle.rules.specs.WellFormed.{freeStoreZero, freeLoadZero, storePasses, loadPasses, committedWaitAt, waitingUncoveredAt, alone, requestAbsent, requestInside, requestWanted, waitsFor, wellFormed}
 use Rattle.rules.specs.Runs.{refusal, outcome, answer, next, after, started, startAllowed, startAnswer, startWorld, ready, startRefused}
 use Rattle.rules.specs.Kept.{Formed, StartFormed, NextKept, RunKept, ownOutcome, Admitted, AdmittedAfterStart}
-use Rattle.rules.proofs.Checks.{guarded-numbered, ownChecks, opened, outcome-by, rule-accepts, refusal-number}
+use Rattle.rules.proofs.Checks.{guarded-numbered, ownChecks, opened-by, outcome-by, rule-accepts, refusal-number}
 use Rattle.rules.proofs.LineFacts.{Good, good-tells, good-is}
 use Rattle.rules.proofs.LineRules.{LinesKept, kept-refl, kept-then, kept-fits, use-line, write-store, save-all, fill-line}
 use Rattle.rules.proofs.LineStart.{start-fits, start-good}
@@ -253,7 +253,7 @@ admitted c w f = record {
 }
   where
     is-own : outcome c (w .queues) (w .hierarchy) ≡ ownOutcome c w
-    is-own = opened c (w .queues) (w .hierarchy) (parts (w .queues) (w .hierarchy) f .fit) f
+    is-own = opened-by c (w .queues) (w .hierarchy) (parts (w .queues) (w .hierarchy) f .fit) f
 
     only : (j : ℕ) → outcome c (w .queues) (w .hierarchy) .answer ≡ refused j → ownNumber j ≡ true
     only j =
