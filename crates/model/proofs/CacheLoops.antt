@@ -17,8 +17,8 @@ use Rattle.lists.proofs.Counting.{first-low, greatest-in}
 use Rattle.lists.proofs.CountedLoops.{change, changes-each, each-id, each-ext}
 use Rattle.rules.specs.declared.Figures.{Figures}
 use Rattle.rules.specs.declared.Tag.{Tag}
-use Rattle.rules.specs.Shape.{Hierarchy, holding, noTag, tagAt, withAge, withDirty, lineOf, firstSlot}
-use Rattle.rules.specs.Lines.{holdsLine, slotOf, present, agedAt, useSlot, useLine, writtenBackAt, writeBackSlot, victim, copiedAt}
+use Rattle.rules.specs.Shape.{Hierarchy, holding, noTag, tagAt, withAge, withDirty, lineOf, setOf, firstSlot}
+use Rattle.rules.specs.Lines.{holdsLine, slotOf, present, agedAt, useSlot, useLine, dirtyAt, writtenBackAt, writeBackSlot, victim, copiedAt}
 use Rattle.rules.specs.Runs.{startTags}
 use Rattle.rules.proofs.LineFacts.{Fits, Good, set-room, dirty-valid}
 use Rattle.model.specs.Tables.{tabled, usedTags, victimIn, unfigured, flushedMemory, flushedTags, DirtyInside}
@@ -65,8 +65,8 @@ used-line l b = go (present b l)
   where
     go :
         (t : Bool)
-        → cond t (useSlot (firstSlot b l) (slotOf b l) b) b
-        ≡ holding b (cond t (useSlot (firstSlot b l) (slotOf b l) (tabled (b .figures) (b .tags))) (tabled (b .figures) (b .tags)) .tags) (b .cache) (b .memory)
+        → cond t (useSlot (setOf b l) (slotOf b l) b) b
+        ≡ holding b (cond t (useSlot (setOf b l) (slotOf b l) (tabled (b .figures) (b .tags))) (tabled (b .figures) (b .tags)) .tags) (b .cache) (b .memory)
     go true = refl
     go false = refl
 
@@ -92,9 +92,9 @@ module _ (g : Figures) (l : ℕ) (tags : List Tag) (f v : ℕ) (at-first : f ≡
   abbrev b : Hierarchy
   b = tabled g tags
 
-  used : (t : Bool) → present b l ≡ t → usedTags g l tags ≡ cond t (useSlot (firstSlot b l) (slotOf b l) b) b .tags
+  used : (t : Bool) → present b l ≡ t → usedTags g l tags ≡ cond t (useSlot (setOf b l) (slotOf b l) b) b .tags
   unfolding usedTags useLine
-  used t e = ap (λ (t : Bool). cond t (useSlot (firstSlot b l) (slotOf b l) b) b .tags) e
+  used t e = ap (λ (t : Bool). cond t (useSlot (setOf b l) (slotOf b l) b) b .tags) e
 
   pub use-hit : v < f + g .ways → eachFrom (agedAt f (g .ways) v (tagAt tags v .age)) 0 tags ≡ usedTags g l tags
   unfolding useSlot slotOf
@@ -157,7 +157,7 @@ fill-copies memory v l cache =
 pub fill-saves :
     (t : Tag) (cache : List ℕ) (v : ℕ) (memory : List ℕ) → t .dirty ≡ true
     → eachFrom (filledAt (t .line) (take 16 (drop (16 * v) cache))) 0 memory ≡ eachFrom (writtenBackAt t cache v) 0 memory
-unfolding writtenBackAt lineOf
+unfolding writtenBackAt dirtyAt lineOf
 fill-saves t cache v memory d =
     each-ext _ (writtenBackAt t cache v)
     (λ a x. rw d (ap (λ (y : ℕ). cond (eqb (a / 16) (t .line)) y x) (part-byte cache v (a % 16) (omega arith)))) memory
@@ -165,7 +165,7 @@ fill-saves t cache v memory d =
 -- a clean line is not written
 pub clean-saves :
     (t : Tag) (cache : List ℕ) (v : ℕ) (memory : List ℕ) → t .dirty ≡ false → memory ≡ eachFrom (writtenBackAt t cache v) 0 memory
-unfolding writtenBackAt
+unfolding writtenBackAt dirtyAt
 clean-saves t cache v memory d = sym (each-ext (writtenBackAt t cache v) (λ a x. x) (λ a x. rw d) memory ∙ each-id memory)
 
 -- ---- the bytes of a store
@@ -241,11 +241,11 @@ abbrev pub startAt : ℕ → ℕ → ℕ → Tag → Tag
 startAt count ways k t = cond (ltb k count) (withAge (k % ways) t) t
 
 pub start-each :
-    (sets ways : ℕ) → stepsFrom (change (startAt (sets * ways) ways) noTag) 0 (sets * ways) (replicate 256 noTag) ≡ startTags sets ways
+    (f : Figures) → stepsFrom (change (startAt (f .sets * f .ways) (f .ways)) noTag) 0 (f .sets * f .ways) (replicate 256 noTag) ≡ startTags f
 unfolding startTags
-start-each sets ways =
-    changes-each (startAt (sets * ways) ways) noTag 0 (sets * ways) (replicate 256 noTag)
-    (λ k x o. rw (le-ltb k (sets * ways) (not-below k (sets * ways) (λ l. o (omega arith) (omega arith)))))
+start-each f =
+    changes-each (startAt (f .sets * f .ways) (f .ways)) noTag 0 (f .sets * f .ways) (replicate 256 noTag)
+    (λ k x o. rw (le-ltb k (f .sets * f .ways) (not-below k (f .sets * f .ways) (λ l. o (omega arith) (omega arith)))))
   where
     not-below : (k n : ℕ) → (k < n → ⊥) → n ≤ k
     not-below k n h = omega arith

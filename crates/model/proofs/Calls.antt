@@ -9,10 +9,10 @@ use borrow.Author.Tests.{ltb-true, ltb-false, le-leb, lt-leb, eq-eqb, ne-eqb}
 use Rattle.lists.proofs.Cond.{cases}
 use Rattle.rules.specs.Shape.{Queues, Hierarchy, fits, topNumber, isFreeStore, isFreeLoad}
 use Rattle.lists.specs.Padded.{any}
-use Rattle.rules.specs.Calls.{Call, Check, load, store, refused, check, numberCheck, loadRule, storeRule, guarded, passes, unchanged, accessChecks, callChecks, rule}
+use Rattle.rules.specs.Calls.{Call, Check, load, store, refused, check, numberCheck, loadRule, storeRule, guarded, passes, unchanged, accessChecks, earlyChecks, callChecks, rule}
 use Rattle.rules.specs.WellFormed.{wellFormed}
 use Rattle.rules.specs.Runs.{stateChecks, refusal, outcome}
-use Rattle.rules.proofs.Checks.{shut, malformed, opened, checked, guarded-append, guarded-passes}
+use Rattle.rules.proofs.Checks.{EachPasses, shut, malformed, opened, checked, guarded-append, guarded-passes}
 use Rattle.access.specs.AccessChecks.{sized, checkedAccess}
 use Rattle.access.proofs.AccessChecks.{checks-refuse, checks-pass}
 use Rattle.model.specs.State.{storeRest}
@@ -26,22 +26,22 @@ module _ (c : Call) (q : Queues) (b : Hierarchy) where
     pub formed : wellFormed q b ≡ true
     pub does : outcome c q b ≡ checked c q b
 
-  -- what the number of checks 1 and 10 tells: the refusal, or that both pass
-  pub state-refuses : (k : ℕ) → k ≡ guarded (stateChecks q b) (λ j. j) 0 → (k ≡ 0 → ⊥) → outcome c q b ≡ unchanged (refusal c k) q b
+  -- what the number of checks 1 and 10 tells of a call whose early checks pass: the refusal, or that both pass
+  pub state-refuses : (k : ℕ) → k ≡ guarded (stateChecks q b) (λ j. j) 0 → (k ≡ 0 → ⊥) → EachPasses (earlyChecks c b) → outcome c q b ≡ unchanged (refusal c k) q b
   unfolding guarded
-  state-refuses k e n =
+  state-refuses k e n early =
       cases (fits b)
       (λ f. cases (wellFormed q b)
       (λ g. let z : k ≡ 0 = rw (f, g) at e in absurd (n z))
-      (λ g. let z : k ≡ 10 = rw (f, g) at e in rw z (malformed c q b f g)))
+      (λ g. let z : k ≡ 10 = rw (f, g) at e in rw z (malformed c q b early f g)))
       (λ f. let z : k ≡ 1 = rw f at e in rw z (shut c q b f))
 
-  pub state-opens : (k : ℕ) → k ≡ guarded (stateChecks q b) (λ j. j) 0 → k ≡ 0 → Open
+  pub state-opens : (k : ℕ) → k ≡ guarded (stateChecks q b) (λ j. j) 0 → k ≡ 0 → EachPasses (earlyChecks c b) → Open
   unfolding guarded
-  state-opens k e n =
+  state-opens k e n early =
       cases (fits b)
       (λ f. cases (wellFormed q b)
-      (λ g. record { fit = f; formed = g; does = opened c q b f g })
+      (λ g. record { fit = f; formed = g; does = opened c q b early f g })
       (λ g. let z : k ≡ 10 = rw (f, g) at e in let no : ⊥ = omega arith in absurd no))
       (λ f. let z : k ≡ 1 = rw f at e in let no : ⊥ = omega arith in absurd no)
 

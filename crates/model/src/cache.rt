@@ -269,7 +269,7 @@ pub(crate) fn dirty_count(tags: [Tag; TAG_RECORDS]) -> u32
 // "gives way w age w, invalidates every record": slot s × ways + w has age w; the other records are zero.
 pub(crate) fn start_tags(figures: Figures) -> [Tag; TAG_RECORDS]
     requires { ⌜ (figures .sets * figures .ways ≤ 256) × (0 < figures .ways) ⌝ }
-    ensures { λ r. ⌜ r ≡ startTags (figures .sets) (figures .ways) ⌝ }
+    ensures { λ r. ⌜ r ≡ startTags figures ⌝ }
 {
     let mut out = [NO_TAG; TAG_RECORDS];
     let count = (figures.sets * figures.ways) as usize;

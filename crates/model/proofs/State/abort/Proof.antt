@@ -18,7 +18,7 @@ returns : tie.Need-returns
 returns c =
     let state-refusal = c .before .before .state-refusal in
     let if1 = c .before .if1 in
-    rw (c .refused .ensures) (sym (state-refuses _ _ _ _ (state-refusal .ensures) (if1 .taken)))
+    rw (c .refused .ensures) (sym (state-refuses _ _ _ _ (state-refusal .ensures) (if1 .taken) tt))
 
 refused-requires-2 : tie.Need-refused-requires-2
 refused-requires-2 c κs = search needs
@@ -28,7 +28,7 @@ returns-2 c =
     let state-refusal = c .before .before .before .before .state-refusal in
     let if1 = c .before .before .before .if1 in
     let if2 = c .before .if2 in
-    rw (c .refused2 .ensures) (sym (one-refuses _ _ _ (state-opens _ _ _ _ (state-refusal .ensures) (if1 .left)) _ _ refl (rw (le-leb _ _ (if2 .taken)))))
+    rw (c .refused2 .ensures) (sym (one-refuses _ _ _ (state-opens _ _ _ _ (state-refusal .ensures) (if1 .left) tt) _ _ refl (rw (le-leb _ _ (if2 .taken)))))
 
 sub-if3 : tie.Need-sub-if3
 sub-if3 c = search needs
@@ -42,7 +42,7 @@ returns-3 c =
     let state-refusal = c .before .before .before .before .before .before .state-refusal in
     let if1 = c .before .before .before .before .before .if1 in
     let if2 = c .before .before .before .if2 in
-    rw (c .refused3 .ensures) (sym (one-refuses _ _ _ (state-opens _ _ _ _ (state-refusal .ensures) (if1 .left)) _ _ refl (rw (lt-leb _ _ (if2 .left), lt-ltb (args .self .last + 1) (args .n) (omega arith)))))
+    rw (c .refused3 .ensures) (sym (one-refuses _ _ _ (state-opens _ _ _ _ (state-refusal .ensures) (if1 .left) tt) _ _ refl (rw (lt-leb _ _ (if2 .left), lt-ltb (args .self .last + 1) (args .n) (omega arith)))))
 
 abort-accepted-requires : tie.Need-abort-accepted-requires
 abort-accepted-requires c κs = search needs
@@ -53,7 +53,7 @@ returns-4 c =
     let state-refusal = c .before .before .before .before .before .before .state-refusal in
     let if1 = c .before .before .before .before .before .if1 in
     let if2 = c .before .before .before .if2 in
-    c .abort-accepted .ensures _ _ ∙ sym (one-does _ _ _ (state-opens _ _ _ _ (state-refusal .ensures) (if1 .left)) _ _ refl (rw (lt-leb _ _ (if2 .left), le-ltb (args .self .last + 1) (args .n) (omega arith))))
+    c .abort-accepted .ensures _ _ ∙ sym (one-does _ _ _ (state-opens _ _ _ _ (state-refusal .ensures) (if1 .left) tt) _ _ refl (rw (lt-leb _ _ (if2 .left), le-ltb (args .self .last + 1) (args .n) (omega arith))))
 
 pub abort-spec : {M : Type 1} → statement M
 abort-spec =

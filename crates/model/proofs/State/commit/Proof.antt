@@ -20,7 +20,7 @@ returns : tie.Need-returns
 returns c =
     let state-refusal = c .before .before .state-refusal in
     let if1 = c .before .if1 in
-    rw (c .refused .ensures) (sym (state-refuses _ _ _ _ (state-refusal .ensures) (if1 .taken)))
+    rw (c .refused .ensures) (sym (state-refuses _ _ _ _ (state-refusal .ensures) (if1 .taken) tt))
 
 refused-requires-2 : tie.Need-refused-requires-2
 refused-requires-2 c κs = search needs
@@ -30,7 +30,7 @@ returns-2 c =
     let state-refusal = c .before .before .before .before .state-refusal in
     let if1 = c .before .before .before .if1 in
     let if2 = c .before .if2 in
-    rw (c .refused2 .ensures) (sym (one-refuses _ _ _ (state-opens _ _ _ _ (state-refusal .ensures) (if1 .left)) _ _ refl (rw (lt-ltb _ _ (if2 .taken)))))
+    rw (c .refused2 .ensures) (sym (one-refuses _ _ _ (state-opens _ _ _ _ (state-refusal .ensures) (if1 .left) tt) _ _ refl (rw (lt-ltb _ _ (if2 .taken)))))
 
 refused-requires-3 : tie.Need-refused-requires-3
 refused-requires-3 c κs = search needs
@@ -41,14 +41,14 @@ returns-3 c =
     let if1 = c .before .before .before .before .before .if1 in
     let if2 = c .before .before .before .if2 in
     let if3 = c .before .if3 in
-    rw (c .refused3 .ensures) (sym (one-refuses _ _ _ (state-opens _ _ _ _ (state-refusal .ensures) (if1 .left)) _ _ refl (rw (le-ltb _ _ (if2 .left), lt-ltb _ _ (if3 .taken)))))
+    rw (c .refused3 .ensures) (sym (one-refuses _ _ _ (state-opens _ _ _ _ (state-refusal .ensures) (if1 .left) tt) _ _ refl (rw (le-ltb _ _ (if2 .left), lt-ltb _ _ (if3 .taken)))))
 
 commit-accepted-requires : tie.Need-commit-accepted-requires
 commit-accepted-requires c κs =
     let args = c .before .before .before .before .before .before .before .before .args in
     let state-refusal = c .before .before .before .before .before .state-refusal in
     let if1 = c .before .before .before .before .if1 in
-    shaped-self _ (length (now (args .cache))) (fit-shaped _ _ (now (args .memory)) ((state-opens rules.idle _ _ _ (state-refusal .ensures) (if1 .left)) .fit))
+    shaped-self _ (length (now (args .cache))) (fit-shaped _ _ (now (args .memory)) ((state-opens rules.idle _ _ _ (state-refusal .ensures) (if1 .left) tt) .fit))
 
 returns-4 : tie.Need-returns-4
 returns-4 c =
@@ -56,7 +56,7 @@ returns-4 c =
     let if1 = c .before .before .before .before .before .if1 in
     let if2 = c .before .before .before .if2 in
     let if3 = c .before .if3 in
-    c .commit-accepted .ensures _ _ ∙ sym (one-does _ _ _ (state-opens _ _ _ _ (state-refusal .ensures) (if1 .left)) _ _ refl (rw (le-ltb _ _ (if2 .left), le-ltb _ _ (if3 .left))))
+    c .commit-accepted .ensures _ _ ∙ sym (one-does _ _ _ (state-opens _ _ _ _ (state-refusal .ensures) (if1 .left) tt) _ _ refl (rw (le-ltb _ _ (if2 .left), le-ltb _ _ (if3 .left))))
 
 pub commit-spec : {M : Type 1} → statement M
 commit-spec =

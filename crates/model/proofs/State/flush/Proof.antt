@@ -19,7 +19,7 @@ returns : tie.Need-returns
 returns c =
     let state-refusal = c .before .before .state-refusal in
     let if1 = c .before .if1 in
-    rw (c .refused .ensures) (sym (state-refuses _ _ _ _ (state-refusal .ensures) (if1 .taken)))
+    rw (c .refused .ensures) (sym (state-refuses _ _ _ _ (state-refusal .ensures) (if1 .taken) tt))
 
 has-committed-store-requires : tie.Need-has-committed-store-requires
 has-committed-store-requires c κs = search needs
@@ -36,13 +36,13 @@ returns-2 c =
     let if1 = c .before .before .before .before .if1 in
     let has-committed-store = c .before .before .has-committed-store in
     let if2 = c .before .if2 in
-    rw (c .refused2 .ensures) (sym (one-refuses _ _ _ (state-opens _ _ _ _ (state-refusal .ensures) (if1 .left)) _ _ refl (sym (has-committed-store .ensures) ∙ if2 .taken)))
+    rw (c .refused2 .ensures) (sym (one-refuses _ _ _ (state-opens _ _ _ _ (state-refusal .ensures) (if1 .left) tt) _ _ refl (sym (has-committed-store .ensures) ∙ if2 .taken)))
 
 flush-accepted-requires : tie.Need-flush-accepted-requires
 flush-accepted-requires c κs =
     let state-refusal = c .before .before .before .before .before .state-refusal in
     let if1 = c .before .before .before .before .if1 in
-    (state-opens rules.idle _ _ _ (state-refusal .ensures) (if1 .left)) .formed
+    (state-opens rules.idle _ _ _ (state-refusal .ensures) (if1 .left) tt) .formed
 
 same-length-3 : tie.Need-same-length-3
 same-length-3 c = search needs
@@ -54,7 +54,7 @@ returns-3 c =
     let has-committed-store = c .before .before .before .before .before .has-committed-store in
     let if2 = c .before .before .before .before .if2 in
     let flush-accepted = c .before .before .flush-accepted in
-    flush-accepted .ensures ∙ sym (one-does _ _ _ (state-opens _ _ _ _ (state-refusal .ensures) (if1 .left)) _ _ refl (sym (has-committed-store .ensures) ∙ if2 .left))
+    flush-accepted .ensures ∙ sym (one-does _ _ _ (state-opens _ _ _ _ (state-refusal .ensures) (if1 .left) tt) _ _ refl (sym (has-committed-store .ensures) ∙ if2 .left))
 
 pub flush-spec : {M : Type 1} → statement M
 flush-spec =

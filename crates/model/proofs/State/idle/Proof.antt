@@ -29,7 +29,7 @@ returns : tie.Need-returns
 returns c =
     let state-refusal = c .before .before .state-refusal in
     let if1 = c .before .if1 in
-    rw (c .refused .ensures) (sym (state-refuses _ _ _ _ (state-refusal .ensures) (if1 .taken)))
+    rw (c .refused .ensures) (sym (state-refuses _ _ _ _ (state-refusal .ensures) (if1 .taken) tt))
 
 array-copy-out-s : tie.Need-array-copy-out-s
 array-copy-out-s c = search needs
@@ -45,7 +45,7 @@ is-present-requires c κs =
     let memory = now (args .memory) in
     let state-refusal = c .before .before .before .before .before .before .state-refusal in
     let if1 = c .before .before .before .before .before .if1 in
-    shaped-self _ _ (fit-shaped s cache memory ((state-opens rules.idle _ _ _ (state-refusal .ensures) (if1 .left)) .fit))
+    shaped-self _ _ (fit-shaped s cache memory ((state-opens rules.idle _ _ _ (state-refusal .ensures) (if1 .left) tt) .fit))
 
 drain-oldest-requires : tie.Need-drain-oldest-requires
 unfolding lineOf
@@ -61,7 +61,7 @@ drain-oldest-requires c κs =
     let if2 = c .before .before .if2 in
     let if3 = c .before .if3 in
     let ready = sym (store-ready .ensures ∙ ready-at s cache memory) ∙ if2 .taken in
-    let o = state-opens rules.idle _ _ _ (state-refusal .ensures) (if1 .left) in
+    let o = state-opens rules.idle _ _ _ (state-refusal .ensures) (if1 .left) tt in
     let f = fit-figures s cache memory (o .fit) in
     (fit-shaped s cache memory (o .fit), oldest-fine (queuesOf s) (hierarchyOf s cache memory) (f .most-size) (parts _ _ (o .formed)) ready, refl, (sym (is-present .ensures) ∙ if3 .taken))
 
@@ -86,7 +86,7 @@ returns-2 c =
     let if3 = c .before .before .before .before .if3 in
     let drain-oldest = c .before .before .drain-oldest in
     let ready = sym (store-ready .ensures ∙ ready-at s cache memory) ∙ if2 .taken in
-    let o = state-opens rules.idle _ _ _ (state-refusal .ensures) (if1 .left) in
+    let o = state-opens rules.idle _ _ _ (state-refusal .ensures) (if1 .left) tt in
     drain-oldest .ensures _ ∙ sym (none-does rules.idle _ _ o refl ∙ idle-drains s cache memory ready (sym (is-present .ensures) ∙ if3 .taken))
 
 idle-request-requires : tie.Need-idle-request-requires
@@ -100,7 +100,7 @@ idle-request-requires c κs =
     let if1 = c .before .before .before .before .before .before .before .before .if1 in
     let store-ready = c .before .before .before .before .store-ready in
     let is-present = c .before .before .is-present in
-    (shaped-self _ _ (fit-shaped s cache memory ((state-opens rules.idle _ _ _ (state-refusal .ensures) (if1 .left)) .fit)), (store-ready .ensures ∙ ready-at s cache memory), refl, is-present .ensures)
+    (shaped-self _ _ (fit-shaped s cache memory ((state-opens rules.idle _ _ _ (state-refusal .ensures) (if1 .left) tt) .fit)), (store-ready .ensures ∙ ready-at s cache memory), refl, is-present .ensures)
 
 same-length-5 : tie.Need-same-length-5
 same-length-5 c = search needs
@@ -119,7 +119,7 @@ returns-3 c =
     let if1 = c .before .before .before .before .before .before .before .before .before .if1 in
     let is-present = c .before .before .before .is-present in
     let if3 = c .before .if3 in
-    let o = state-opens rules.idle _ _ _ (state-refusal .ensures) (if1 .left) in
+    let o = state-opens rules.idle _ _ _ (state-refusal .ensures) (if1 .left) tt in
     c .idle-request .ensures _ _ ∙ sym (none-does rules.idle _ _ o refl ∙ idle-absent s cache memory (sym (is-present .ensures) ∙ if3 .left))
 
 idle-request-requires-2 : tie.Need-idle-request-requires-2
@@ -133,7 +133,7 @@ idle-request-requires-2 c κs =
     let if1 = c .before .before .before .before .before .before .before .if1 in
     let store-ready = c .before .before .before .store-ready in
     let is-present = c .before .is-present in
-    (shaped-self _ _ (fit-shaped s cache memory ((state-opens rules.idle _ _ _ (state-refusal .ensures) (if1 .left)) .fit)), (store-ready .ensures ∙ ready-at s cache memory), refl, is-present .ensures)
+    (shaped-self _ _ (fit-shaped s cache memory ((state-opens rules.idle _ _ _ (state-refusal .ensures) (if1 .left) tt) .fit)), (store-ready .ensures ∙ ready-at s cache memory), refl, is-present .ensures)
 
 same-length-7 : tie.Need-same-length-7
 same-length-7 c = search needs
@@ -152,7 +152,7 @@ returns-4 c =
     let store-ready = c .before .before .before .before .store-ready in
     let if2 = c .before .if2 in
     let unready = sym (store-ready .ensures ∙ ready-at s cache memory) ∙ if2 .left in
-    let o = state-opens rules.idle _ _ _ (state-refusal .ensures) (if1 .left) in
+    let o = state-opens rules.idle _ _ _ (state-refusal .ensures) (if1 .left) tt in
     c .idle-request2 .ensures _ _ ∙ sym (none-does rules.idle _ _ o refl ∙ idle-unready s cache memory unready)
 
 pub idle-spec : {M : Type 1} → statement M

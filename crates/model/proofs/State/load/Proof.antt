@@ -21,7 +21,7 @@ returns : tie.Need-returns
 returns c =
     let state-refusal = c .before .before .state-refusal in
     let if1 = c .before .if1 in
-    rw (c .refused .ensures) (sym (state-refuses _ _ _ _ (state-refusal .ensures) (if1 .taken)))
+    rw (c .refused .ensures) (sym (state-refuses _ _ _ _ (state-refusal .ensures) (if1 .taken) tt))
 
 check-access-requires : tie.Need-check-access-requires
 check-access-requires c κs = search needs
@@ -46,7 +46,7 @@ returns-2 c =
     let enum-told = c .before .before .enum-told in
     let failure = c .before .failure in
     rw (c .refused2 .ensures, failure .ensures, enum-told .given .1)
-    (sym (access-refuses _ _ _ _ _ _ refl (state-opens _ _ _ _ (state-refusal .ensures) (if1 .left)) _ (sym (check-access .ensures) ∙ enum-told .given .1)))
+    (sym (access-refuses _ _ _ _ _ _ refl (state-opens _ _ _ _ (state-refusal .ensures) (if1 .left) tt) _ (sym (check-access .ensures) ∙ enum-told .given .1)))
 
 refused-requires-3 : tie.Need-refused-requires-3
 refused-requires-3 c κs = search needs
@@ -59,7 +59,7 @@ returns-3 c =
     let checked = c .before .before .before .before .checked in
     let if2 = c .before .if2 in
     rw (c .refused3 .ensures)
-    (sym (load-numbers _ _ _ _ (state-opens _ _ _ _ (state-refusal .ensures) (if1 .left)) _ (sym (check-access .ensures) ∙ checked .given .1) (if2 .taken)))
+    (sym (load-numbers _ _ _ _ (state-opens _ _ _ _ (state-refusal .ensures) (if1 .left) tt) _ (sym (check-access .ensures) ∙ checked .given .1) (if2 .taken)))
 
 has-free-load-requires : tie.Need-has-free-load-requires
 has-free-load-requires c κs = search needs
@@ -72,7 +72,7 @@ load-accepted-requires c κs =
     let check-access = c .before .before .before .before .before .before .before .before .check-access in
     let checked = c .before .before .before .before .before .before .checked in
     let if2 = c .before .before .before .if2 in
-    let o = state-opens rules.idle _ _ _ (state-refusal .ensures) (if1 .left) in
+    let o = state-opens rules.idle _ _ _ (state-refusal .ensures) (if1 .left) tt in
     let p = passed-access _ _ _ _ (sym (check-access .ensures) ∙ checked .given .1) in
     (fit-shaped (args .self) (now (args .cache)) (now (args .memory)) (o .fit), rw (p .1) (access-fine (sized (args .self .size)) _ _ (fit-figures (args .self) (now (args .cache)) (now (args .memory)) (o .fit) .most-size) (p .0)), omega (arith, parts _ _ (o .formed) .last-fits, if2 .left))
 
@@ -88,7 +88,7 @@ returns-4 c =
     let if2 = c .before .before .before .before .if2 in
     let has-free-load = c .before .before .has-free-load in
     let if3 = c .before .if3 in
-    let o = state-opens _ _ _ _ (state-refusal .ensures) (if1 .left) in
+    let o = state-opens _ _ _ _ (state-refusal .ensures) (if1 .left) tt in
     let e = sym (check-access .ensures) ∙ checked .given .1 in
     c .load-accepted .ensures _ ∙ rw (passed-access _ _ _ _ e .1) (sym (load-does _ _ _ _ o _ e (if2 .left) (sym (has-free-load .ensures) ∙ if3 .taken)))
 
@@ -102,7 +102,7 @@ returns-5 c =
     let has-free-load = c .before .before .has-free-load in
     let if3 = c .before .if3 in
     rw (c .refused4 .ensures)
-    (sym (load-full _ _ _ _ (state-opens _ _ _ _ (state-refusal .ensures) (if1 .left)) _ (sym (check-access .ensures) ∙ checked .given .1) (if2 .left) (sym (has-free-load .ensures) ∙ if3 .left)))
+    (sym (load-full _ _ _ _ (state-opens _ _ _ _ (state-refusal .ensures) (if1 .left) tt) _ (sym (check-access .ensures) ∙ checked .given .1) (if2 .left) (sym (has-free-load .ensures) ∙ if3 .left)))
 
 pub load-spec : {M : Type 1} → statement M
 load-spec =

@@ -23,7 +23,7 @@ returns : tie.Need-returns
 returns c =
     let state-refusal = c .before .before .state-refusal in
     let if1 = c .before .if1 in
-    rw (c .refused .ensures) (sym (state-refuses _ _ _ _ (state-refusal .ensures) (if1 .taken)))
+    rw (c .refused .ensures) (sym (state-refuses _ _ _ _ (state-refusal .ensures) (if1 .taken) tt))
 
 enum-told : tie.Need-enum-told
 enum-told c = search needs
@@ -39,7 +39,7 @@ fill-line-requires c κs =
     let state-refusal = c .before .before .before .before .before .before .state-refusal in
     let if1 = c .before .before .before .before .before .if1 in
     let request = c .before .before .before .request in
-    ((state-opens rules.idle _ _ _ (state-refusal .ensures) (if1 .left)) .formed, request .given .1)
+    ((state-opens rules.idle _ _ _ (state-refusal .ensures) (if1 .left) tt) .formed, request .given .1)
 
 same-length-3 : tie.Need-same-length-3
 same-length-3 c = search needs
@@ -52,7 +52,7 @@ returns-2 c =
     let state-refusal = c .before .before .before .before .state-refusal in
     let if1 = c .before .before .before .if1 in
     let enum-told = c .before .enum-told in
-    rw (c .refused2 .ensures) (sym (one-refuses _ _ _ (state-opens _ _ _ _ (state-refusal .ensures) (if1 .left)) _ _ refl (ap isFree (enum-told .given .1))))
+    rw (c .refused2 .ensures) (sym (one-refuses _ _ _ (state-opens _ _ _ _ (state-refusal .ensures) (if1 .left) tt) _ _ refl (ap isFree (enum-told .given .1))))
 
 same-length-5 : tie.Need-same-length-5
 same-length-5 c = search needs
@@ -66,7 +66,7 @@ returns-3 c =
     let if1 = c .before .before .before .before .before .before .before .before .before .before .if1 in
     let request = c .before .before .before .before .before .before .before .before .request in
     let fill-line = c .before .before .before .before .fill-line in
-    fill-line .ensures ∙ sym (one-does _ _ _ (state-opens _ _ _ _ (state-refusal .ensures) (if1 .left)) _ _ refl (ap isFree (request .given .1)))
+    fill-line .ensures ∙ sym (one-does _ _ _ (state-opens _ _ _ _ (state-refusal .ensures) (if1 .left) tt) _ _ refl (ap isFree (request .given .1)))
 
 pub reply-spec : {M : Type 1} → statement M
 reply-spec =

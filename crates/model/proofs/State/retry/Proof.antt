@@ -21,7 +21,7 @@ returns : tie.Need-returns
 returns c =
     let state-refusal = c .before .before .state-refusal in
     let if1 = c .before .if1 in
-    rw (c .refused .ensures) (sym (state-refuses _ _ _ _ (state-refusal .ensures) (if1 .taken)))
+    rw (c .refused .ensures) (sym (state-refuses _ _ _ _ (state-refusal .ensures) (if1 .taken) tt))
 
 has-waiting-requires : tie.Need-has-waiting-requires
 has-waiting-requires c κs = search needs
@@ -36,7 +36,7 @@ retry-accepted-requires c κs =
     let if1 = c .before .before .before .before .if1 in
     let has-waiting = c .before .before .has-waiting in
     let if2 = c .before .if2 in
-    let o = state-opens rules.idle _ _ _ (state-refusal .ensures) (if1 .left) in
+    let o = state-opens rules.idle _ _ _ (state-refusal .ensures) (if1 .left) tt in
     let s = args .self in
     let cache = now (args .cache) in
     let memory = now (args .memory) in
@@ -54,7 +54,7 @@ returns-2 c =
     let if1 = c .before .before .before .before .before .if1 in
     let has-waiting = c .before .before .before .has-waiting in
     let if2 = c .before .before .if2 in
-    c .retry-accepted .ensures _ ∙ sym (one-does _ _ _ (state-opens _ _ _ _ (state-refusal .ensures) (if1 .left)) _ _ refl (ap not (sym (has-waiting .ensures) ∙ if2 .taken)))
+    c .retry-accepted .ensures _ ∙ sym (one-does _ _ _ (state-opens _ _ _ _ (state-refusal .ensures) (if1 .left) tt) _ _ refl (ap not (sym (has-waiting .ensures) ∙ if2 .taken)))
 
 returns-3 : tie.Need-returns-3
 returns-3 c =
@@ -62,7 +62,7 @@ returns-3 c =
     let if1 = c .before .before .before .before .if1 in
     let has-waiting = c .before .before .has-waiting in
     let if2 = c .before .if2 in
-    rw (c .refused2 .ensures) (sym (one-refuses _ _ _ (state-opens _ _ _ _ (state-refusal .ensures) (if1 .left)) _ _ refl (ap not (sym (has-waiting .ensures) ∙ if2 .left))))
+    rw (c .refused2 .ensures) (sym (one-refuses _ _ _ (state-opens _ _ _ _ (state-refusal .ensures) (if1 .left) tt) _ _ refl (ap not (sym (has-waiting .ensures) ∙ if2 .left))))
 
 pub retry-spec : {M : Type 1} → statement M
 retry-spec =

@@ -20,14 +20,14 @@ state-refusal-requires c κs = search needs
 returns : tie.Need-returns
 returns c =
     let state-refusal = c .before .state-refusal in
-    (show-refused _ _ _ _ 0 (state-refuses _ _ _ _ (state-refusal .ensures) (c .if1 .taken)), omega arith)
+    (show-refused _ _ _ _ 0 (state-refuses _ _ _ _ (state-refusal .ensures) (c .if1 .taken) tt), omega arith)
 
 returns-2 : tie.Need-returns-2
 returns-2 c =
     let args = c .before .before .before .before .before .before .args in
     let state-refusal = c .before .before .before .state-refusal in
     let if1 = c .before .before .if1 in
-    (show-outside _ _ _ _ (none-does _ _ _ (state-opens (rules.show (args .address)) _ _ _ (state-refusal .ensures) (if1 .left)) refl) (c .if2 .taken), omega arith)
+    (show-outside _ _ _ _ (none-does _ _ _ (state-opens (rules.show (args .address)) _ _ _ (state-refusal .ensures) (if1 .left) tt) refl) (c .if2 .taken), omega arith)
 
 cast-ways : tie.Need-cast-ways
 cast-ways c = search needs
@@ -37,7 +37,7 @@ first-slot-requires c κs =
     let args = c .before .before .before .before .before .before .before .before .before .args in
     let state-refusal = c .before .before .before .before .before .before .state-refusal in
     let if1 = c .before .before .before .before .before .if1 in
-    let o = state-opens (rules.show (args .address)) _ _ _ (state-refusal .ensures) (if1 .left) in
+    let o = state-opens (rules.show (args .address)) _ _ _ (state-refusal .ensures) (if1 .left) tt in
     let f = fit-shaped (args .self) (now (args .cache)) (now (args .memory)) (o .fit) in
     (f .some-set, f .room)
 
@@ -46,7 +46,7 @@ find-requires c κs =
     let args = c .before .before .before .before .before .before .before .before .before .before .args in
     let state-refusal = c .before .before .before .before .before .before .before .state-refusal in
     let if1 = c .before .before .before .before .before .before .if1 in
-    let o = state-opens (rules.show (args .address)) _ _ _ (state-refusal .ensures) (if1 .left) in
+    let o = state-opens (rules.show (args .address)) _ _ _ (state-refusal .ensures) (if1 .left) tt in
     let f = fit-shaped (args .self) (now (args .cache)) (now (args .memory)) (o .fit) in
     omega arith
 
@@ -55,7 +55,7 @@ add-if3 c =
     let args = c .before .before .before .before .before .before .before .before .before .before .before .args in
     let state-refusal = c .before .before .before .before .before .before .before .before .state-refusal in
     let if1 = c .before .before .before .before .before .before .before .if1 in
-    let o = state-opens (rules.show (args .address)) _ _ _ (state-refusal .ensures) (if1 .left) in
+    let o = state-opens (rules.show (args .address)) _ _ _ (state-refusal .ensures) (if1 .left) tt in
     let f = fit-shaped (args .self) (now (args .cache)) (now (args .memory)) (o .fit) in
     omega arith
 
@@ -64,7 +64,7 @@ mul-t14 c =
     let args = c .before .before .before .before .before .before .before .before .before .before .before .before .args in
     let state-refusal = c .before .before .before .before .before .before .before .before .before .state-refusal in
     let if1 = c .before .before .before .before .before .before .before .before .if1 in
-    let o = state-opens (rules.show (args .address)) _ _ _ (state-refusal .ensures) (if1 .left) in
+    let o = state-opens (rules.show (args .address)) _ _ _ (state-refusal .ensures) (if1 .left) tt in
     let f = fit-shaped (args .self) (now (args .cache)) (now (args .memory)) (o .fit) in
     omega arith
 
@@ -77,7 +77,7 @@ returns-3 c =
     let if2 = c .before .before .before .before .before .before .if2 in
     let first-slot = c .before .before .first-slot in
     let find = c .before .find in
-    let o = state-opens (rules.show (args .address)) _ _ _ (state-refusal .ensures) (if1 .left) in
+    let o = state-opens (rules.show (args .address)) _ _ _ (state-refusal .ensures) (if1 .left) tt in
     let f = fit-shaped (args .self) (now (args .cache)) (now (args .memory)) (o .fit) in
     let b = hierarchyOf (args .self) (now (args .cache)) (now (args .memory)) in
     let l = lineOf (args .address) in
@@ -94,7 +94,7 @@ returns-4 c =
     let if2 = c .before .before .before .before .before .before .if2 in
     let first-slot = c .before .before .first-slot in
     let find = c .before .find in
-    let o = state-opens (rules.show (args .address)) _ _ _ (state-refusal .ensures) (if1 .left) in
+    let o = state-opens (rules.show (args .address)) _ _ _ (state-refusal .ensures) (if1 .left) tt in
     let f = fit-shaped (args .self) (now (args .cache)) (now (args .memory)) (o .fit) in
     (show-absent _ _ _ _ (none-does _ _ _ o refl) (if2 .left) (sym (found-present (hierarchyOf (args .self) (now (args .cache)) (now (args .memory))) (lineOf (args .address)) _ _ (first-slot .ensures .0) (find .ensures)) ∙ le-ltb _ _ (c .if3 .left)), omega arith)
 

@@ -15,7 +15,7 @@ returns : tie.Need-returns
 returns c =
     let state-refusal = c .before .before .state-refusal in
     let if1 = c .before .if1 in
-    rw (c .refused .ensures) (sym (state-refuses _ _ _ _ (state-refusal .ensures) (if1 .taken)))
+    rw (c .refused .ensures) (sym (state-refuses _ _ _ _ (state-refusal .ensures) (if1 .taken) tt))
 
 check-access-requires : tie.Need-check-access-requires
 check-access-requires c κs = search needs
@@ -40,7 +40,7 @@ returns-2 c =
     let enum-told = c .before .before .enum-told in
     let failure = c .before .failure in
     rw (c .refused2 .ensures, failure .ensures, enum-told .given .1)
-    (sym (access-refuses _ _ _ _ _ _ refl (state-opens _ _ _ _ (state-refusal .ensures) (if1 .left)) _ (sym (check-access .ensures) ∙ enum-told .given .1)))
+    (sym (access-refuses _ _ _ _ _ _ refl (state-opens _ _ _ _ (state-refusal .ensures) (if1 .left) tt) _ (sym (check-access .ensures) ∙ enum-told .given .1)))
 
 store-checked-requires : tie.Need-store-checked-requires
 store-checked-requires c κs = search needs
@@ -52,7 +52,7 @@ returns-3 c =
     let check-access = c .before .before .before .before .check-access in
     let checked = c .before .before .checked in
     let e = sym (check-access .ensures) ∙ checked .given .1 in
-    c .store-checked .ensures _ _ ∙ rw (passed-access _ _ _ _ e .1) (store-goes _ _ _ _ _ (state-opens _ _ _ _ (state-refusal .ensures) (if1 .left)) _ e)
+    c .store-checked .ensures _ _ ∙ rw (passed-access _ _ _ _ e .1) (store-goes _ _ _ _ _ (state-opens _ _ _ _ (state-refusal .ensures) (if1 .left) tt) _ e)
 
 pub store-spec : {M : Type 1} → statement M
 store-spec =

@@ -72,7 +72,7 @@ returns : tie.Need-returns Inv-loop μ-loop
 returns c =
     let args = c .before .before .before .before .args in
     let loop = c .before .loop in
-    sym (steps-end _ _ _ _ (c .loop-test .left)) ∙ (sym (loop .inv .1) ∙ start-each (args .figures .sets) (args .figures .ways))
+    sym (steps-end _ _ _ _ (c .loop-test .left)) ∙ (sym (loop .inv .1) ∙ start-each (args .figures))
 
 pub start-tags-spec : {M : Type 1} → statement M
 start-tags-spec =
