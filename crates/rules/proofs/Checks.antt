@@ -64,14 +64,14 @@ guarded-map f refuse (k ∷ ks) x = cases (k .applies) (λ e. rw e) (λ e. rw e 
 -- ---- checks 1 and 10, and the call's own between them and after them
 
 -- none of the checks applies, one by one
-abbrev pub Passed : List Check → Type 0
-Passed [] = Unit {0}
-Passed (k ∷ ks) = (k .applies ≡ false) × Passed ks
+abbrev pub EachPasses : List Check → Type 0
+EachPasses [] = Unit {0}
+EachPasses (k ∷ ks) = (k .applies ≡ false) × EachPasses ks
 
-passed : (ks : List Check) → Passed ks → passes ks ≡ true
+each-passes : (ks : List Check) → EachPasses ks → passes ks ≡ true
 unfolding every
-passed [] e = refl
-passed (k ∷ ks) e = rw (e .0) (passed ks (e .1))
+each-passes [] e = refl
+each-passes (k ∷ ks) e = rw (e .0) (each-passes ks (e .1))
 
 module _ (c : Call) (q : Queues) (b : Hierarchy) where
   abbrev refuse : ℕ → Outcome
@@ -105,13 +105,13 @@ module _ (c : Call) (q : Queues) (b : Hierarchy) where
   opened-by e f = after-fits e ∙ rw f (sym (guarded-append refuse (earlyChecks c b) (callChecks c q b) (rule c q b)))
 
   -- where the call's early checks pass
-  module _ (early : Passed (earlyChecks c b)) where
+  module _ (early : EachPasses (earlyChecks c b)) where
     pub malformed : fits b ≡ true → wellFormed q b ≡ false → outcome c q b ≡ unchanged (refusal c 10) q b
-    malformed e f = malformed-by e f ∙ guarded-passes refuse (earlyChecks c b) (refuse 10) (passed (earlyChecks c b) early)
+    malformed e f = malformed-by e f ∙ guarded-passes refuse (earlyChecks c b) (refuse 10) (each-passes (earlyChecks c b) early)
 
     pub opened : fits b ≡ true → wellFormed q b ≡ true → outcome c q b ≡ checked
     opened e f =
-        opened-by e f ∙ guarded-append refuse (earlyChecks c b) (callChecks c q b) (rule c q b) ∙ guarded-passes refuse (earlyChecks c b) checked (passed (earlyChecks c b) early)
+        opened-by e f ∙ guarded-append refuse (earlyChecks c b) (callChecks c q b) (rule c q b) ∙ guarded-passes refuse (earlyChecks c b) checked (each-passes (earlyChecks c b) early)
 
   pub own-passes : passes ownChecks ≡ true → passes (callChecks c q b) ≡ true
   own-passes p = every-split (λ k. not (k .applies)) (earlyChecks c b) (callChecks c q b) p .1
