@@ -41,33 +41,6 @@ module _ (i : Image) (o : Opened) (e : o ≡ opening i) where
   pub opened-state : o .state ≡ openedOf i
   opened-state = ap (λ (o : Opened). o .state) e
 
--- ---- a call
-
-abbrev Leaves : rules.Outcome → Left
-Leaves o = leaves (imagedAnswer (o .answer)) (o .queues) (o .hierarchy)
-
-module _ (c : rules.Call) (i : Image) (cache memory : List ℕ) where
-  abbrev outcomeAt : State → rules.Outcome
-  outcomeAt s = outcome c (queuesOf s) (hierarchyOf s cache memory)
-
-  -- the state that the image stands for is stepped
-  pub state-stepped :
-      (r : Step) (cache′ memory′ : List ℕ) (s : State) → outcomeOf r cache′ memory′ ≡ outcomeAt s → (t : ImageStep) → t .answer ≡ imagedAnswer (answerOf (r .answer) [])
-      → s ≡ openedOf i → standsFor i ≡ true → t .next ≡ imagedOf (r .next) → leftOf t cache′ memory′ ≡ called (some c) i cache memory
-  unfolding called outcomeFrom
-  state-stepped r cache′ memory′ s e t answer o stands next =
-      (λ j. record { answer = image-over (t .answer) (r .answer) cache′ answer j; image = next j; cache = cache′; memory = memory′ })
-      ∙ ap Leaves (e ∙ ap outcomeAt o) ∙ rw stands
-
-  -- the image stands for none: refused, and it stays
-  pub image-refused :
-      standsFor i ≡ false → (k : ℕ) → k ≡ imageRefusal i cache memory → (t : ImageStep) → t .answer ≡ imagedAnswer (refusal c k) → t .next ≡ i
-      → leftOf t cache memory ≡ called (some c) i cache memory
-  unfolding called
-  image-refused stands k e t answer next =
-      (λ j. record { answer = (answer ∙ ap (λ (k : ℕ). imagedAnswer (refusal c k)) e) j; image = next j; cache = cache; memory = memory })
-      ∙ rw stands
-
 -- ---- the records that a call may change
 
 module _ (q : Queues) (b : Hierarchy) where
@@ -88,7 +61,7 @@ module _ (q : Queues) (b : Hierarchy) where
 
 -- records that do not change have their images in the image before the call
 module _ (c : rules.Call) (i : Image) (cache memory : List ℕ) (stands : standsFor i ≡ true) where
-  pub next-imaged :
+  next-imaged :
       (s : State) (r : Step) (cache′ memory′ : List ℕ) → s ≡ openedOf i → outcomeOf r cache′ memory′ ≡ outcome c (queuesOf s) (hierarchyOf s cache memory)
       → nextImage c i (r .next) ≡ imagedOf (r .next)
   unfolding imagedOf imagedWith
@@ -101,6 +74,38 @@ module _ (c : rules.Call) (i : Image) (cache memory : List ℕ) (stands : stands
           ap (λ (o : rules.Outcome). o .hierarchy .tags) e
           ∙ outcome-keeps (queuesOf s) (hierarchyOf s cache memory) c t
           ∙ ap (λ (s : State). s .tags) o
+
+-- ---- a call
+
+abbrev Leaves : rules.Outcome → Left
+Leaves o = leaves (imagedAnswer (o .answer)) (o .queues) (o .hierarchy)
+
+module _ (c : rules.Call) (i : Image) (cache memory : List ℕ) where
+  abbrev outcomeAt : State → rules.Outcome
+  outcomeAt s = outcome c (queuesOf s) (hierarchyOf s cache memory)
+
+  -- the state that the image stands for is stepped
+  pub state-stepped :
+      (r : Step) (cache′ memory′ : List ℕ) (s : State) → outcomeOf r cache′ memory′ ≡ outcomeAt s → (t : ImageStep) → t .answer ≡ imagedAnswer (answerOf (r .answer) [])
+      → s ≡ openedOf i → standsFor i ≡ true → t .next ≡ nextImage c i (r .next) → leftOf t cache′ memory′ ≡ called (some c) i cache memory
+  unfolding called outcomeFrom
+  state-stepped r cache′ memory′ s e t answer o stands next =
+      (λ j. record {
+        answer = image-over (t .answer) (r .answer) cache′ answer j;
+        image = (next ∙ next-imaged c i cache memory stands s r cache′ memory′ o e) j;
+        cache = cache′;
+        memory = memory′;
+      })
+      ∙ ap Leaves (e ∙ ap outcomeAt o) ∙ rw stands
+
+  -- the image stands for none: refused, and it stays
+  pub image-refused :
+      standsFor i ≡ false → (k : ℕ) → k ≡ imageRefusal i cache memory → (t : ImageStep) → t .answer ≡ imagedAnswer (refusal c k) → t .next ≡ i
+      → leftOf t cache memory ≡ called (some c) i cache memory
+  unfolding called
+  image-refused stands k e t answer next =
+      (λ j. record { answer = (answer ∙ ap (λ (k : ℕ). imagedAnswer (refusal c k)) e) j; image = next j; cache = cache; memory = memory })
+      ∙ rw stands
 
 -- ---- a call by its number
 

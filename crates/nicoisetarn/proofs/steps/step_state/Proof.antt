@@ -1,8 +1,8 @@
 -- `steps::step_state` meets its contract: a step of the state that the image stands for.
 use borrow.Author.Needs.{needs}
-use mathlib.Core.Path.{_∙_}
+use denote.Ref.{now}
 use Rattle.nicoisetarn.proofs.ShownPart.{step-small}
-use Rattle.nicoisetarn.proofs.Outcomes.{state-stepped, next-imaged}
+use Rattle.nicoisetarn.proofs.Outcomes.{state-stepped}
 use Rattle.nicoisetarn.proofs.steps.step_state.Statement.{statement}
 use Rattle.nicoisetarn.proofs.steps.step_state.Tie as tie
 
@@ -25,11 +25,11 @@ same-length-2 c = search needs
 
 returns : tie.Need-returns
 returns c =
+    let args = c .before .before .before .before .before .before .before .before .before .before .before .before .args in
     let pre = c .before .before .before .before .before .before .before .before .before .before .before .before .pre in
     let step = c .before .before .before .before .before .before .before .step in
     let answer-image = c .before .answer-image in
-    let next = c .next-image .ensures ∙ next-imaged _ _ _ _ (pre .0) _ (step .result) _ _ (pre .1) (step .ensures) in
-    state-stepped _ _ _ _ (step .result) _ _ _ (step .ensures) _ (answer-image .ensures) (pre .1) (pre .0) next
+    state-stepped _ _ (now (args .cache)) (now (args .memory)) (step .result) _ _ (args .state) (step .ensures) _ (answer-image .ensures) (pre .1) (pre .0) (c .next-image .ensures)
 
 pub step-state-spec : {M : Type 1} → statement M
 step-state-spec =
