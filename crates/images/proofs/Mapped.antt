@@ -5,7 +5,6 @@ use mathlib.Core.Bool.{Bool, true, _&&_}
 use mathlib.Core.List.{List, [], _∷_, _++_, map, append-nil}
 use native.Mathlib.Nat.{not-suc-le-zero, le-of-suc-le-suc}
 use native.Mathlib.Numerals.{add-one}
-use native.Mathlib.Decide.{decLt}
 use native.Mathlib.Omega.{arith}
 use lib.ListN.{length, take, drop, getD, set, replicate}
 use lib.Seq.{take-all}
@@ -15,7 +14,7 @@ use Rattle.lists.proofs.Loops.{rest-cons, every-end}
 
 module _ {A B : Type 0} (f : A → B) where
   -- made in two parts
-  joined : (i : ℕ) (l : List A) → map f (take i l) ++ map f (drop i l) ≡ map f l
+  pub joined : (i : ℕ) (l : List A) → map f (take i l) ++ map f (drop i l) ≡ map f l
   joined zero l = refl
   joined (suc i) [] = refl
   joined (suc i) (x ∷ l) = ap (λ (r : List B). f x ∷ r) (joined i l)
@@ -43,15 +42,6 @@ module _ {A B : Type 0} (f : A → B) (free : B) where
       let all : take i l ≡ l = take-all i l (omega arith) in
       rw (none, all, append-nil (map f l)) at e
 
-  -- the entries that are left, if there are any, would be made the same
-  pub made-most :
-      (i n : ℕ) (l : List A) (out : List B) → length l ≡ n → (i < n → map f (drop i l) ≡ replicate (n - i) free) → out ≡ made i (n - i) l
-      → out ≡ map f l
-  made-most i n l out len rest e = elim (decLt i n) [
-    | yes h ↦ e ∙ ap (λ (r : List B). map f (take i l) ++ r) (sym (rest h)) ∙ joined f i l
-    | no h ↦ made-all i n l out len (omega arith) e
-  ]
-
 -- there and back
 module _ {A B : Type 0} (f : A → B) (g : B → A) where
   pub back : ((x : A) → g (f x) ≡ x) → (l : List A) → map g (map f l) ≡ l
@@ -69,6 +59,13 @@ pub every-made : {A B : Type 0} (f : A → B) (p : B → Bool) → ((x : A) → 
 unfolding every
 every-made f p h [] = refl
 every-made f p h (x ∷ l) = and-both (p (f x)) _ (h x) (every-made f p h l)
+
+-- the first entries tell all where the others pass
+pub every-most : {A : Type 0} (p : A → Bool) (n : ℕ) (l : List A) → every p (drop n l) ≡ true → every p (take n l) ≡ every p l
+unfolding every
+every-most p zero l e = sym e
+every-most p (suc n) [] e = refl
+every-most p (suc n) (x ∷ l) e = ap (λ (t : Bool). p x && t) (every-most p n l e)
 
 -- a test of all that keeps the answer so far
 module _ {A : Type 0} (p : A → Bool) (d : A) (b : Bool) (l : List A) (i : ℕ) where

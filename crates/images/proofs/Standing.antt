@@ -1,18 +1,18 @@
 -- Images stand for states: each comes back from the other.
-use Prim.Native.Nat.{ℕ, _+_, _*_, _-_, _<_}
+use Prim.Native.Nat.{ℕ, _+_, _*_, _-_, _<_, _≤_}
 use mathlib.Core.Path.{_≡_, refl, sym, ap, ap₂, _∙_}
-use mathlib.Core.List.{List, [], _∷_, map}
+use mathlib.Core.List.{List, [], _∷_, _++_, map}
 use mathlib.Core.Bool.{Bool, true, false, _&&_}
 use native.Mathlib.Omega.{arith}
-use native.Mathlib.Decide.{decLt}
-use lib.ListN.{length, drop, replicate, length-drop}
-use lib.Dec.{eqb}
-use borrow.Author.Tests.{leb-true, eqb-true, eqb-false, eq-eqb}
+use lib.ListN.{length, take, drop, replicate, length-drop}
+use lib.Seq.{take-all}
+use lib.Dec.{leb, eqb}
+use borrow.Author.Tests.{leb-true, leb-false, le-leb, lt-leb, eqb-true, eqb-false, eq-eqb}
 use Rattle.lists.specs.Padded.{every}
-use Rattle.lists.proofs.Cond.{cases, and-left, and-right, and-both}
+use Rattle.lists.proofs.Cond.{cases, either, and-left, and-right, and-both}
 use Rattle.lists.proofs.Loops.{every-end}
 use Rattle.rules.specs.declared.Tag.{Tag}
-use Rattle.rules.specs.Shape.{noTag}
+use Rattle.rules.specs.Shape.{noTag, waysAllowed}
 use Rattle.rules.specs.declared.StoreEntry.{StoreEntry}
 use Rattle.rules.specs.declared.LoadEntry.{LoadEntry}
 use Rattle.rules.specs.declared.Request.{Request}
@@ -22,9 +22,9 @@ use Rattle.images.specs.declared.StoreImage.{StoreImage}
 use Rattle.images.specs.declared.LoadImage.{LoadImage}
 use Rattle.images.specs.declared.TagImage.{TagImage}
 use Rattle.images.specs.declared.Image.{Image}
-use Rattle.images.specs.Images.{flagOf, isSet, isFlag, openedRequest, requestedOf, lineNamed, requestStands, openedStore, imagedStore, openedLoad, imagedLoad, loadStands, openedTag, imagedTag, tagStands, zeroImage, ZeroFrom, openedOf, imagedWith, imagedOf, standsFor}
+use Rattle.images.specs.Images.{flagOf, isSet, isFlag, openedRequest, requestedOf, lineNamed, requestStands, openedStore, imagedStore, openedLoad, imagedLoad, loadStands, openedTag, imagedTag, tagStands, zeroImage, figured, bounded, usedOf, usedRecords, openedTags, openedWith, openedOf, openedFirst, imagedWith, imagedOf, standsWith, standsFor, standsFirst}
 use Rattle.images.specs.Claims.{ImagesStandForStates}
-use Rattle.images.proofs.Mapped.{back, back-every, every-made}
+use Rattle.images.proofs.Mapped.{joined, back, back-every, every-made, every-most}
 
 -- ---- free places and unused records
 
@@ -148,14 +148,71 @@ zeros-opened [] e = refl
 zeros-opened (t ∷ l) e =
     ap₂ (λ (t : Tag) (l : List Tag). t ∷ l) (ap openedTag (zero-tells t (and-left (zeroImage t) _ e))) (zeros-opened l (and-right (zeroImage t) _ e))
 
-module _ (n : ℕ) (l : List TagImage) (len : length l ≡ 256) (z : ZeroFrom n l) where
-  pub rest-stands : every tagStands (drop n l) ≡ true
-  rest-stands = elim (decLt n 256) [ yes h ↦ zeros-stand (drop n l) (z .1 h) | no h ↦ every-end tagStands noTagImage l n (omega arith) ]
+-- ---- the records that need a look
 
-  pub rest-opened : n < 256 → map openedTag (drop n l) ≡ replicate (256 - n) noTag
-  rest-opened h =
-      let e : length (drop n l) ≡ 256 - n = length-drop n l ∙ ap (λ (m : ℕ). m - n) len in
-      zeros-opened (drop n l) (z .1 h) ∙ ap (λ (m : ℕ). replicate m noTag) e
+-- figures that ask for more than there are, or for ways that are not allowed
+pub figured-sets : (sets ways : ℕ) → 64 < sets → 256 ≡ figured sets ways
+unfolding figured
+figured-sets sets ways h = rw (lt-leb sets 64 h)
+
+pub figured-ways : (sets ways : ℕ) → (ways ≡ 1 → ⊥) → (ways ≡ 2 → ⊥) → (ways ≡ 3 → ⊥) → (ways ≡ 4 → ⊥) → 256 ≡ figured sets ways
+unfolding figured
+figured-ways sets ways n1 n2 n3 n4 = rw no (cases (leb sets 64) (λ e. rw e) (λ e. rw e))
+  where
+    no : waysAllowed ways ≡ false
+    no = cases (leb 1 ways)
+        (λ e. cases (leb ways 4) (λ f. let w : ⊥ = omega (arith, leb-true 1 ways e, leb-true ways 4 f) in absurd w) (λ f. rw (e, f)))
+        (λ e. rw e)
+
+pub figured-is : (sets ways k r : ℕ) → sets ≤ 64 → ways ≡ k → 1 ≤ k → k ≤ 4 → r ≡ sets * k → r ≡ figured sets ways
+unfolding figured
+figured-is sets ways k r h w low high e = rw (le-leb sets 64 h, w, le-leb 1 k low, le-leb k 4 high) e
+
+-- a number of records, 256 at most
+pub bounded-small : (n : ℕ) → n ≤ 256 → n ≡ bounded n
+bounded-small n h = rw (le-leb n 256 h)
+
+pub bounded-large : (n : ℕ) → 256 < n → 256 ≡ bounded n
+bounded-large n h = rw (lt-leb n 256 h)
+
+module _ {A : Type 0} (n : ℕ) (l : List A) (len : length l ≡ 256) where
+  pub bounded-rest : 256 - bounded n ≡ length l - n
+  bounded-rest = rw len (cases (leb n 256) (λ e. rw e) (λ e. rw e (omega (arith, leb-false n 256 e))))
+
+  pub bounded-take : take (bounded n) l ≡ take n l
+  bounded-take = cases (leb n 256) (λ e. rw e)
+      (λ e. rw e (let h : 256 < n = leb-false n 256 e in take-all 256 l (omega arith) ∙ sym (take-all n l (omega arith))))
+
+-- the others, if there are any, are zero
+module _ (n : ℕ) (l : List TagImage) (z : every zeroImage (drop n l) ≡ true) where
+  rest-stands : every tagStands (take n l) ≡ every tagStands l
+  rest-stands = every-most tagStands n l (zeros-stand (drop n l) z)
+
+  rest-opened : openedTags n l ≡ map openedTag l
+  unfolding openedTags
+  rest-opened =
+      ap (λ (r : List Tag). map openedTag (take n l) ++ r) (sym (zeros-opened (drop n l) z ∙ ap (λ (m : ℕ). replicate m noTag) (length-drop n l)))
+      ∙ joined openedTag n l
+
+used-zero : (n : ℕ) (l : List TagImage) → every zeroImage (drop (usedOf n l) l) ≡ true
+unfolding usedOf
+used-zero n l =
+    either (λ n. every zeroImage (drop n l) ≡ true) (every zeroImage (drop n l)) (λ e. e)
+    (λ e. every-end zeroImage noTagImage l (length l) (omega arith))
+
+-- those that need a look tell all
+module _ (i : Image) (n : ℕ) (e : n ≡ usedRecords i) where
+  others-zero : every zeroImage (drop n (i .tags)) ≡ true
+  unfolding usedRecords
+  others-zero = rw e (used-zero (figured (i .sets) (i .ways)) (i .tags))
+
+  pub used-stands : standsFirst n i ≡ standsFor i
+  unfolding standsWith standsFor standsFirst
+  used-stands = rw (rest-stands n (i .tags) others-zero)
+
+  pub used-opened : openedFirst n i ≡ openedOf i
+  unfolding openedOf openedFirst
+  used-opened = ap (λ (tags : List Tag). openedWith tags i) (rest-opened n (i .tags) others-zero)
 
 module _ (n l : ℕ) (e : requestStands n l ≡ true) where
   imaged-requested : requestedOf (openedRequest n l) ≡ n
@@ -173,7 +230,7 @@ module _ (n l : ℕ) (e : requestStands n l ≡ true) where
 -- ---- the whole
 
 pub opened-imaged : (s : State) → openedOf (imagedOf s) ≡ s
-unfolding openedOf imagedWith imagedOf
+unfolding openedWith openedOf imagedWith imagedOf
 opened-imaged s = λ j. record {
   figures = s .figures;
   size = s .size;
@@ -186,13 +243,13 @@ opened-imaged s = λ j. record {
 }
 
 imaged-stands : (s : State) → standsFor (imagedOf s) ≡ true
-unfolding standsFor imagedWith imagedOf
+unfolding standsWith standsFor imagedWith imagedOf
 imaged-stands s =
     and-both _ _ (request-stand (s .request))
     (and-both _ _ (every-made imagedLoad loadStands load-stand (s .loads)) (every-made imagedTag tagStands tag-stand (s .tags)))
 
 pub imaged-opened : (i : Image) → standsFor i ≡ true → imagedOf (openedOf i) ≡ i
-unfolding standsFor openedOf imagedWith imagedOf
+unfolding standsWith standsFor openedWith openedOf imagedWith imagedOf
 imaged-opened i e =
     let register : requestStands (i .requested) (i .line) ≡ true = and-left (requestStands (i .requested) (i .line)) _ e in
     let rest : (every loadStands (i .loads) && every tagStands (i .tags)) ≡ true = and-right (requestStands (i .requested) (i .line)) _ e in

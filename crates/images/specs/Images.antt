@@ -1,11 +1,11 @@
 -- The image of a state, the state of an image, and which images stand for a state.
-use Prim.Native.Nat.{ℕ, _<_, _≤_}
-use mathlib.Core.Path.{_≡_}
-use mathlib.Core.Bool.{Bool, true, cond, _&&_}
-use mathlib.Core.List.{List, map}
+use Prim.Native.Nat.{ℕ, _*_, _-_}
+use mathlib.Core.Bool.{Bool, cond, _&&_}
+use mathlib.Core.List.{List, map, _++_}
 use lib.Dec.{leb, eqb}
-use lib.ListN.{drop}
+use lib.ListN.{length, take, drop, replicate}
 use Rattle.lists.specs.Padded.{every}
+use Rattle.rules.specs.Shape.{noTag, waysAllowed}
 use Rattle.rules.specs.declared.Figures.{Figures}
 use Rattle.rules.specs.declared.Tag.{Tag}
 use Rattle.rules.specs.declared.StoreEntry.{StoreEntry}
@@ -17,7 +17,6 @@ use Rattle.images.specs.declared.StoreImage.{StoreImage}
 use Rattle.images.specs.declared.LoadImage.{LoadImage}
 use Rattle.images.specs.declared.TagImage.{TagImage}
 use Rattle.images.specs.declared.Image.{Image}
-use Rattle.images.specs.declared.Opened.{Opened}
 
 -- ---- truth values
 
@@ -87,13 +86,31 @@ imagedTag t = record { valid = flagOf (t .valid); dirty = flagOf (t .dirty); lin
 unfoldable pub tagStands : TagImage → Bool
 tagStands t = isFlag (t .valid) && (isFlag (t .dirty) && eqb (t .unused) 0)
 
+-- ---- records that need a look
+
 -- it is all zero
 unfoldable pub zeroImage : TagImage → Bool
 zeroImage t = eqb (t .valid) 0 && (eqb (t .dirty) 0 && (eqb (t .line) 0 && (eqb (t .age) 0 && eqb (t .unused) 0)))
 
--- the records from n on, if there are any, are zero
-abbrev pub ZeroFrom : ℕ → List TagImage → Type 0
-ZeroFrom n tags = (n ≤ 256) × (n < 256 → every zeroImage (drop n tags) ≡ true)
+-- as many records as the figures ask for, 256 at most
+unfoldable pub figured : ℕ → ℕ → ℕ
+figured sets ways = cond (leb sets 64 && waysAllowed ways) (sets * ways) 256
+
+-- n, or all records where n is more
+abbrev pub bounded : ℕ → ℕ
+bounded n = cond (leb n 256) n 256
+
+-- the first n records, if all others are zero, else all
+unfoldable pub usedOf : ℕ → List TagImage → ℕ
+usedOf n tags = cond (every zeroImage (drop n tags)) n (length tags)
+
+-- how many records of an image need a look
+unfoldable pub usedRecords : Image → ℕ
+usedRecords i = usedOf (figured (i .sets) (i .ways)) (i .tags)
+
+-- the records of the first n images, the others unused
+unfoldable pub openedTags : ℕ → List TagImage → List Tag
+openedTags n tags = map openedTag (take n tags) ++ replicate (length tags - n) noTag
 
 -- ---- the whole
 
@@ -105,9 +122,9 @@ figuresWith sets ways = record { sets = sets; ways = ways }
 abbrev pub figuresOf : Image → Figures
 figuresOf i = figuresWith (i .sets) (i .ways)
 
--- the state of an image
-unfoldable pub openedOf : Image → State
-openedOf i = record {
+-- the state of an image, with these records
+unfoldable pub openedWith : List Tag → Image → State
+openedWith tags i = record {
   figures = figuresOf i;
   size = i .size;
   last = i .last;
@@ -115,8 +132,16 @@ openedOf i = record {
   request = openedRequest (i .requested) (i .line);
   stores = map openedStore (i .stores);
   loads = map openedLoad (i .loads);
-  tags = map openedTag (i .tags);
+  tags = tags;
 }
+
+-- the state of an image
+unfoldable pub openedOf : Image → State
+openedOf i = openedWith (map openedTag (i .tags)) i
+
+-- the same with the first n records alone
+unfoldable pub openedFirst : ℕ → Image → State
+openedFirst n i = openedWith (openedTags n (i .tags)) i
 
 -- the image of a state, with these images of its records
 unfoldable pub imagedWith : List TagImage → State → Image
@@ -137,10 +162,14 @@ imagedWith images s = record {
 unfoldable pub imagedOf : State → Image
 imagedOf s = imagedWith (map imagedTag (s .tags)) s
 
--- every flag is 0 or 1, and a free register's line is 0
-unfoldable pub standsFor : Image → Bool
-standsFor i = requestStands (i .requested) (i .line) && (every loadStands (i .loads) && every tagStands (i .tags))
+-- every flag is 0 or 1 in the register, the loads and these records, and a free register's line is 0
+unfoldable pub standsWith : List TagImage → Image → Bool
+standsWith tags i = requestStands (i .requested) (i .line) && (every loadStands (i .loads) && every tagStands tags)
 
--- an image opened
-abbrev pub opening : Image → Opened
-opening i = record { stands = standsFor i; state = openedOf i }
+-- an image that stands for a state
+unfoldable pub standsFor : Image → Bool
+standsFor i = standsWith (i .tags) i
+
+-- the same asked of the first n records alone
+unfoldable pub standsFirst : ℕ → Image → Bool
+standsFirst n i = standsWith (take n (i .tags)) i

@@ -1,7 +1,7 @@
 // Images of the state: numbers in place of its truth values and its miss register, so that any bytes are an image. A state is
 // opened from its image, and an image made of a state; which images stand for a state.
 ghost use mathlib.Core.Path.{_≡_};
-ghost use Rattle.images.specs.Images.{ZeroFrom, openedOf, imagedWith, imagedOf, standsFor, opening};
+ghost use Rattle.images.specs.Images.{usedRecords, openedFirst, imagedWith, imagedOf, standsFirst};
 ghost use Rattle.images.specs.Claims.{ImagesStandForStates};
 use model::State;
 use rules::Figures;
@@ -68,16 +68,18 @@ pub struct Image {
 
 // ---- from an image to a state
 
-// What an image holds: whether it stands for a state, and the state that is opened from it.
-pub struct Opened {
-    pub stands: bool,
-    pub state: State,
+// How many records need a look: those that the figures ask for, if all others are zero.
+pub fn used_records(image: Image) -> usize
+    ensures { λ r. ⌜ r ≡ usedRecords image ⌝ }
+{
+    let n = tags::figured(image.sets, image.ways);
+    let tags = image.tags;
+    tags::used(tags, n)
 }
 
-// The image stands for a state.
-fn stands(image: Image, n: usize) -> bool
-    requires { ⌜ ZeroFrom n (image .tags) ⌝ }
-    ensures { λ r. ⌜ r ≡ standsFor image ⌝ }
+// The image stands for a state, as far as its first n records tell.
+pub fn stands(image: Image, n: usize) -> bool
+    ensures { λ r. ⌜ r ≡ standsFirst n image ⌝ }
 {
     if queues::request_stands(image.requested, image.line) {
         let loads = image.loads;
@@ -89,10 +91,9 @@ fn stands(image: Image, n: usize) -> bool
     false
 }
 
-// The state of an image.
-fn open_state(image: Image, n: usize) -> State
-    requires { ⌜ ZeroFrom n (image .tags) ⌝ }
-    ensures { λ r. ⌜ r ≡ openedOf image ⌝ }
+// The state of an image, with its first n records.
+pub fn opened(image: Image, n: usize) -> State
+    ensures { λ r. ⌜ r ≡ openedFirst n image ⌝ }
 {
     let stores = image.stores;
     let loads = image.loads;
@@ -109,17 +110,6 @@ fn open_state(image: Image, n: usize) -> State
         stores: queues::open_stores(stores),
         loads: queues::open_loads(loads),
         tags: tags::open_tags(tags, n),
-    }
-}
-
-// An image opened.
-pub fn open_image(image: Image) -> Opened
-    ensures { λ r. ⌜ r ≡ opening image ⌝ }
-{
-    let n = tags::used_records(image);
-    Opened {
-        stands: stands(image, n),
-        state: open_state(image, n),
     }
 }
 

@@ -3,10 +3,9 @@ ghost use mathlib.Core.Path.{_≡_};
 ghost use mathlib.Core.List.{map};
 ghost use mathlib.Core.Bool.{_&&_};
 ghost use Prim.Native.Nat.{_≤_};
-ghost use lib.ListN.{drop};
+ghost use lib.ListN.{take, drop};
 ghost use Rattle.lists.specs.Padded.{every};
-ghost use Rattle.images.specs.Images.{flagOf, openedTag, imagedTag, tagStands, zeroImage, ZeroFrom};
-use crate::Image;
+ghost use Rattle.images.specs.Images.{flagOf, openedTag, imagedTag, tagStands, zeroImage, figured, usedOf, bounded, openedTags};
 use crate::TagImage;
 use rules::MAX_SETS;
 use rules::NO_TAG;
@@ -53,8 +52,8 @@ fn zero_from(tags: [TagImage; TAG_RECORDS], n: usize) -> bool
 }
 
 // As many records as the figures ask for, 256 at most.
-fn figured(sets: u32, ways: u32) -> usize
-    ensures { λ r. ⌜ r ≤ 256 ⌝ }
+pub(crate) fn figured(sets: u32, ways: u32) -> usize
+    ensures { λ r. ⌜ (r ≡ figured sets ways) × (r ≤ 256) ⌝ }
 {
     if MAX_SETS < sets {
         return TAG_RECORDS;
@@ -69,14 +68,35 @@ fn figured(sets: u32, ways: u32) -> usize
     }
 }
 
-// The first n records, which alone need a look: those after them, if there are any, are zero.
-pub(crate) fn open_tags(tags: [TagImage; TAG_RECORDS], n: usize) -> [Tag; TAG_RECORDS]
-    requires { ⌜ ZeroFrom n tags ⌝ }
-    ensures { λ r. ⌜ r ≡ map openedTag tags ⌝ }
+// The first n records, if all others are zero, else all.
+pub(crate) fn used(tags: [TagImage; TAG_RECORDS], n: usize) -> usize
+    requires { ⌜ n ≤ 256 ⌝ }
+    ensures { λ r. ⌜ r ≡ usedOf n tags ⌝ }
 {
+    if zero_from(tags, n) {
+        return n;
+    }
+    TAG_RECORDS
+}
+
+// n, or all records where n is more.
+fn bounded(n: usize) -> usize
+    ensures { λ r. ⌜ (r ≡ bounded n) × (r ≤ 256) ⌝ }
+{
+    if n <= TAG_RECORDS {
+        return n;
+    }
+    TAG_RECORDS
+}
+
+// The first n records; the others are unused.
+pub(crate) fn open_tags(tags: [TagImage; TAG_RECORDS], n: usize) -> [Tag; TAG_RECORDS]
+    ensures { λ r. ⌜ r ≡ openedTags n tags ⌝ }
+{
+    let end = bounded(n);
     let mut out = [NO_TAG; TAG_RECORDS];
     let mut i: usize = 0;
-    while i < n {
+    while i < end {
         let t = tags[i];
         let e = open_tag(t);
         out[i] = e;
@@ -138,12 +158,13 @@ fn tag_stands(t: TagImage) -> bool
     t.unused == 0
 }
 
+// The first n records stand for some.
 pub(crate) fn tags_stand(tags: [TagImage; TAG_RECORDS], n: usize) -> bool
-    requires { ⌜ ZeroFrom n tags ⌝ }
-    ensures { λ r. ⌜ r ≡ every tagStands tags ⌝ }
+    ensures { λ r. ⌜ r ≡ every tagStands (take n tags) ⌝ }
 {
+    let end = bounded(n);
     let mut i: usize = 0;
-    while i < n {
+    while i < end {
         let t = tags[i];
         if tag_stands(t) {
             i += 1;
@@ -152,16 +173,4 @@ pub(crate) fn tags_stand(tags: [TagImage; TAG_RECORDS], n: usize) -> bool
         }
     }
     true
-}
-
-// How many records need a look: those after them, if there are any, are zero.
-pub(crate) fn used_records(image: Image) -> usize
-    ensures { λ r. ⌜ ZeroFrom r (image .tags) ⌝ }
-{
-    let n = figured(image.sets, image.ways);
-    let tags = image.tags;
-    if zero_from(tags, n) {
-        return n;
-    }
-    TAG_RECORDS
 }

@@ -1,7 +1,7 @@
 -- What the functions leave is what the definitions say; and a refusal leaves everything as it was.
 use Prim.Native.Nat.{ℕ, _≤_}
 use mathlib.Core.Path.{_≡_, refl, sym, _∙_, ap}
-use mathlib.Core.Bool.{Bool, true, false}
+use mathlib.Core.Bool.{true, false}
 use mathlib.Core.List.{List, [], map}
 use mathlib.Core.Option.{Option, some, none}
 use native.Mathlib.Omega.{arith}
@@ -19,27 +19,17 @@ use Rattle.model.specs.declared.Started.{Started}
 use Rattle.model.specs.declared.StartAnswer.the-variants.{Ready, NotAllowed}
 use Rattle.images.specs.declared.Image.{Image}
 use Rattle.images.specs.declared.TagImage.{TagImage}
-use Rattle.images.specs.declared.Opened.{Opened}
 use Rattle.nicoisetarn.specs.declared.AnswerImage.{AnswerImage}
 use Rattle.nicoisetarn.specs.declared.ImageStep.{ImageStep}
 use Rattle.nicoisetarn.specs.declared.answers.Numbered.{Numbered}
 use Rattle.nicoisetarn.specs.declared.answers.Numbered.the-variants.{Known, Unknown}
-use Rattle.images.specs.Images.{imagedTag, figuresWith, openedOf, imagedWith, imagedOf, standsFor, opening}
+use Rattle.images.specs.Images.{imagedTag, figuresWith, openedOf, imagedWith, imagedOf, standsFor}
 use Rattle.images.proofs.Standing.{imaged-opened}
 use Rattle.nicoisetarn.specs.Answers.{callNumbered, numberedOf, coded, imagedAnswer, readyAnswer, noSuchCall}
 use Rattle.nicoisetarn.specs.Steps.{Left, leftOf, kept, leaves, startedBy, started, imageRefusal, outcomeFrom, called, stepped, lineShown, changesRecords, nextImage}
 use Rattle.nicoisetarn.specs.Claims.{Keeps, RefusedImagesKept, UnknownCallsKept, LooksKept}
 use Rattle.nicoisetarn.proofs.CallNumbers.{no-number, some-number}
 use Rattle.nicoisetarn.proofs.ShownPart.{image-over}
-
--- ---- an image that is opened
-
-module _ (i : Image) (o : Opened) (e : o ≡ opening i) where
-  pub opened-stands : {t : Bool} → o .stands ≡ t → standsFor i ≡ t
-  opened-stands h = sym (ap (λ (o : Opened). o .stands) e) ∙ h
-
-  pub opened-state : o .state ≡ openedOf i
-  opened-state = ap (λ (o : Opened). o .state) e
 
 -- ---- the records that a call may change
 

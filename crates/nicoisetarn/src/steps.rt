@@ -4,7 +4,7 @@ ghost use mathlib.Core.Option.{some};
 ghost use mathlib.Core.Bool.{true};
 ghost use Rattle.rules.specs.Runs.{refusal};
 ghost use Rattle.model.specs.State.{callOf};
-ghost use Rattle.images.specs.Images.{openedOf, standsFor};
+ghost use Rattle.images.specs.Images.{usedRecords, standsFor};
 ghost use Rattle.nicoisetarn.specs.Answers.{imagedAnswer};
 ghost use Rattle.nicoisetarn.specs.Steps.{leftOf, started, imageRefusal, called, stepped, lineShown, changesRecords, nextImage};
 use crate::AnswerImage;
@@ -82,17 +82,18 @@ fn next_image(image: Image, call: Call, next: State) -> Image
     images::imaged_with(tags, next)
 }
 
-// A call on the state that an image stands for.
+// A call on an image that stands for a state.
 fn step_state(
     image: Image,
-    state: State,
+    used: usize,
     call: Call,
     cache: &mut [u8],
     memory: &mut [u8],
 ) -> ImageStep
-    requires { ⌜ (standsFor image ≡ true) × (state ≡ openedOf image) ⌝ }
+    requires { ⌜ (standsFor image ≡ true) × (used ≡ usedRecords image) ⌝ }
     ensures { λ r. ⌜ leftOf r (now (cache .exit)) (now (memory .exit)) ≡ called (some (callOf call)) image (now (cache .entry)) (now (memory .entry)) ⌝ }
 {
+    let state = images::opened(image, used);
     let r = state.step(call, cache, memory);
     let answer = r.answer;
     let next = r.next;
@@ -141,10 +142,9 @@ pub(crate) fn step_image(
     let numbered = answers::call_numbered(call, x, y, z);
     match numbered {
         Numbered::Known(c) => {
-            let opened = images::open_image(image);
-            if opened.stands {
-                let state = opened.state;
-                return step_state(image, state, c, cache, memory);
+            let used = images::used_records(image);
+            if images::stands(image, used) {
+                return step_state(image, used, c, cache, memory);
             }
             let k = image_refusal(image, cache, memory);
             ImageStep {
@@ -164,9 +164,9 @@ pub(crate) fn step_image(
 pub(crate) fn show_image(image: Image, address: u32, cache: &[u8], memory: &[u8]) -> AnswerImage
     ensures { λ r. ⌜ r ≡ lineShown address image (now (cache .entry)) (now (memory .entry)) ⌝ }
 {
-    let opened = images::open_image(image);
-    if opened.stands {
-        let state = opened.state;
+    let used = images::used_records(image);
+    if images::stands(image, used) {
+        let state = images::opened(image, used);
         let r = state.show(cache, memory, address);
         let answer = r.answer;
         return answers::answer_image(answer);

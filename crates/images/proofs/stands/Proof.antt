@@ -1,7 +1,7 @@
 -- `stands` meets its contract.
 use borrow.Author.Needs.{needs}
 use mathlib.Core.Path.{sym, _∙_}
-use Rattle.images.specs.Images.{standsFor}
+use Rattle.images.specs.Images.{standsWith, standsFirst}
 use Rattle.images.proofs.stands.Statement.{statement}
 use Rattle.images.proofs.stands.Tie as tie
 
@@ -12,12 +12,10 @@ loads-stand-requires : tie.Need-loads-stand-requires
 loads-stand-requires c κs = search needs
 
 tags-stand-requires : tie.Need-tags-stand-requires
-tags-stand-requires c κs =
-    let pre = c .before .before .before .before .before .before .pre in
-    pre
+tags-stand-requires c κs = search needs
 
 returns : tie.Need-returns
-unfolding standsFor
+unfolding standsWith standsFirst
 returns c =
     let request-stands = c .before .before .before .before .before .before .request-stands in
     let if1 = c .before .before .before .before .before .if1 in
@@ -26,7 +24,7 @@ returns c =
     rw (sym (request-stands .ensures) ∙ if1 .taken, sym (loads-stand .ensures) ∙ if2 .taken) (c .tags-stand .ensures)
 
 returns-2 : tie.Need-returns-2
-unfolding standsFor
+unfolding standsWith standsFirst
 returns-2 c =
     let request-stands = c .before .before .before .before .request-stands in
     let if1 = c .before .before .before .if1 in
@@ -34,7 +32,7 @@ returns-2 c =
     rw (sym (request-stands .ensures) ∙ if1 .taken, sym (loads-stand .ensures) ∙ c .if2 .left)
 
 returns-3 : tie.Need-returns-3
-unfolding standsFor
+unfolding standsWith standsFirst
 returns-3 c =
     let request-stands = c .before .request-stands in
     rw (sym (request-stands .ensures) ∙ c .if1 .left)

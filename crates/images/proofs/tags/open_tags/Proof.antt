@@ -1,21 +1,24 @@
 -- `tags::open_tags` meets its contract. The loop: the first i entries are made.
-use Prim.Native.Nat.{_-_, _≤_}
-use mathlib.Core.Path.{_≡_, refl}
+use Prim.Native.Nat.{ℕ, _-_, _≤_}
+use mathlib.Core.Path.{_≡_, refl, ap, _∙_}
 use native.Mathlib.Omega.{arith}
 use lib.ListN.{length}
 use borrow.Author.Needs.{needs}
-use Rattle.images.specs.Images.{openedTag}
+use Rattle.images.specs.Images.{openedTag, openedTags}
 use Rattle.rules.specs.Shape.{noTag}
-use Rattle.images.proofs.Standing.{noTagImage, rest-opened}
-use Rattle.images.proofs.Mapped.{made, made-step, made-most}
+use Rattle.images.proofs.Standing.{noTagImage, bounded-rest, bounded-take}
+use Rattle.images.proofs.Mapped.{made, made-step}
 use Rattle.images.proofs.tags.open_tags.Statement.{statement}
 use Rattle.images.proofs.tags.open_tags.Tie as tie
 
 abbrev Inv-loop : tie.InvT-loop
-Inv-loop n tags out₀ i₀ out i = (i ≤ n) × (out ≡ made openedTag noTag i (256 - i) tags)
+Inv-loop n tags end out₀ i₀ out i = (i ≤ end) × (out ≡ made openedTag noTag i (256 - i) tags)
 
 abbrev μ-loop : tie.MeasureT-loop
-μ-loop n tags out₀ i₀ out i = n - i
+μ-loop n tags end out₀ i₀ out i = end - i
+
+bounded-requires : tie.Need-bounded-requires Inv-loop μ-loop
+bounded-requires c κs = search needs
 
 loop-holds : tie.Need-loop-holds Inv-loop μ-loop
 loop-holds c = (search needs, refl)
@@ -43,22 +46,25 @@ loop-less c = search needs
 
 loop-again : tie.Need-loop-again Inv-loop μ-loop
 loop-again c =
-    let args = c .before .before .before .before .args in
-    let pre = c .before .before .before .before .pre in
+    let args = c .before .before .before .before .before .args in
+    let bounded = c .before .before .before .before .bounded in
     let loop = c .before .before .before .loop in
     let long : length (args .t1) ≡ 256 = search needs in (
       search needs,
-      made-step openedTag noTag noTagImage (loop .i) 256 (args .t1) (loop .out) (c .open-tag .result) long (omega (arith, pre .0)) (loop .inv .1) (c .open-tag .ensures),
+      made-step openedTag noTag noTagImage (loop .i) 256 (args .t1) (loop .out) (c .open-tag .result) long (omega (arith, bounded .ensures .1)) (loop .inv .1) (c .open-tag .ensures),
     )
 
 returns : tie.Need-returns Inv-loop μ-loop
+unfolding openedTags
 returns c =
-    let args = c .before .before .args in
-    let pre = c .before .before .pre in
+    let args = c .before .before .before .args in
+    let bounded = c .before .before .bounded in
     let loop = c .before .loop in
     let long : length (args .t1) ≡ 256 = search needs in
-    let e : loop .i ≡ args .n = omega arith in
-    made-most openedTag noTag (args .n) 256 (args .t1) (loop .out) long (rest-opened (args .n) (args .t1) long (pre)) (rw e at (loop .inv .1))
+    let e : loop .i ≡ bounded .result = omega arith in
+    loop .inv .1
+    ∙ ap (λ (i : ℕ). made openedTag noTag i (256 - i) (args .t1)) (e ∙ bounded .ensures .0)
+    ∙ rw (bounded-take (args .n) (args .t1) long, bounded-rest (args .n) (args .t1) long)
 
 pub open-tags-spec : {M : Type 1} → statement M
 open-tags-spec =
@@ -66,6 +72,7 @@ open-tags-spec =
     (tie.spec
     Inv-loop
     μ-loop
+    bounded-requires
     loop-holds
     mul-t
     array-copy-out-t

@@ -1,21 +1,25 @@
 -- `tags::tags_stand` meets its contract. The test of the entries that are left is the whole test.
 use Prim.Native.Nat.{_-_, _≤_}
-use mathlib.Core.Path.{_≡_, refl, sym, _∙_}
+use mathlib.Core.Path.{_≡_, refl, sym, ap, _∙_}
 use native.Mathlib.Omega.{arith}
-use lib.ListN.{length, drop}
+use lib.ListN.{length, take, drop}
+use lib.Seq.{length-take-le, getD-take}
 use borrow.Author.Needs.{needs}
 use Rattle.lists.specs.Padded.{every}
-use Rattle.lists.proofs.Loops.{every-hit, every-miss}
+use Rattle.lists.proofs.Loops.{every-hit, every-miss, every-end}
 use Rattle.images.specs.Images.{tagStands}
-use Rattle.images.proofs.Standing.{noTagImage, rest-stands}
+use Rattle.images.proofs.Standing.{noTagImage, bounded-take}
 use Rattle.images.proofs.tags.tags_stand.Statement.{statement}
 use Rattle.images.proofs.tags.tags_stand.Tie as tie
 
 abbrev Inv-loop : tie.InvT-loop
-Inv-loop n tags i₀ i = (i ≤ n) × (every tagStands tags ≡ every tagStands (drop i tags))
+Inv-loop n tags end i₀ i = (i ≤ end) × (every tagStands (take end tags) ≡ every tagStands (drop i (take end tags)))
 
 abbrev μ-loop : tie.MeasureT-loop
-μ-loop n tags i₀ i = n - i
+μ-loop n tags end i₀ i = end - i
+
+bounded-requires : tie.Need-bounded-requires Inv-loop μ-loop
+bounded-requires c κs = search needs
 
 loop-holds : tie.Need-loop-holds Inv-loop μ-loop
 loop-holds c = (search needs, refl)
@@ -37,30 +41,40 @@ loop-less c = search needs
 
 loop-again : tie.Need-loop-again Inv-loop μ-loop
 loop-again c =
-    let args = c .before .before .before .before .before .args in
-    let pre = c .before .before .before .before .before .pre in
+    let args = c .before .before .before .before .before .before .args in
+    let bounded = c .before .before .before .before .before .bounded in
     let loop = c .before .before .before .before .loop in
+    let loop-test = c .before .before .before .loop-test in
     let tag-stands = c .before .tag-stands in
     let long : length (args .t1) ≡ 256 = search needs in
-    (search needs, loop .inv .1 ∙ every-hit tagStands noTagImage (args .t1) (loop .i) (omega (arith, pre .0)) (sym (tag-stands .ensures) ∙ c .if1 .taken))
+    let first = length-take-le (bounded .result) (args .t1) (omega (arith, bounded .ensures .1)) in
+    let e = getD-take (bounded .result) (args .t1) (loop .i) noTagImage (loop-test .taken) in
+    (search needs, loop .inv .1 ∙ every-hit tagStands noTagImage (take (bounded .result) (args .t1)) (loop .i) (omega arith) (ap tagStands e ∙ sym (tag-stands .ensures) ∙ c .if1 .taken))
 
 returns : tie.Need-returns Inv-loop μ-loop
 returns c =
-    let args = c .before .before .before .before .before .args in
-    let pre = c .before .before .before .before .before .pre in
+    let args = c .before .before .before .before .before .before .args in
+    let bounded = c .before .before .before .before .before .bounded in
     let loop = c .before .before .before .before .loop in
+    let loop-test = c .before .before .before .loop-test in
     let tag-stands = c .before .tag-stands in
     let long : length (args .t1) ≡ 256 = search needs in
-    sym (loop .inv .1 ∙ every-miss tagStands noTagImage (args .t1) (loop .i) (omega (arith, pre .0)) (sym (tag-stands .ensures) ∙ c .if1 .left))
+    let first = length-take-le (bounded .result) (args .t1) (omega (arith, bounded .ensures .1)) in
+    let e = getD-take (bounded .result) (args .t1) (loop .i) noTagImage (loop-test .taken) in
+    sym
+    (rw (sym (bounded-take (args .n) (args .t1) long), sym (bounded .ensures .0))
+    (loop .inv .1 ∙ every-miss tagStands noTagImage (take (bounded .result) (args .t1)) (loop .i) (omega arith) (ap tagStands e ∙ sym (tag-stands .ensures) ∙ c .if1 .left)))
 
 returns-2 : tie.Need-returns-2 Inv-loop μ-loop
 returns-2 c =
-    let args = c .before .before .args in
-    let pre = c .before .before .pre in
+    let args = c .before .before .before .args in
+    let bounded = c .before .before .bounded in
     let loop = c .before .loop in
     let long : length (args .t1) ≡ 256 = search needs in
-    let e : loop .i ≡ args .n = omega arith in
-    sym ((rw e at (loop .inv .1)) ∙ rest-stands (args .n) (args .t1) long (pre))
+    let first = length-take-le (bounded .result) (args .t1) (omega (arith, bounded .ensures .1)) in
+    sym
+    (rw (sym (bounded-take (args .n) (args .t1) long), sym (bounded .ensures .0))
+    (loop .inv .1 ∙ every-end tagStands noTagImage (take (bounded .result) (args .t1)) (loop .i) (omega arith)))
 
 pub tags-stand-spec : {M : Type 1} → statement M
 tags-stand-spec =
@@ -68,6 +82,7 @@ tags-stand-spec =
     (tie.spec
     Inv-loop
     μ-loop
+    bounded-requires
     loop-holds
     mul-t
     array-copy-out-t

@@ -1,8 +1,8 @@
--- `open_state` meets its contract.
+-- `opened` meets its contract.
 use borrow.Author.Needs.{needs}
-use Rattle.images.specs.Images.{figuresOf, openedOf}
-use Rattle.images.proofs.open_state.Statement.{statement}
-use Rattle.images.proofs.open_state.Tie as tie
+use Rattle.images.specs.Images.{figuresOf, openedWith, openedFirst}
+use Rattle.images.proofs.opened.Statement.{statement}
+use Rattle.images.proofs.opened.Tie as tie
 
 open-request-requires : tie.Need-open-request-requires
 open-request-requires c κs = search needs
@@ -14,12 +14,10 @@ open-loads-requires : tie.Need-open-loads-requires
 open-loads-requires c κs = search needs
 
 open-tags-requires : tie.Need-open-tags-requires
-open-tags-requires c κs =
-    let pre = c .before .before .before .before .before .before .pre in
-    pre
+open-tags-requires c κs = search needs
 
 returns : tie.Need-returns
-unfolding openedOf
+unfolding openedWith openedFirst
 returns c =
     let args = c .before .before .before .before .before .before .before .args in
     let open-request = c .before .before .before .open-request in
@@ -37,8 +35,8 @@ returns c =
       tags = c .open-tags .ensures j;
     }
 
-pub open-state-spec : {M : Type 1} → statement M
-open-state-spec =
+pub opened-spec : {M : Type 1} → statement M
+opened-spec =
     tie.close
     (tie.spec
     open-request-requires
