@@ -74,7 +74,10 @@ pub fn used_records(image: Image) -> usize
 {
     let n = tags::figured(image.sets, image.ways);
     let tags = image.tags;
-    tags::used(tags, n)
+    if tags::zero_from(tags, n) {
+        return n;
+    }
+    TAG_RECORDS
 }
 
 // The image stands for a state, as far as its first n records tell.

@@ -3,9 +3,9 @@ ghost use mathlib.Core.Path.{_≡_};
 ghost use mathlib.Core.List.{map};
 ghost use mathlib.Core.Bool.{_&&_};
 ghost use Prim.Native.Nat.{_≤_};
-ghost use lib.ListN.{take, drop};
+ghost use lib.ListN.{length, take, drop};
 ghost use Rattle.lists.specs.Padded.{every};
-ghost use Rattle.images.specs.Images.{flagOf, openedTag, imagedTag, tagStands, zeroImage, figured, usedOf, bounded, openedTags};
+ghost use Rattle.images.specs.Images.{flagOf, openedTag, imagedTag, tagStands, zeroImage, figured, bounded, openedTags};
 use crate::TagImage;
 use rules::MAX_SETS;
 use rules::NO_TAG;
@@ -36,10 +36,10 @@ fn zero_too(already: bool, t: TagImage) -> bool
     already
 }
 
-// The records from n on are all zero. (The loop has no early exit: in a well-formed state none would be taken.)
-fn zero_from(tags: [TagImage; TAG_RECORDS], n: usize) -> bool
+// The records from n on are all zero; there are 256. (The loop has no early exit: in a well-formed state none would be taken.)
+pub(crate) fn zero_from(tags: [TagImage; TAG_RECORDS], n: usize) -> bool
     requires { ⌜ n ≤ 256 ⌝ }
-    ensures { λ r. ⌜ r ≡ every zeroImage (drop n tags) ⌝ }
+    ensures { λ r. ⌜ (r ≡ every zeroImage (drop n tags)) × (length tags ≡ 256) ⌝ }
 {
     let mut zero = true;
     let mut i = n;
@@ -66,17 +66,6 @@ pub(crate) fn figured(sets: u32, ways: u32) -> usize
         4 => 4 * n,
         _ => TAG_RECORDS,
     }
-}
-
-// The first n records, if all others are zero, else all.
-pub(crate) fn used(tags: [TagImage; TAG_RECORDS], n: usize) -> usize
-    requires { ⌜ n ≤ 256 ⌝ }
-    ensures { λ r. ⌜ r ≡ usedOf n tags ⌝ }
-{
-    if zero_from(tags, n) {
-        return n;
-    }
-    TAG_RECORDS
 }
 
 // n, or all records where n is more.

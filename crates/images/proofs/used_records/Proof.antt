@@ -1,7 +1,6 @@
 -- `used_records` meets its contract.
 use borrow.Author.Needs.{needs}
-use Prim.Native.Nat.{ℕ}
-use mathlib.Core.Path.{ap, _∙_}
+use mathlib.Core.Path.{sym, _∙_}
 use Rattle.images.specs.Images.{usedOf, usedRecords}
 use Rattle.images.proofs.used_records.Statement.{statement}
 use Rattle.images.proofs.used_records.Tie as tie
@@ -9,17 +8,24 @@ use Rattle.images.proofs.used_records.Tie as tie
 figured-requires : tie.Need-figured-requires
 figured-requires c κs = search needs
 
-used-requires : tie.Need-used-requires
-used-requires c κs =
+zero-from-requires : tie.Need-zero-from-requires
+zero-from-requires c κs =
     let figured = c .before .figured in
     figured .ensures .1
 
 returns : tie.Need-returns
-unfolding usedRecords
+unfolding usedOf usedRecords
 returns c =
-    let args = c .before .before .before .args in
-    let figured = c .before .before .figured in
-    c .used .ensures ∙ ap (λ (n : ℕ). usedOf n (args .image .tags)) (figured .ensures .0)
+    let figured = c .before .before .before .figured in
+    let zero-from = c .before .zero-from in
+    rw (sym (figured .ensures .0), sym (zero-from .ensures .0) ∙ c .if1 .taken)
+
+returns-2 : tie.Need-returns-2
+unfolding usedOf usedRecords
+returns-2 c =
+    let figured = c .before .before .before .figured in
+    let zero-from = c .before .zero-from in
+    rw (sym (figured .ensures .0), sym (zero-from .ensures .0) ∙ c .if1 .left, zero-from .ensures .1)
 
 pub used-records-spec : {M : Type 1} → statement M
-used-records-spec = tie.close (tie.spec figured-requires used-requires returns)
+used-records-spec = tie.close (tie.spec figured-requires zero-from-requires returns returns-2)

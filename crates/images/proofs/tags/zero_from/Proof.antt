@@ -44,7 +44,7 @@ loop-again c =
 returns : tie.Need-returns Inv-loop μ-loop
 returns c =
     let long : length (c .before .before .args .t1) ≡ 256 = search needs in
-    sym (c .before .loop .inv .1 ∙ every-off zeroImage noTagImage (c .before .loop .zero) (c .before .before .args .t1) (c .before .loop .i) (omega arith))
+    (sym (c .before .loop .inv .1 ∙ every-off zeroImage noTagImage (c .before .loop .zero) (c .before .before .args .t1) (c .before .loop .i) (omega arith)), long)
 
 pub zero-from-spec : {M : Type 1} → statement M
 zero-from-spec =
