@@ -12,13 +12,12 @@ use Rattle.lists.specs.Padded.{any}
 use Rattle.rules.specs.Calls.{Call, Check, load, store, refused, check, numberCheck, loadRule, storeRule, guarded, passes, unchanged, accessChecks, earlyChecks, callChecks, rule}
 use Rattle.rules.specs.WellFormed.{wellFormed}
 use Rattle.rules.specs.Runs.{stateChecks, refusal, outcome}
-use Rattle.rules.proofs.Checks.{Passed, shut, malformed, opened, checked, guarded-append, guarded-passes}
+use Rattle.rules.proofs.Checks.{EachPasses, shut, malformed, opened, checked, guarded-append, guarded-passes}
 use Rattle.access.specs.AccessChecks.{sized, checkedAccess}
 use Rattle.access.proofs.AccessChecks.{checks-refuse, checks-pass}
 use Rattle.model.specs.State.{storeRest}
 use Rattle.access.specs.declared.Access.{Access}
-use Rattle.access.specs.declared.Checked.the-variants.{Failed}
-use Rattle.access.specs.declared.Checked.the-variants as checked-access
+use Rattle.access.specs.declared.Checked.the-variants.{Passed, Failed}
 
 -- where the number of checks 1 and 10 is 0 the state is well formed
 pub state-formed : (q : Queues) (b : Hierarchy) (k : ℕ) → k ≡ guarded (stateChecks q b) (λ j. j) 0 → k ≡ 0 → wellFormed q b ≡ true
@@ -37,7 +36,7 @@ module _ (c : Call) (q : Queues) (b : Hierarchy) where
     pub does : outcome c q b ≡ checked c q b
 
   -- what the number of checks 1 and 10 tells of a call whose early checks pass: the refusal
-  pub state-refuses : (k : ℕ) → k ≡ guarded (stateChecks q b) (λ j. j) 0 → (k ≡ 0 → ⊥) → Passed (earlyChecks c b) → outcome c q b ≡ unchanged (refusal c k) q b
+  pub state-refuses : (k : ℕ) → k ≡ guarded (stateChecks q b) (λ j. j) 0 → (k ≡ 0 → ⊥) → EachPasses (earlyChecks c b) → outcome c q b ≡ unchanged (refusal c k) q b
   unfolding guarded
   state-refuses k e n early =
       cases (fits b)
@@ -47,7 +46,7 @@ module _ (c : Call) (q : Queues) (b : Hierarchy) where
       (λ f. let z : k ≡ 1 = rw f at e in rw z (shut c q b f))
 
   -- a well-formed state passes both
-  pub formed-opens : wellFormed q b ≡ true → Passed (earlyChecks c b) → Open
+  pub formed-opens : wellFormed q b ≡ true → EachPasses (earlyChecks c b) → Open
   unfolding wellFormed
   formed-opens e early = let f = and-left (fits b) _ e in record { fit = f; formed = e; does = opened c q b early f e }
 
@@ -64,7 +63,7 @@ module _ (c : Call) (q : Queues) (b : Hierarchy) (a w : ℕ) (rest : List Check)
   unfolding checkedAccess
   access-refuses k e = o .does ∙ after-access ∙ checks-refuse _ _ (accessChecks b a w) (record { address = a; width = w }) k e
 
-  pub access-goes : (x : Access) → checkedAccess (b .size) a w ≡ checked-access.Passed x → outcome c q b ≡ guarded rest (λ k. unchanged (refusal c k) q b) (rule c q b)
+  pub access-goes : (x : Access) → checkedAccess (b .size) a w ≡ Passed x → outcome c q b ≡ guarded rest (λ k. unchanged (refusal c k) q b) (rule c q b)
   unfolding checkedAccess
   access-goes x e =
       o .does ∙ after-access
@@ -72,7 +71,7 @@ module _ (c : Call) (q : Queues) (b : Hierarchy) (a w : ℕ) (rest : List Check)
 
 -- ---- load
 
-module _ (a w : ℕ) (q : Queues) (b : Hierarchy) (o : Open (load a w) q b) (x : Access) (e : checkedAccess (b .size) a w ≡ checked-access.Passed x) where
+module _ (a w : ℕ) (q : Queues) (b : Hierarchy) (o : Open (load a w) q b) (x : Access) (e : checkedAccess (b .size) a w ≡ Passed x) where
   rest-of-load : outcome (load a w) q b ≡ guarded (numberCheck q ∷ check 12 (not (any isFreeLoad (q .loads))) ∷ []) (λ k. unchanged (refused k) q b) (loadRule a w q b)
   rest-of-load = access-goes (load a w) q b a w _ refl o x e
 
@@ -110,7 +109,7 @@ module _ (c : Call) (q : Queues) (b : Hierarchy) (o : Open c q b) where
 -- ---- a store's checks after the access
 
 module _ (a w v : ℕ) (q : Queues) (b : Hierarchy) where
-  pub store-goes : (o : Open (store a w v) q b) (x : Access) → checkedAccess (b .size) a w ≡ checked-access.Passed x → storeRest a w v q b ≡ outcome (store a w v) q b
+  pub store-goes : (o : Open (store a w v) q b) (x : Access) → checkedAccess (b .size) a w ≡ Passed x → storeRest a w v q b ≡ outcome (store a w v) q b
   unfolding storeRest
   store-goes o x e = sym (access-goes (store a w v) q b a w _ refl o x e)
 
@@ -133,7 +132,7 @@ module _ (a w v : ℕ) (q : Queues) (b : Hierarchy) where
       rest-does t = rw (lt-leb (256 ^ w) v (ltb-true v (256 ^ w) s), ne-eqb (q .last) topNumber n, t)
 
 -- the access that passed is the one that was checked
-pub passed-access : (size a w : ℕ) (x : Access) → checkedAccess size a w ≡ checked-access.Passed x → (passes (accessChecks (sized size) a w) ≡ true) × (x ≡ record { address = a; width = w })
+pub passed-access : (size a w : ℕ) (x : Access) → checkedAccess size a w ≡ Passed x → (passes (accessChecks (sized size) a w) ≡ true) × (x ≡ record { address = a; width = w })
 unfolding checkedAccess
 passed-access size a w x e =
     let p = checks-pass (accessChecks (sized size) a w) (record { address = a; width = w }) x e in (p .0, sym (p .1))

@@ -1,7 +1,7 @@
 -- The state as a struct, beside the two halves of the rules; answers and calls of the code as those of the rules.
 use Prim.Native.Nat.{ℕ, _+_, _*_, _%_, _<_, _≤_}
 use mathlib.Core.Path.{_≡_}
-use mathlib.Core.Bool.{true, cond, not}
+use mathlib.Core.Bool.{Bool, true, false, cond, not}
 use mathlib.Core.List.{List, [], _∷_}
 use lib.ListN.{getD, replicate}
 use Rattle.lists.specs.Counted.{eachFrom}
@@ -127,6 +127,18 @@ callOf Idle = rules.idle
 callOf Reply = rules.reply
 callOf Flush = rules.flush
 callOf (Show a) = rules.show a
+
+-- the call only reads the lent bytes
+abbrev pub readsOnly : Call → Bool
+readsOnly (Load a w) = true
+readsOnly (Store a w v) = true
+readsOnly (Retry i) = true
+readsOnly (Commit k) = true
+readsOnly (Abort n) = true
+readsOnly Idle = false
+readsOnly Reply = false
+readsOnly Flush = false
+readsOnly (Show a) = true
 
 -- ---- what check 1 and the access checks leave to the functions behind them
 

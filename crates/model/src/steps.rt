@@ -1,10 +1,11 @@
 // One step over an enum of calls.
 ghost use mathlib.Core.Path.{_≡_};
+ghost use mathlib.Core.Bool.{true};
 ghost use mathlib.Core.List.{List};
 ghost use Prim.Native.Nat.{ℕ};
 ghost use Rattle.rules.specs.Calls.{unchanged};
 ghost use Rattle.rules.specs.Runs.{refusal};
-ghost use Rattle.model.specs.State.{callOf, queuesOf, hierarchyOf, outcomeOf, Does, worldOf, Formed};
+ghost use Rattle.model.specs.State.{callOf, readsOnly, queuesOf, hierarchyOf, outcomeOf, Does, worldOf, Formed};
 use crate::Answer;
 use crate::Call;
 use crate::State;
@@ -24,10 +25,10 @@ impl State {
         self.refused(k)
     }
 
-    // Any call of a run on a well-formed state: checks 1 and 10 are not made.
-    pub(crate) fn step_formed(self, call: Call, cache: &mut [u8], memory: &mut [u8]) -> Step
+    // A call that only reads the lent bytes, on a well-formed state. (Of the others nothing is promised.)
+    fn read_formed(self, call: Call, cache: &[u8], memory: &[u8]) -> Step
         requires { ⌜ Formed self (now cache) (now memory) ⌝ }
-        ensures { λ r. ⌜ Does (callOf call) (worldOf self (now (cache .entry)) (now (memory .entry))) r (now (cache .exit)) (now (memory .exit)) ⌝ }
+        ensures { λ r. ⌜ (readsOnly call ≡ true → Does (callOf call) (worldOf self (now (cache .entry)) (now (memory .entry))) r (now (cache .entry)) (now (memory .entry))) ⌝ }
     {
         match call {
             Call::Load(address, width) => self.load_formed(cache, memory, address, width),
@@ -41,10 +42,24 @@ impl State {
             Call::Retry(i) => self.retry_formed(cache, memory, i),
             Call::Commit(k) => self.commit_formed(cache, memory, k),
             Call::Abort(n) => self.abort_formed(cache, memory, n),
+            Call::Show(address) => self.show_formed(cache, memory, address),
+            _ => Step {
+                answer: Answer::Idled,
+                next: self,
+            },
+        }
+    }
+
+    // Any call of a run on a well-formed state: checks 1 and 10 are not made.
+    pub(crate) fn step_formed(self, call: Call, cache: &mut [u8], memory: &mut [u8]) -> Step
+        requires { ⌜ Formed self (now cache) (now memory) ⌝ }
+        ensures { λ r. ⌜ Does (callOf call) (worldOf self (now (cache .entry)) (now (memory .entry))) r (now (cache .exit)) (now (memory .exit)) ⌝ }
+    {
+        match call {
             Call::Idle => self.idle_formed(cache, memory),
             Call::Reply => self.reply_formed(cache, memory),
             Call::Flush => self.flush_formed(cache, memory),
-            Call::Show(address) => self.show_formed(cache, memory, address),
+            _ => self.read_formed(call, cache, memory),
         }
     }
 

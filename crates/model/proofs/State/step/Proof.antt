@@ -5,7 +5,7 @@ use denote.Ref.{now}
 use Rattle.model.proofs.Calls.{state-refuses, state-formed}
 use Rattle.rules.specs.Shape.{Hierarchy}
 use Rattle.rules.specs.Calls.{earlyChecks}
-use Rattle.rules.proofs.Checks.{Passed}
+use Rattle.rules.proofs.Checks.{EachPasses}
 use Rattle.model.specs.State.{callOf, hierarchyOf}
 use Rattle.model.specs.declared.Call.{Call}
 use Rattle.model.specs.declared.Call.the-variants.{Load, Store, Retry, Commit, Abort, Idle, Reply, Flush, Show}
@@ -13,7 +13,7 @@ use Rattle.model.proofs.State.step.Statement.{statement}
 use Rattle.model.proofs.State.step.Tie as tie
 
 -- no call has a check between 1 and 10
-early : (c : Call) (b : Hierarchy) → Passed (earlyChecks (callOf c) b)
+early : (c : Call) (b : Hierarchy) → EachPasses (earlyChecks (callOf c) b)
 early (Load a w) b = tt
 early (Store a w v) b = tt
 early (Retry i) b = tt

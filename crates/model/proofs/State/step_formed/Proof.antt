@@ -1,37 +1,32 @@
--- `State::step_formed` meets its contract: each call by its own.
+-- `State::step_formed` meets its contract: each call that writes by its own, the others together.
 use borrow.Author.Needs.{needs}
+use Prim.Native.Nat.{ℕ}
+use mathlib.Core.Path.{_≡_, refl}
+use mathlib.Core.Bool.{true}
+use mathlib.Core.List.{List, [], _∷_}
+use types.Run.{OneOf, miss}
+use denote.Enum.Declared.{tagOf}
+use Rattle.model.specs.State.{readsOnly}
+use Rattle.model.specs.declared.Call.{Call}
+use Rattle.model.specs.declared.Call.the-variants.{Load, Store, Retry, Commit, Abort, Idle, Reply, Flush, Show}
+use Rattle.model.proofs.Call as call
 use Rattle.model.proofs.State.step_formed.Statement.{statement}
 use Rattle.model.proofs.State.step_formed.Tie as tie
 
-enum-known-call : tie.Need-enum-known-call
-enum-known-call c = search needs
+-- the variants of the calls that only read
+abbrev reading : List ℕ
+reading = 0 ∷ 1 ∷ 2 ∷ 3 ∷ 4 ∷ 8 ∷ []
 
-load-formed-requires : tie.Need-load-formed-requires
-load-formed-requires c κs = search needs
-
-enum-known-call-2 : tie.Need-enum-known-call-2
-enum-known-call-2 c = search needs
-
-store-formed-requires : tie.Need-store-formed-requires
-store-formed-requires c κs = search needs
-
-enum-known-call-3 : tie.Need-enum-known-call-3
-enum-known-call-3 c = search needs
-
-retry-formed-requires : tie.Need-retry-formed-requires
-retry-formed-requires c κs = search needs
-
-enum-known-call-4 : tie.Need-enum-known-call-4
-enum-known-call-4 c = search needs
-
-commit-formed-requires : tie.Need-commit-formed-requires
-commit-formed-requires c κs = search needs
-
-enum-known-call-5 : tie.Need-enum-known-call-5
-enum-known-call-5 c = search needs
-
-abort-formed-requires : tie.Need-abort-formed-requires
-abort-formed-requires c κs = search needs
+all-read : (c : Call) → OneOf reading (tagOf call.the-type c) → readsOnly c ≡ true
+all-read (Load a w) h = refl
+all-read (Store a w v) h = refl
+all-read (Retry i) h = refl
+all-read (Commit k) h = refl
+all-read (Abort n) h = refl
+all-read Idle h = absurd (miss reading 5 tt h)
+all-read Reply h = absurd (miss reading 6 tt h)
+all-read Flush h = absurd (miss reading 7 tt h)
+all-read (Show a) h = refl
 
 enum-told : tie.Need-enum-told
 enum-told c = search needs
@@ -51,11 +46,8 @@ enum-told-3 c = search needs
 flush-formed-requires : tie.Need-flush-formed-requires
 flush-formed-requires c κs = search needs
 
-enum-known-call-6 : tie.Need-enum-known-call-6
-enum-known-call-6 c = search needs
-
-show-formed-requires : tie.Need-show-formed-requires
-show-formed-requires c κs = search needs
+read-formed-requires : tie.Need-read-formed-requires
+read-formed-requires c κs = search needs
 
 same-length : tie.Need-same-length
 same-length c = search needs
@@ -65,8 +57,9 @@ same-length-2 c = search needs
 
 returns : tie.Need-returns
 returns c =
-    let call = c .before .before .before .before .call in
-    rw (call .given .1) (c .load-formed .ensures)
+    let enum-told = c .before .before .before .before .before .before .before .enum-told in
+    let idle-formed = c .before .before .before .before .idle-formed in
+    rw (enum-told .given .1) (idle-formed .ensures)
 
 same-length-3 : tie.Need-same-length-3
 same-length-3 c = search needs
@@ -76,8 +69,9 @@ same-length-4 c = search needs
 
 returns-2 : tie.Need-returns-2
 returns-2 c =
-    let call2 = c .before .before .before .before .call2 in
-    rw (call2 .given .1) (c .store-formed .ensures)
+    let enum-told2 = c .before .before .before .before .before .before .before .enum-told2 in
+    let reply-formed = c .before .before .before .before .reply-formed in
+    rw (enum-told2 .given .1) (reply-formed .ensures)
 
 same-length-5 : tie.Need-same-length-5
 same-length-5 c = search needs
@@ -87,8 +81,9 @@ same-length-6 c = search needs
 
 returns-3 : tie.Need-returns-3
 returns-3 c =
-    let call3 = c .before .before .before .before .call3 in
-    rw (call3 .given .1) (c .retry-formed .ensures)
+    let enum-told3 = c .before .before .before .before .before .enum-told3 in
+    let flush-formed = c .before .before .flush-formed in
+    rw (enum-told3 .given .1) (flush-formed .ensures)
 
 same-length-7 : tie.Need-same-length-7
 same-length-7 c = search needs
@@ -98,89 +93,21 @@ same-length-8 c = search needs
 
 returns-4 : tie.Need-returns-4
 returns-4 c =
-    let call4 = c .before .before .before .before .call4 in
-    rw (call4 .given .1) (c .commit-formed .ensures)
-
-same-length-9 : tie.Need-same-length-9
-same-length-9 c = search needs
-
-same-length-10 : tie.Need-same-length-10
-same-length-10 c = search needs
-
-returns-5 : tie.Need-returns-5
-returns-5 c =
-    let call5 = c .before .before .before .before .call5 in
-    rw (call5 .given .1) (c .abort-formed .ensures)
-
-same-length-11 : tie.Need-same-length-11
-same-length-11 c = search needs
-
-same-length-12 : tie.Need-same-length-12
-same-length-12 c = search needs
-
-returns-6 : tie.Need-returns-6
-returns-6 c =
-    let enum-told = c .before .before .before .before .before .before .before .enum-told in
-    let idle-formed = c .before .before .before .before .idle-formed in
-    rw (enum-told .given .1) (idle-formed .ensures)
-
-same-length-13 : tie.Need-same-length-13
-same-length-13 c = search needs
-
-same-length-14 : tie.Need-same-length-14
-same-length-14 c = search needs
-
-returns-7 : tie.Need-returns-7
-returns-7 c =
-    let enum-told2 = c .before .before .before .before .before .before .before .enum-told2 in
-    let reply-formed = c .before .before .before .before .reply-formed in
-    rw (enum-told2 .given .1) (reply-formed .ensures)
-
-same-length-15 : tie.Need-same-length-15
-same-length-15 c = search needs
-
-same-length-16 : tie.Need-same-length-16
-same-length-16 c = search needs
-
-returns-8 : tie.Need-returns-8
-returns-8 c =
-    let enum-told3 = c .before .before .before .before .before .enum-told3 in
-    let flush-formed = c .before .before .flush-formed in
-    rw (enum-told3 .given .1) (flush-formed .ensures)
-
-same-length-17 : tie.Need-same-length-17
-same-length-17 c = search needs
-
-same-length-18 : tie.Need-same-length-18
-same-length-18 c = search needs
-
-returns-9 : tie.Need-returns-9
-returns-9 c =
-    let call6 = c .before .before .before .before .call6 in
-    rw (call6 .given .1) (c .show-formed .ensures)
+    let args = c .before .before .before .before .before .before .args in
+    let match = c .before .before .before .match in
+    c .read-formed .ensures (all-read (args .call) (match .keys4))
 
 pub step-formed-spec : {M : Type 1} → statement M
 step-formed-spec =
     tie.close
     (tie.spec
-    enum-known-call
-    load-formed-requires
-    enum-known-call-2
-    store-formed-requires
-    enum-known-call-3
-    retry-formed-requires
-    enum-known-call-4
-    commit-formed-requires
-    enum-known-call-5
-    abort-formed-requires
     enum-told
     idle-formed-requires
     enum-told-2
     reply-formed-requires
     enum-told-3
     flush-formed-requires
-    enum-known-call-6
-    show-formed-requires
+    read-formed-requires
     same-length
     same-length-2
     returns
@@ -192,19 +119,4 @@ step-formed-spec =
     returns-3
     same-length-7
     same-length-8
-    returns-4
-    same-length-9
-    same-length-10
-    returns-5
-    same-length-11
-    same-length-12
-    returns-6
-    same-length-13
-    same-length-14
-    returns-7
-    same-length-15
-    same-length-16
-    returns-8
-    same-length-17
-    same-length-18
-    returns-9)
+    returns-4)
