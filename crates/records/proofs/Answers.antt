@@ -10,7 +10,7 @@ use lib.ListN.{set}
 use borrow.Author.Tests.{ltb-true, ltb-false, lt-ltb}
 use Rattle.lists.specs.Counted.{firstFrom, eachFrom}
 use Rattle.lists.proofs.Cond.{either, cases, cond-then, and-both}
-use Rattle.lists.proofs.Counting.{first-low, greatest-in}
+use Rattle.lists.proofs.Counting.{first-low, first-high, greatest-in}
 use Rattle.rules.specs.declared.Figures.{Figures}
 use Rattle.rules.specs.declared.Tag.{Tag}
 use Rattle.rules.specs.Shape.{Hierarchy, tagAt, firstSlot}
@@ -47,6 +47,9 @@ module _ (g : Figures) (l f : ℕ) (room : hasRoom g ≡ true) (first : f ≡ co
 
     pub found-low : f ≤ v
     found-low = omega (arith, found-first, first-low (λ k. holdsLine l (tagAt tags k)) (g .ways) f)
+
+    pub found-high : v ≤ f + g .ways
+    found-high = omega (arith, found-first, first-high (λ k. holdsLine l (tagAt tags k)) (g .ways) f)
 
     pub found-slot : v ≡ slotOf b l
     unfolding slotOf

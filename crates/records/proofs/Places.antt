@@ -1,4 +1,4 @@
--- The tests of places in the table, as bounds on numbers; the slots of a line's set, and the slots that a search answers, lie in it.
+-- The tests of places in the table, as bounds on numbers; the slots of a line's set lie among the slots in use.
 use mathlib.Core.Path.{_≡_, _∙_, sym}
 use mathlib.Core.Bool.{Bool, true, false, not}
 use Prim.Native.Nat.{ℕ, _+_, _*_, _%_, _-_, _<_, _≤_}

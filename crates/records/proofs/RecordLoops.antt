@@ -3,9 +3,12 @@ use mathlib.Core.Path.{_≡_, refl}
 use mathlib.Core.Bool.{false, cond, not, _&&_}
 use mathlib.Core.List.{List}
 use Prim.Native.Nat.{ℕ, zero, suc, _+_, _*_, _%_, _<_, _≤_}
+use native.Mathlib.Nat.{mod-le}
 use native.Mathlib.Omega.{arith}
 use lib.Dec.{ltb, leb, eqb}
 use lib.ListN.{replicate}
+use mir.Val.{Fits}
+use mir.Syntax.{w8}
 use borrow.Author.Tests.{ltb-true, leb-true, eqb-true, lt-ltb, le-ltb, le-leb, eq-eqb, ne-eqb}
 use Rattle.lists.specs.Counted.{firstFrom, greatestFrom, stepsFrom, eachFrom}
 use Rattle.lists.proofs.Cond.{either, and-left, and-right}
@@ -71,6 +74,10 @@ unfolding flushedTags
 flushed-tags n tags = cleans n 0 _
 
 -- ---- start
+
+-- an age has 8 bits
+pub age-fits : (k ways count : ℕ) → k < count → count ≤ 256 → Fits w8 (k % ways)
+age-fits k ways count h l = omega (arith, mod-le k ways)
 
 abbrev pub startAt : ℕ → ℕ → ℕ → Tag → Tag
 startAt count ways k t = cond (ltb k count) (withAge (k % ways) t) t

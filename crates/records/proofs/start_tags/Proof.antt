@@ -1,7 +1,6 @@
 -- `start_tags` meets its contract. The records that are left to age give the whole table.
 use mathlib.Core.Path.{_≡_, sym, _∙_}
 use Prim.Native.Nat.{_≤_, _<_, _-_, _*_}
-use native.Mathlib.Nat.{mod-le}
 use native.Mathlib.Omega.{arith}
 use borrow.Author.Needs.{needs}
 use Rattle.lists.specs.Counted.{stepsFrom}
@@ -9,7 +8,7 @@ use Rattle.lists.proofs.Cond.{cond-then, cond-else}
 use Rattle.lists.proofs.CountedLoops.{change, steps-next, steps-end}
 use Rattle.rules.specs.Shape.{noTag}
 use Rattle.records.proofs.Places.{test-failed, test-passed, room-bounds}
-use Rattle.records.proofs.RecordLoops.{startAt, start-each, start-at}
+use Rattle.records.proofs.RecordLoops.{age-fits, startAt, start-each, start-at}
 use Rattle.records.proofs.start_tags.Statement.{statement}
 use Rattle.records.proofs.start_tags.Tie as tie
 
@@ -65,9 +64,9 @@ rem-t12 c = search needs
 
 cast-t16 : tie.Need-cast-t16 Inv-loop μ-loop
 cast-t16 c =
-    let args = c .before .before .before .before .before .before .before .args in
     let loop = c .before .before .loop in
-    omega (arith, mod-le (loop .k) (args .figures .ways))
+    let loop-test = c .before .loop-test in
+    age-fits _ _ _ (loop-test .taken) (loop .inv .1)
 
 mul-out : tie.Need-mul-out Inv-loop μ-loop
 mul-out c = search needs
