@@ -17,7 +17,7 @@ pub enum Mix {
     Short,
     /// Long scripts: mostly accepted calls, with much work for the cache.
     Long,
-    /// Runs in which much is dropped.
+    /// Scripts that stretches are struck from: much is dropped.
     Struck,
     /// Accepted calls for the most part: accesses, commits, fills, drains, aborts.
     Accepted,
@@ -42,7 +42,7 @@ impl Row {
 }
 
 /// Every call, then every turn of several calls.
-static ROWS: [Row; 17] = [
+const ROWS: &[Row] = &[
     row(Maker::load, &[(Single, 9), (Inside, 3)]),
     row(Maker::store, &[(Single, 6), (Inside, 2)]),
     row(Maker::retry, &[(Single, 4), (Inside, 1)]),
@@ -103,7 +103,7 @@ impl Maker {
     /// Makes one of the rows, each as often as its weight says.
     fn draw(&mut self, mix: Mix) {
         let mut at = self.rng.below(ROWS.iter().map(|row| row.weight(mix)).sum());
-        for row in &ROWS {
+        for row in ROWS {
             if at < row.weight(mix) {
                 return (row.make)(self);
             }

@@ -3,6 +3,7 @@
 use crate::check;
 use crate::maker::Maker;
 pub use crate::maker::Mix;
+use crate::script::line_of;
 use crate::types::{Call, Figures, Setup, State, Step, LINE};
 
 /// A small generator of random numbers (splitmix64).
@@ -116,10 +117,10 @@ fn script_maker(rng: &mut Rng, setup: Setup) -> Maker {
     Maker::new(run, Rng::new(seed))
 }
 
-/// Makes a run of a script: without show line, and of about so many calls.
+/// Makes a run of a script: of calls that have a line, and of about so many.
 pub fn script_run(rng: &mut Rng, setup: Setup, length: usize, mix: Mix) -> Run {
     let mut run = script_maker(rng, setup).make(length, mix).run;
-    run.calls.retain(|call| !matches!(call, Call::ShowLine { .. }));
+    run.calls.retain(|call| line_of(*call).is_some());
     run
 }
 
@@ -127,7 +128,7 @@ pub fn script_run(rng: &mut Rng, setup: Setup, length: usize, mix: Mix) -> Run {
 /// the state that was reached; the number of calls before those.
 pub fn told_run(rng: &mut Rng, setup: Setup, length: usize, mix: Mix) -> (Run, usize) {
     let mut maker = script_maker(rng, setup).make(length, mix);
-    maker.run.calls.retain(|call| !matches!(call, Call::ShowLine { .. }));
+    maker.run.calls.retain(|call| line_of(*call).is_some());
     let before = maker.run.calls.len();
     maker.tell();
     (maker.run, before)

@@ -49,7 +49,7 @@ impl Stretch {
 }
 
 /// From a place where the next number is n to an accepted abort naming n.
-pub static PLAIN: Kind = Kind {
+pub const PLAIN: Kind = Kind {
     name: "dropped stretch",
     with_reply: "dropped stretch, load and reply inside",
     with_eviction: "dropped stretch, load and eviction inside",
@@ -58,7 +58,7 @@ pub static PLAIN: Kind = Kind {
 };
 
 /// Every kind.
-pub static KINDS: [&Kind; 1] = [&PLAIN];
+pub const KINDS: &[&Kind] = &[&PLAIN];
 
 /// Every stretch of every kind in a run whose first number is this.
 pub fn stretches(first: u64, given: &[Given]) -> Vec<Stretch> {

@@ -336,18 +336,18 @@ fn flip(bytes: &mut [u8], rng: &mut Rng) {
 fn odd_call(rng: &mut Rng) -> Call {
     let (number, address) = (odd_number(rng), odd_number(rng));
     let (width, value) = (rng.pick(&[1, 2, 4, 4, number]), odd_number(rng));
-    match rng.below(10) {
-        0 => Call::Start { figures: Figures::new(number, width) },
-        1 => Call::Load { address, width },
-        2 => Call::Store { address, width, value },
-        3 => Call::Retry { number },
-        4 => Call::Commit { number },
-        5 => Call::Abort { number },
-        6 => Call::Idle,
-        7 => Call::Reply,
-        8 => Call::Flush,
-        _ => Call::ShowLine { address },
-    }
+    rng.pick(&[
+        Call::Start { figures: Figures::new(number, width) },
+        Call::Load { address, width },
+        Call::Store { address, width, value },
+        Call::Retry { number },
+        Call::Commit { number },
+        Call::Abort { number },
+        Call::Idle,
+        Call::Reply,
+        Call::Flush,
+        Call::ShowLine { address },
+    ])
 }
 
 /// The machine in the middle of the run of a seed.
