@@ -16,7 +16,7 @@ use Rattle.rules.specs.Shape.{noStore, noLoad, lineOf, slots}
 use Rattle.rules.specs.Lines.{isDirty, dirtyLines}
 use Rattle.rules.specs.Calls.{waitingAt, answered, answerLoad, youngStore, youngLoad, squash, abortRule, flushRule}
 use Rattle.records.specs.Records.{hasRoom, usedTags, flushedTags}
-use Rattle.line_bytes.specs.Writes.{flushedMemory, linesWritten, DirtyInside}
+use Rattle.line_bytes.specs.Writes.{linesWritten, DirtyInside}
 use Rattle.model.specs.State.{queuesOf, hierarchyOf, outcomeOf}
 use Rattle.model.specs.declared.State.{State}
 use Rattle.model.specs.declared.Step.{Step}

@@ -1,16 +1,16 @@
 -- Calls by their checks: what a call's outcome is, when checks 1 and 10 refuse it, and when they pass and its own checks follow.
 use Prim.Native.Nat.{ℕ, _^_}
 use mathlib.Core.Path.{_≡_, refl, sym, _∙_, ap}
-use mathlib.Core.Bool.{Bool, true, false, not}
+use mathlib.Core.Bool.{Bool, true, false, not, _&&_}
 use mathlib.Core.List.{List, [], _∷_, _++_}
 use native.Mathlib.Omega.{arith}
-use lib.Dec.{ltb}
+use lib.Dec.{ltb, eqb}
 use borrow.Author.Tests.{ltb-true, ltb-false, le-leb, lt-leb, eq-eqb, ne-eqb}
 use Rattle.lists.proofs.Cond.{cases, and-left}
 use Rattle.rules.specs.Shape.{Queues, Hierarchy, fits, topNumber, isFreeStore, isFreeLoad}
 use Rattle.lists.specs.Padded.{any}
 use Rattle.rules.specs.Calls.{Call, Check, load, store, refused, check, numberCheck, loadRule, storeRule, guarded, passes, unchanged, accessChecks, earlyChecks, callChecks, rule}
-use Rattle.rules.specs.WellFormed.{wellFormed}
+use Rattle.rules.specs.WellFormed.{linesFormed, queuesFormed, wellFormed}
 use Rattle.rules.specs.Runs.{stateChecks, refusal, outcome}
 use Rattle.rules.proofs.Checks.{EachPasses, shut, malformed, opened, checked, guarded-append, guarded-passes}
 use Rattle.access.specs.AccessChecks.{sized, checkedAccess}
@@ -27,6 +27,16 @@ state-formed q b k e n =
     (λ g. cases (fits b)
     (λ f. let z : k ≡ 10 = rw (f, g) at e in let no : ⊥ = omega arith in absurd no)
     (λ f. let z : k ≡ 1 = rw f at e in let no : ⊥ = omega arith in absurd no))
+
+-- and only there
+pub state-judged : (q : Queues) (b : Hierarchy) (k : ℕ) → k ≡ guarded (stateChecks q b) (λ j. j) 0 → eqb k 0 ≡ wellFormed q b
+unfolding guarded wellFormed
+state-judged q b k e =
+    cases (fits b)
+    (λ f. cases (linesFormed b && queuesFormed q b)
+    (λ g. let z : k ≡ 0 = rw (f, g) at e in rw (z, f, g))
+    (λ g. let z : k ≡ 10 = rw (f, g) at e in rw (z, f, g)))
+    (λ f. let z : k ≡ 1 = rw f at e in rw (z, f))
 
 module _ (c : Call) (q : Queues) (b : Hierarchy) where
   -- checks 1 and 10 pass

@@ -5,7 +5,7 @@ ghost use mathlib.Core.Bool.{_&&_};
 ghost use Prim.Native.Nat.{_*_};
 ghost use Rattle.rules.specs.Lines.{present};
 ghost use Rattle.rules.specs.Calls.{guarded};
-ghost use Rattle.rules.specs.WellFormed.{requestAbsent, requestInside, requestWanted};
+ghost use Rattle.rules.specs.WellFormed.{requestAbsent, requestInside, requestWanted, wellFormed};
 ghost use Rattle.rules.specs.Runs.{stateChecks};
 ghost use Rattle.records.specs.Records.{tabled};
 ghost use Rattle.access.specs.AccessChecks.{sized};
@@ -70,6 +70,13 @@ impl State {
             }
         }
         NOT_WELL_FORMED
+    }
+
+    // Whether checks 1 and 10 pass: the state is well formed, with this cache and this memory.
+    pub fn is_formed(self, cache: &[u8], memory: &[u8]) -> bool
+        ensures { λ r. ⌜ r ≡ wellFormed (queuesOf self) (hierarchyOf self (now (cache .entry)) (now (memory .entry))) ⌝ }
+    {
+        self.state_refusal(cache, memory) == 0
     }
 
     // The same state with another register. (A field that is an enum is not stored to: the state is made anew, here alone.)

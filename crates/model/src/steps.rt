@@ -50,8 +50,9 @@ impl State {
         }
     }
 
-    // Any call of a run on a well-formed state: checks 1 and 10 are not made.
-    pub(crate) fn step_formed(self, call: Call, cache: &mut [u8], memory: &mut [u8]) -> Step
+    // Any call of a run on a state that is known to be well formed: checks 1 and 10 are not made. Of all public routines this one alone
+    // asks something of its caller: to have tested the state once (`is_formed`), since when every call has kept it well formed.
+    pub fn step_formed(self, call: Call, cache: &mut [u8], memory: &mut [u8]) -> Step
         requires { ⌜ Formed self (now cache) (now memory) ⌝ }
         ensures { λ r. ⌜ Does (callOf call) (worldOf self (now (cache .entry)) (now (memory .entry))) r (now (cache .exit)) (now (memory .exit)) ⌝ }
     {
