@@ -19,7 +19,7 @@ use Rattle.rules.specs.Runs.{stateChecks}
 use Rattle.queue_checks.specs.Good.{queuesGood, queuesWith}
 use Rattle.access.specs.AccessChecks.{sized}
 use Rattle.records.specs.Records.{tabled, usedTags}
-use Rattle.model.proofs.Leaves.{used-line}
+use Rattle.records.proofs.Answers.{used-line}
 use Rattle.model.specs.State.{queuesOf, hierarchyOf}
 use Rattle.model.specs.declared.State.{State}
 

@@ -1,8 +1,8 @@
--- What the functions of `records` and `line_bytes` answer where the figures leave room: where a line stands, a line used, a table and
--- a memory flushed, as the rules have it.
+-- What the functions of `records` and `line_bytes` answer where the figures leave room: where a line stands, a table and a memory
+-- flushed, as the rules have it.
 use Prim.Native.Nat.{ℕ, _+_, _*_, _%_, _<_, _≤_}
 use mathlib.Core.Path.{_≡_, refl, _∙_, ap, ap₂}
-use mathlib.Core.Bool.{Bool, true, false, cond, _&&_}
+use mathlib.Core.Bool.{Bool, true, cond, _&&_}
 use mathlib.Core.List.{List}
 use native.Mathlib.Omega.{arith}
 use lib.Dec.{ltb}
@@ -11,10 +11,10 @@ use borrow.Author.Tests.{ltb-true}
 use Rattle.lists.specs.Counted.{firstFrom, stepsFrom}
 use Rattle.lists.proofs.Counting.{first-high}
 use Rattle.rules.specs.declared.Tag.{Tag}
-use Rattle.rules.specs.Shape.{Hierarchy, holding, slots, setOf, firstSlot, tagAt}
-use Rattle.rules.specs.Lines.{holdsLine, slotOf, present, useSlot, useLine, writeBackSlot, victim}
+use Rattle.rules.specs.Shape.{Hierarchy, holding, slots, firstSlot, tagAt}
+use Rattle.rules.specs.Lines.{holdsLine, slotOf, present, writeBackSlot, victim}
 use Rattle.rules.proofs.LineFacts.{Fits, Good, dirty-valid}
-use Rattle.records.specs.Records.{hasRoom, inTable, inSet, tabled, usedTags, victimIn, flushedTags}
+use Rattle.records.specs.Records.{hasRoom, inTable, inSet, victimIn, flushedTags}
 use Rattle.records.proofs.Places.{room-bounds, in-set}
 use Rattle.records.proofs.Answers.{at-first, set-in-use, set-in-table, found-first, found-low, found-slot, found-present, victim-inside, victim-known}
 use Rattle.records.proofs.RecordLoops.{flushed-tags}
@@ -81,21 +81,6 @@ present-slot b l f v h p = ltb-true v (f + b .figures .ways) (h .here ∙ p)
 -- a slot of the set, named to a function of the table
 pub slot-in-set : (b : Hierarchy) (f v : ℕ) → f + b .figures .ways ≤ slots b → slots b ≤ 256 → f ≤ v → v < f + b .figures .ways → inSet f (b .figures .ways) v ≡ true
 slot-in-set b f v within room low high = in-set f (b .figures .ways) v (omega arith) low high
-
--- ---- use
-
--- the use of a line changes the records only, as the code has it
-pub used-line :
-    (l : ℕ) (b : Hierarchy) → useLine l b ≡ holding b (usedTags (b .figures) l (b .tags)) (b .cache) (b .memory)
-unfolding usedTags useLine present slotOf useSlot
-used-line l b = go (present b l)
-  where
-    go :
-        (t : Bool)
-        → cond t (useSlot (setOf b l) (slotOf b l) b) b
-        ≡ holding b (cond t (useSlot (setOf b l) (slotOf b l) (tabled (b .figures) (b .tags))) (tabled (b .figures) (b .tags)) .tags) (b .cache) (b .memory)
-    go true = refl
-    go false = refl
 
 -- ---- flush
 

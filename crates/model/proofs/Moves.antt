@@ -29,7 +29,8 @@ use Rattle.line_checks.specs.Refusal.{hierarchy}
 use Rattle.records.specs.Records.{inSet, tabled, usedTags, installedIn, flushedTags}
 use Rattle.line_bytes.specs.Writes.{flushedMemory, lineWritten, lineFilled, storePut}
 use Rattle.line_bytes.proofs.Writing.{written-inside, written-length, fill-copies, put-inside}
-use Rattle.model.proofs.Leaves.{Located, Chosen, present-slot, slot-in-set, used-line, flushed-all}
+use Rattle.records.proofs.Answers.{used-line}
+use Rattle.model.proofs.Leaves.{Located, Chosen, present-slot, slot-in-set, flushed-all}
 use Rattle.model.proofs.Facts.{Filling}
 use Rattle.model.specs.State.{bytesFrom, queuesOf, hierarchyOf, worldOf, outcomeOf, idleRequest}
 use Rattle.model.specs.Shows.{partIn, shownPart}
@@ -48,21 +49,6 @@ each-used g size cache memory (l ∷ ls) tags =
     ap (useEach ls) (used-line (lineOf (l .address)) (hierarchy g size tags cache memory))
     ∙ each-used g size cache memory ls (usedTags g (lineOf (l .address)) tags)
     ∙ ap (λ (b : Hierarchy). hierarchy g size (useEach ls b .tags) cache memory) (sym (used-line (lineOf (l .address)) (tabled g tags)))
-
--- the lines of the answered loads, one load further: it uses its line, or it is not answered
-module _ (g : Figures) (k : ℕ) (l : LoadEntry) (ls : List LoadEntry) (tags : List Tag) where
-  pub answered-step :
-      answeredBy k l ≡ true
-      → useEach (filter (answeredBy k) (l ∷ ls)) (tabled g tags) .tags
-      ≡ useEach (filter (answeredBy k) ls) (tabled g (usedTags g (lineOf (l .address)) tags)) .tags
-  unfolding filter useEach
-  answered-step t = rw t (ap (λ (b : Hierarchy). useEach (filter (answeredBy k) ls) b .tags) (used-line (lineOf (l .address)) (tabled g tags)))
-
-  pub other-step :
-      answeredBy k l ≡ false
-      → useEach (filter (answeredBy k) (l ∷ ls)) (tabled g tags) .tags ≡ useEach (filter (answeredBy k) ls) (tabled g tags) .tags
-  unfolding filter
-  other-step t = rw t
 
 -- ---- idle
 

@@ -1,9 +1,8 @@
 // Checks 1 and 10 of a state: the lines first, with the figures and the lent lengths, then the queues and the register. And what calls
-// share: whether a line is present, a refusal, and the state with another register.
+// share: a refusal, and the state with another register.
 ghost use mathlib.Core.Path.{_≡_};
 ghost use mathlib.Core.Bool.{_&&_};
 ghost use Prim.Native.Nat.{_*_};
-ghost use Rattle.rules.specs.Lines.{present};
 ghost use Rattle.rules.specs.Calls.{guarded};
 ghost use Rattle.rules.specs.WellFormed.{requestAbsent, requestInside, requestWanted, wellFormed};
 ghost use Rattle.rules.specs.Runs.{stateChecks};
@@ -18,18 +17,6 @@ use rules::NOT_WELL_FORMED;
 use rules::Request;
 
 impl State {
-    // The line is present.
-    pub(crate) fn is_present(self, line: u32) -> bool
-        requires { ⌜ Shaped self (self .figures .sets * self .figures .ways * 16) ⌝ }
-        ensures { λ r. ⌜ r ≡ present (tabled (self .figures) (self .tags)) line ⌝ }
-    {
-        let tags = self.tags;
-        let figures = self.figures;
-        let ways = figures.ways as usize;
-        let first = records::first_slot(figures, line);
-        records::find(tags, first, ways, line) < first + ways
-    }
-
     // A requested line is absent, lies in memory, and is wanted.
     fn is_request_good(self) -> bool
         requires { ⌜ Shaped self (self .figures .sets * self .figures .ways * 16) ⌝ }
@@ -39,7 +26,9 @@ impl State {
         match request {
             Request::Free => true,
             Request::Line(line) => {
-                if self.is_present(line) {
+                let tags = self.tags;
+                let figures = self.figures;
+                if records::is_present(tags, figures, line) {
                     return false;
                 }
                 if self.size as u64 <= (LINE_BYTES as u64) * (line as u64) {

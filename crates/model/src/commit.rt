@@ -1,46 +1,14 @@
 // Commit.
 ghost use mathlib.Core.Path.{_≡_};
 ghost use mathlib.Core.List.{List};
-ghost use mathlib.Core.Bool.{true};
 ghost use Prim.Native.Nat.{ℕ, _*_};
-ghost use Rattle.lists.specs.Padded.{filter};
-ghost use Rattle.rules.specs.Calls.{answeredBy, useEach, commitRule};
+ghost use Rattle.rules.specs.Calls.{commitRule};
 ghost use Rattle.rules.specs.Calls as rules;
-ghost use Rattle.records.specs.Records.{hasRoom, tabled};
 ghost use Rattle.model.specs.State.{queuesOf, hierarchyOf, outcomeOf, Shaped, Does, worldOf, Formed};
 use crate::Answer;
 use crate::State;
 use crate::Step;
 use rules::BAD_COMMIT;
-use rules::Figures;
-use rules::LINE_BYTES;
-use rules::LOAD_PLACES;
-use rules::LoadEntry;
-use rules::TAG_RECORDS;
-use rules::Tag;
-
-// The lines of the answered loads numbered k or less are used, in number order.
-fn use_all_answered(
-    tags: [Tag; TAG_RECORDS],
-    figures: Figures,
-    loads: [LoadEntry; LOAD_PLACES],
-    k: u32,
-) -> [Tag; TAG_RECORDS]
-    requires { ⌜ hasRoom figures ≡ true ⌝ }
-    ensures { λ r. ⌜ r ≡ useEach (filter (answeredBy k) loads) (tabled figures tags) .tags ⌝ }
-{
-    let mut out = tags;
-    let mut j: usize = 0;
-    while j < LOAD_PLACES {
-        let l = loads[j];
-        j += 1;
-        if load_queue::is_answered_by(l, k) {
-            let used = records::use_line(out, figures, l.address / LINE_BYTES);
-            out = used;
-        }
-    }
-    out
-}
 
 impl State {
     // "Commit k sets h to k. Answered loads numbered k or less leave the list in number order, each using its line if the line is present."
@@ -51,7 +19,7 @@ impl State {
         let loads = self.loads;
         let tags = self.tags;
         let figures = self.figures;
-        let used = use_all_answered(tags, figures, loads, k);
+        let used = records::use_answered(tags, figures, loads, k);
         let rest = load_queue::remove_answered(loads, k);
         self.committed = k;
         self.loads = rest;

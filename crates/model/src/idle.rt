@@ -4,11 +4,10 @@ ghost use mathlib.Core.Bool.{true};
 ghost use mathlib.Core.List.{List, []};
 ghost use Prim.Native.Nat.{ℕ, _*_};
 ghost use lib.ListN.{length};
-ghost use Rattle.lists.specs.Padded.{first};
-ghost use Rattle.rules.specs.Shape.{noLoad, lineOf};
+ghost use Rattle.rules.specs.Shape.{lineOf};
 ghost use Rattle.rules.specs.Lines.{present, writeStore};
 ghost use Rattle.line_checks.specs.Refusal.{hierarchy};
-ghost use Rattle.rules.specs.Calls.{wantsLine, oldestStore, storeReady, drainOldest, requestLine};
+ghost use Rattle.rules.specs.Calls.{oldestStore, storeReady, drainOldest, requestLine};
 ghost use Rattle.rules.specs.Calls as rules;
 ghost use Rattle.records.specs.Records.{tabled};
 ghost use Rattle.model.specs.State.{queuesOf, hierarchyOf, outcomeOf, Shaped, Writable, InOneLine, idleRequest, Does, worldOf, Formed};
@@ -18,9 +17,6 @@ use crate::Step;
 use rules::Figures;
 use rules::LINE_BYTES;
 use rules::LINE_LENGTH;
-use rules::LOAD_PLACES;
-use rules::LoadEntry;
-use rules::NO_LOAD;
 use rules::Request;
 use rules::StoreEntry;
 use rules::TAG_RECORDS;
@@ -77,43 +73,6 @@ impl State {
         }
     }
 
-    // A committed waiting load whose line is absent.
-    fn wants_line(self, l: LoadEntry) -> bool
-        requires { ⌜ Shaped self (self .figures .sets * self .figures .ways * 16) ⌝ }
-        ensures { λ r. ⌜ r ≡ wantsLine (tabled (self .figures) (self .tags)) (self .committed) l ⌝ }
-    {
-        if l.number == 0 {
-            return false;
-        }
-        if self.committed < l.number {
-            return false;
-        }
-        if l.waiting {
-            if self.is_present(l.address / LINE_BYTES) {
-                return false;
-            }
-            return true;
-        }
-        false
-    }
-
-    // The lowest such load, or a free place.
-    fn lowest_wanting(self) -> LoadEntry
-        requires { ⌜ Shaped self (self .figures .sets * self .figures .ways * 16) ⌝ }
-        ensures { λ r. ⌜ r ≡ first (wantsLine (tabled (self .figures) (self .tags)) (self .committed)) noLoad (self .loads) ⌝ }
-    {
-        let loads = self.loads;
-        let mut j: usize = 0;
-        while j < LOAD_PLACES {
-            let l = loads[j];
-            if self.wants_line(l) {
-                return l;
-            }
-            j += 1;
-        }
-        NO_LOAD
-    }
-
     // (b), (c) and (d): what follows where nothing drains. The oldest store is ready, its line is here, as told.
     fn idle_request(self, ready: bool, here: bool, s: StoreEntry) -> Step
         requires { ⌜ Shaped self (self .figures .sets * self .figures .ways * 16) × (ready ≡ storeReady (queuesOf self)) × (s ≡ oldestStore (queuesOf self)) × (here ≡ present (tabled (self .figures) (self .tags)) (lineOf (s .address))) ⌝ }
@@ -126,7 +85,10 @@ impl State {
                 next: self,
             },
             Request::Free => {
-                let l = self.lowest_wanting();
+                let tags = self.tags;
+                let figures = self.figures;
+                let loads = self.loads;
+                let l = records::lowest_wanting(tags, figures, self.committed, loads);
                 if l.number != 0 {
                     return self.request_line(l.address);
                 }
@@ -156,7 +118,9 @@ impl State {
         let loads = self.loads;
         let s = stores[0];
         let ready = queue_checks::store_ready(stores, loads, self.committed);
-        let here = self.is_present(s.address / LINE_BYTES);
+        let tags = self.tags;
+        let figures = self.figures;
+        let here = records::is_present(tags, figures, s.address / LINE_BYTES);
         if ready {
             if here {
                 return self.drain_oldest(cache, s);

@@ -1,20 +1,23 @@
 -- What the answers are where the places lie in the table: the contracts without their tests, and the calls that are made one after the other.
 use mathlib.Core.Path.{_≡_, refl, sym, ap, ap₂, _∙_}
 use mathlib.Core.Bool.{Bool, true, false, cond, not, _&&_}
-use mathlib.Core.List.{List}
+use mathlib.Core.List.{List, _∷_}
 use Prim.Native.Nat.{ℕ, _+_, _*_, _%_, _<_, _≤_}
 use native.Mathlib.Nat.{mod-eq-of-lt}
 use native.Mathlib.Omega.{arith}
 use lib.Dec.{ltb}
 use lib.ListN.{set}
 use borrow.Author.Tests.{ltb-true, ltb-false, lt-ltb}
+use Rattle.lists.specs.Padded.{filter}
 use Rattle.lists.specs.Counted.{firstFrom, eachFrom}
 use Rattle.lists.proofs.Cond.{either, cases, cond-then, and-both}
 use Rattle.lists.proofs.Counting.{first-low, first-high, greatest-in}
 use Rattle.rules.specs.declared.Figures.{Figures}
 use Rattle.rules.specs.declared.Tag.{Tag}
-use Rattle.rules.specs.Shape.{Hierarchy, tagAt, firstSlot}
+use Rattle.rules.specs.declared.LoadEntry.{LoadEntry}
+use Rattle.rules.specs.Shape.{Hierarchy, holding, lineOf, tagAt, setOf, firstSlot}
 use Rattle.rules.specs.Lines.{holdsLine, slotOf, present, agedAt, useSlot, useLine}
+use Rattle.rules.specs.Calls.{answeredBy, useEach}
 use Rattle.records.specs.Records.{hasRoom, inTable, inSet, tabled, usedTags, victimIn, installedIn}
 use Rattle.records.proofs.Places.{room-bounds, slots-room, in-table, in-set, past-set}
 
@@ -80,6 +83,45 @@ module _ (g : Figures) (l f : ℕ) (room : hasRoom g ≡ true) (first : f ≡ co
     found-used r e =
         e ∙ ap (λ (t : Bool). cond t (aging f v) tags) found-inside
         ∙ ap₂ (λ (f v : ℕ). cond (present b l) (aging f v) tags) at-first found-slot ∙ sym used
+
+-- ---- is_present
+
+module _ (g : Figures) (tags : List Tag) (l : ℕ) (r : Bool) (room : hasRoom g ≡ true) where
+  pub present-is : r ≡ present (tabled g tags) l → r ≡ (hasRoom g && present (tabled g tags) l)
+  present-is e = e ∙ rw room
+
+  pub present-known : r ≡ (hasRoom g && present (tabled g tags) l) → r ≡ present (tabled g tags) l
+  present-known e = e ∙ rw room
+
+-- ---- use_line
+
+-- the use of a line changes the records only, as the code has it
+pub used-line :
+    (l : ℕ) (b : Hierarchy) → useLine l b ≡ holding b (usedTags (b .figures) l (b .tags)) (b .cache) (b .memory)
+unfolding usedTags useLine present slotOf useSlot
+used-line l b = go (present b l)
+  where
+    go :
+        (t : Bool)
+        → cond t (useSlot (setOf b l) (slotOf b l) b) b
+        ≡ holding b (cond t (useSlot (setOf b l) (slotOf b l) (tabled (b .figures) (b .tags))) (tabled (b .figures) (b .tags)) .tags) (b .cache) (b .memory)
+    go true = refl
+    go false = refl
+
+-- the lines of the answered loads, one load further: it uses its line, or it is not answered
+module _ (g : Figures) (k : ℕ) (l : LoadEntry) (ls : List LoadEntry) (tags : List Tag) where
+  pub answered-step :
+      answeredBy k l ≡ true
+      → useEach (filter (answeredBy k) (l ∷ ls)) (tabled g tags) .tags
+      ≡ useEach (filter (answeredBy k) ls) (tabled g (usedTags g (lineOf (l .address)) tags)) .tags
+  unfolding filter useEach
+  answered-step t = rw t (ap (λ (b : Hierarchy). useEach (filter (answeredBy k) ls) b .tags) (used-line (lineOf (l .address)) (tabled g tags)))
+
+  pub other-step :
+      answeredBy k l ≡ false
+      → useEach (filter (answeredBy k) (l ∷ ls)) (tabled g tags) .tags ≡ useEach (filter (answeredBy k) ls) (tabled g tags) .tags
+  unfolding filter
+  other-step t = rw t
 
 -- ---- victim
 

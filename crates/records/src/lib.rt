@@ -7,13 +7,18 @@ ghost use mathlib.Core.Bool.{cond, not, true, _&&_};
 ghost use Prim.Native.Nat.{_+_, _*_, _%_, _<_, _≤_};
 ghost use lib.Dec.{ltb, leb};
 ghost use lib.ListN.{length, set, replicate};
-ghost use Rattle.lists.specs.Padded.{filter};
+ghost use Rattle.lists.specs.Padded.{first, filter};
 ghost use Rattle.lists.specs.Counted.{firstFrom, greatestFrom, eachFrom};
-ghost use Rattle.rules.specs.Shape.{noTag, tagAt, withDirty};
-ghost use Rattle.rules.specs.Lines.{holdsLine, agedAt, isDirty};
+ghost use Rattle.rules.specs.Shape.{noTag, noLoad, tagAt, withDirty};
+ghost use Rattle.rules.specs.Lines.{holdsLine, present, agedAt, isDirty};
+ghost use Rattle.rules.specs.Calls.{answeredBy, useEach, wantsLine};
 ghost use Rattle.rules.specs.Runs.{startTags};
-ghost use Rattle.records.specs.Records.{hasRoom, inTable, inSet, usedTags, victimIn, installedIn, flushedTags};
+ghost use Rattle.records.specs.Records.{hasRoom, inTable, inSet, tabled, usedTags, victimIn, installedIn, flushedTags};
 use rules::Figures;
+use rules::LINE_BYTES;
+use rules::LOAD_PLACES;
+use rules::LoadEntry;
+use rules::NO_LOAD;
 use rules::NO_TAG;
 use rules::TAG_RECORDS;
 use rules::Tag;
@@ -96,6 +101,18 @@ pub fn find(tags: [Tag; TAG_RECORDS], first: usize, ways: usize, line: u32) -> u
         k += 1;
     }
     k
+}
+
+// Whether the line is present: some way of its set has it.
+pub fn is_present(tags: [Tag; TAG_RECORDS], figures: Figures, line: u32) -> bool
+    ensures { λ r. ⌜ r ≡ (hasRoom figures && present (tabled figures tags) line) ⌝ }
+{
+    if !has_room(figures) {
+        return false;
+    }
+    let first = first_slot(figures, line);
+    let n = figures.ways as usize;
+    find(tags, first, n, line) < first + n
 }
 
 // ---- use
@@ -324,6 +341,76 @@ pub fn start_tags(figures: Figures) -> [Tag; TAG_RECORDS]
             age: (k % n) as u8,
         };
         k += 1;
+    }
+    out
+}
+
+// ---- loads of the load queue
+
+// A committed waiting load whose line is absent.
+fn wants_line(tags: [Tag; TAG_RECORDS], figures: Figures, h: u32, l: LoadEntry) -> bool
+    requires { ⌜ hasRoom figures ≡ true ⌝ }
+    ensures { λ r. ⌜ r ≡ wantsLine (tabled figures tags) h l ⌝ }
+{
+    if l.number == 0 {
+        return false;
+    }
+    if h < l.number {
+        return false;
+    }
+    if l.waiting {
+        if is_present(tags, figures, l.address / LINE_BYTES) {
+            return false;
+        }
+        return true;
+    }
+    false
+}
+
+// "some committed waiting load's line is absent: .. the lowest such number": that load, or a free place. h is the committed number.
+pub fn lowest_wanting(
+    tags: [Tag; TAG_RECORDS],
+    figures: Figures,
+    h: u32,
+    loads: [LoadEntry; LOAD_PLACES],
+) -> LoadEntry
+    ensures { λ r. ⌜ r ≡ cond (hasRoom figures) (first (wantsLine (tabled figures tags) h) noLoad loads) noLoad ⌝ }
+{
+    if !has_room(figures) {
+        return NO_LOAD;
+    }
+    let mut j: usize = 0;
+    while j < LOAD_PLACES {
+        let l = loads[j];
+        if wants_line(tags, figures, h, l) {
+            return l;
+        }
+        j += 1;
+    }
+    NO_LOAD
+}
+
+// "Answered loads numbered k or less leave the list in number order, each using its line if the line is present": the uses.
+pub fn use_answered(
+    tags: [Tag; TAG_RECORDS],
+    figures: Figures,
+    loads: [LoadEntry; LOAD_PLACES],
+    k: u32,
+) -> [Tag; TAG_RECORDS]
+    ensures { λ r. ⌜ r ≡ cond (hasRoom figures) (useEach (filter (answeredBy k) loads) (tabled figures tags) .tags) tags ⌝ }
+{
+    let mut out = tags;
+    if !has_room(figures) {
+        return out;
+    }
+    let mut j: usize = 0;
+    while j < LOAD_PLACES {
+        let l = loads[j];
+        j += 1;
+        if load_queue::is_answered_by(l, k) {
+            let used = use_line(out, figures, l.address / LINE_BYTES);
+            out = used;
+        }
     }
     out
 }
