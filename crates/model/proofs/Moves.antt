@@ -8,7 +8,7 @@ use lib.Dec.{ltb}
 use lib.ListN.{length, set, take, drop, replicate, length-take, length-drop, length-replicate}
 use lib.Seq.{set-set, ext-getD, getD-take, getD-drop}
 use borrow.Author.Tests.{lt-ltb, le-ltb, eq-eqb, ne-eqb, not-true}
-use Rattle.lists.specs.Padded.{any, first, filter, shifted}
+use Rattle.lists.specs.Padded.{any, first, shifted}
 use Rattle.lists.specs.Bytes.{overlaid}
 use Rattle.lists.specs.Counted.{eachFrom}
 use Rattle.lists.proofs.Cond.{cases, cond-then, and-left, and-both, wrong, or-left, or-right}
@@ -21,7 +21,7 @@ use Rattle.rules.specs.declared.StoreEntry.{StoreEntry}
 use Rattle.rules.specs.declared.Request.the-variants.{Free, Line}
 use Rattle.rules.specs.Shape.{Queues, Hierarchy, holding, noStore, noLoad, isFreeLoad, lineOf, slots, firstSlot, tagAt, withDirty}
 use Rattle.rules.specs.Lines.{slotOf, present, placeOf, agedAt, useSlot, putStore, writeStore, writtenBackAt, writeBackSlot, copiedAt, install, victim, fillLine, writeBackAll}
-use Rattle.rules.specs.Calls.{Outcome, wantsLine, oldestStore, storeReady, requestLine, drainOldest, unchanged, idled, idleRule, replyRule, showRule, shown, emptyPart, answeredBy, useEach}
+use Rattle.rules.specs.Calls.{Outcome, wantsLine, oldestStore, storeReady, requestLine, drainOldest, unchanged, idled, idleRule, replyRule, showRule, shown, emptyPart, useEach}
 use Rattle.rules.specs.Calls as rules
 use Rattle.rules.specs.Runs.{outcome, answer}
 use Rattle.rules.proofs.Checks.{outcome-by}

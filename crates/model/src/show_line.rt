@@ -71,9 +71,9 @@ impl State {
         requires { ⌜ Formed self (now cache) (now memory) ⌝ }
         ensures { λ r. ⌜ Does (rules.show address) (worldOf self (now (cache .entry)) (now (memory .entry))) r (now (cache .entry)) (now (memory .entry)) ⌝ }
     {
-        let p = self.part_formed(cache, memory, address);
+        let part = self.part_formed(cache, memory, address);
         Step {
-            answer: Answer::Shown(p.start, p.length),
+            answer: Answer::Shown(part.start, part.length),
             next: self,
         }
     }

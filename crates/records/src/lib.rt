@@ -405,10 +405,10 @@ pub fn use_answered(
     }
     let mut j: usize = 0;
     while j < LOAD_PLACES {
-        let l = loads[j];
+        let load = loads[j];
         j += 1;
-        if load_queue::is_answered_by(l, k) {
-            let used = use_line(out, figures, l.address / LINE_BYTES);
+        if load_queue::is_answered_by(load, k) {
+            let used = use_line(out, figures, load.address / LINE_BYTES);
             out = used;
         }
     }

@@ -34,11 +34,11 @@ returns c =
 loop-holds : tie.Need-loop-holds Inv-loop μ-loop
 loop-holds c = (search needs, test-passed (c .before .has-room .ensures) (c .if1 .left), refl)
 
-mul-l : tie.Need-mul-l Inv-loop μ-loop
-mul-l c = search needs
+mul-load : tie.Need-mul-load Inv-loop μ-loop
+mul-load c = search needs
 
-array-copy-out-l : tie.Need-array-copy-out-l Inv-loop μ-loop
-array-copy-out-l c = search needs
+array-copy-out-load : tie.Need-array-copy-out-load Inv-loop μ-loop
+array-copy-out-load c = search needs
 
 add-j : tie.Need-add-j Inv-loop μ-loop
 add-j c = search needs
@@ -81,8 +81,8 @@ use-answered-spec =
     has-room-requires
     returns
     loop-holds
-    mul-l
-    array-copy-out-l
+    mul-load
+    array-copy-out-load
     add-j
     is-answered-by-requires
     use-line-requires
