@@ -12,7 +12,7 @@ use Rattle.lists.specs.Padded.{every}
 use Rattle.lists.proofs.Cond.{cases, either, and-left, and-right, and-both}
 use Rattle.lists.proofs.Loops.{every-end}
 use Rattle.rules.specs.declared.Tag.{Tag}
-use Rattle.rules.specs.Shape.{noTag, waysAllowed}
+use Rattle.rules.specs.Shape.{noTag}
 use Rattle.rules.specs.declared.StoreEntry.{StoreEntry}
 use Rattle.rules.specs.declared.LoadEntry.{LoadEntry}
 use Rattle.rules.specs.declared.Request.{Request}
@@ -149,24 +149,6 @@ zeros-opened (t ∷ l) e =
     ap₂ (λ (t : Tag) (l : List Tag). t ∷ l) (ap openedTag (zero-tells t (and-left (zeroImage t) _ e))) (zeros-opened l (and-right (zeroImage t) _ e))
 
 -- ---- the records that need a look
-
--- figures that ask for more than there are, or for ways that are not allowed
-pub figured-sets : (sets ways : ℕ) → 64 < sets → 256 ≡ figured sets ways
-unfolding figured
-figured-sets sets ways h = rw (lt-leb sets 64 h)
-
-pub figured-ways : (sets ways : ℕ) → (ways ≡ 1 → ⊥) → (ways ≡ 2 → ⊥) → (ways ≡ 3 → ⊥) → (ways ≡ 4 → ⊥) → 256 ≡ figured sets ways
-unfolding figured
-figured-ways sets ways n1 n2 n3 n4 = rw no (cases (leb sets 64) (λ e. rw e) (λ e. rw e))
-  where
-    no : waysAllowed ways ≡ false
-    no = cases (leb 1 ways)
-        (λ e. cases (leb ways 4) (λ f. let w : ⊥ = omega (arith, leb-true 1 ways e, leb-true ways 4 f) in absurd w) (λ f. rw (e, f)))
-        (λ e. rw e)
-
-pub figured-is : (sets ways k r : ℕ) → sets ≤ 64 → ways ≡ k → 1 ≤ k → k ≤ 4 → r ≡ sets * k → r ≡ figured sets ways
-unfolding figured
-figured-is sets ways k r h w low high e = rw (le-leb sets 64 h, w, le-leb 1 k low, le-leb k 4 high) e
 
 -- a number of records, 256 at most
 pub bounded-small : (n : ℕ) → n ≤ 256 → n ≡ bounded n

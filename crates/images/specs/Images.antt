@@ -5,7 +5,7 @@ use mathlib.Core.List.{List, map, _++_}
 use lib.Dec.{leb, eqb}
 use lib.ListN.{length, take, drop, replicate}
 use Rattle.lists.specs.Padded.{every}
-use Rattle.rules.specs.Shape.{noTag, waysAllowed}
+use Rattle.rules.specs.Shape.{noTag}
 use Rattle.rules.specs.declared.Figures.{Figures}
 use Rattle.rules.specs.declared.Tag.{Tag}
 use Rattle.rules.specs.declared.StoreEntry.{StoreEntry}
@@ -92,13 +92,13 @@ tagStands t = isFlag (t .valid) && (isFlag (t .dirty) && eqb (t .unused) 0)
 unfoldable pub zeroImage : TagImage → Bool
 zeroImage t = eqb (t .valid) 0 && (eqb (t .dirty) 0 && (eqb (t .line) 0 && (eqb (t .age) 0 && eqb (t .unused) 0)))
 
--- as many records as the figures ask for, 256 at most
-unfoldable pub figured : ℕ → ℕ → ℕ
-figured sets ways = cond (leb sets 64 && waysAllowed ways) (sets * ways) 256
-
 -- n, or all records where n is more
 abbrev pub bounded : ℕ → ℕ
 bounded n = cond (leb n 256) n 256
+
+-- as many records as the figures ask for, or all
+unfoldable pub figured : ℕ → ℕ → ℕ
+figured sets ways = bounded (sets * ways)
 
 -- the first n records, if all others are zero, else all
 unfoldable pub usedOf : ℕ → List TagImage → ℕ

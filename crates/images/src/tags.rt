@@ -7,7 +7,6 @@ ghost use lib.ListN.{length, take, drop};
 ghost use Rattle.lists.specs.Padded.{every};
 ghost use Rattle.images.specs.Images.{flagOf, openedTag, imagedTag, tagStands, zeroImage, figured, bounded, openedTags};
 use crate::TagImage;
-use rules::MAX_SETS;
 use rules::NO_TAG;
 use rules::TAG_RECORDS;
 use rules::Tag;
@@ -51,21 +50,15 @@ pub(crate) fn zero_from(tags: [TagImage; TAG_RECORDS], n: usize) -> bool
     zero
 }
 
-// As many records as the figures ask for, 256 at most.
+// As many records as the figures ask for, or all.
 pub(crate) fn figured(sets: u32, ways: u32) -> usize
     ensures { λ r. ⌜ (r ≡ figured sets ways) × (r ≤ 256) ⌝ }
 {
-    if MAX_SETS < sets {
-        return TAG_RECORDS;
+    let n = (sets as u64) * (ways as u64);
+    if n <= 256 {
+        return n as usize;
     }
-    let n = sets as usize;
-    match ways {
-        1 => n,
-        2 => 2 * n,
-        3 => 3 * n,
-        4 => 4 * n,
-        _ => TAG_RECORDS,
-    }
+    TAG_RECORDS
 }
 
 // n, or all records where n is more.
