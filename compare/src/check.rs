@@ -1,7 +1,7 @@
 //! The checks before a call: figures and lengths (1), well-formedness (10),
 //! with one function for each clause, and the input checks (2, 3, 4, 5).
 
-use crate::types::{LoadEntry, Request, State, StoreEntry, Tag, LINE, RECORDS};
+use crate::types::{Figures, LoadEntry, Request, State, StoreEntry, Tag, LINE, RECORDS};
 
 /// Refusal 1 or 10, in that order, or none.
 pub fn refusal(state: &State, cache: &[u8], memory: &[u8]) -> Option<u32> {
@@ -14,25 +14,25 @@ pub fn refusal(state: &State, cache: &[u8], memory: &[u8]) -> Option<u32> {
     None
 }
 
-/// Sets, ways and memory length are allowed ones.
-pub fn figures_allowed(sets: u32, ways: u32, memory_length: usize) -> bool {
-    sets.is_power_of_two()
-        && sets <= 64
-        && (1..=4).contains(&ways)
+/// The figures and the memory length are allowed ones.
+pub fn figures_allowed(figures: Figures, memory_length: usize) -> bool {
+    figures.sets.is_power_of_two()
+        && figures.sets <= 64
+        && (1..=4).contains(&figures.ways)
         && (16..=65536).contains(&memory_length)
         && memory_length.is_multiple_of(LINE)
 }
 
 /// Cache bytes that go with the figures.
-pub fn cache_length(sets: u32, ways: u32) -> usize {
-    (sets as usize).saturating_mul(ways as usize).saturating_mul(LINE)
+pub fn cache_length(figures: Figures) -> usize {
+    (figures.sets as usize).saturating_mul(figures.ways as usize).saturating_mul(LINE)
 }
 
 /// Check 1: the state's figures are allowed and the lent lengths agree.
 pub fn figures_agree(state: &State, cache: &[u8], memory: &[u8]) -> bool {
-    figures_allowed(state.sets, state.ways, memory.len())
+    figures_allowed(state.figures, memory.len())
         && state.memory_length as usize == memory.len()
-        && cache_length(state.sets, state.ways) == cache.len()
+        && cache_length(state.figures) == cache.len()
 }
 
 /// Refusal 2, 3 or 4 of an access, in that order, or none.
@@ -98,8 +98,8 @@ pub fn well_formed(state: &State, cache: &[u8], memory: &[u8]) -> bool {
 
 /// The clauses on the records in use, set by set.
 fn records_good(state: &State, cache: &[u8], memory: &[u8]) -> bool {
-    let all = (1u32 << state.ways.min(31)) - 1;
-    let lines = cache.chunks_exact(LINE * state.ways.max(1) as usize);
+    let all = (1u32 << state.figures.ways.min(31)) - 1;
+    let lines = cache.chunks_exact(LINE * state.figures.ways.max(1) as usize);
     by_set(state).zip(lines).zip(0u32..).all(|((set, bytes), index)| {
         let mut ages = 0;
         let mut records = set.iter().zip(bytes.chunks_exact(LINE)).enumerate();
@@ -125,20 +125,20 @@ fn line_good(
 ) -> bool {
     let first = (tag.line as usize).saturating_mul(LINE);
     let behind = memory.get(first..first.saturating_add(LINE));
-    tag.line & state.sets.wrapping_sub(1) == set
+    tag.line & state.figures.sets.wrapping_sub(1) == set
         && !before.iter().any(|other| other.valid && other.line == tag.line)
         && behind.is_some_and(|found| tag.dirty || found == bytes)
 }
 
 /// Tag records in use.
 fn used(state: &State) -> &[Tag] {
-    let records = (state.sets as usize).saturating_mul(state.ways as usize);
+    let records = (state.figures.sets as usize).saturating_mul(state.figures.ways as usize);
     &state.tags[..records.min(RECORDS)]
 }
 
 /// The used tag records set by set.
 fn by_set(state: &State) -> impl Iterator<Item = &[Tag]> {
-    used(state).chunks_exact(state.ways.max(1) as usize)
+    used(state).chunks_exact(state.figures.ways.max(1) as usize)
 }
 
 /// The held stores: the places before the first free one.
@@ -155,9 +155,9 @@ pub fn listed(state: &State) -> &[LoadEntry] {
 
 /// The record that holds a line, looked for in the line's own set.
 pub fn find(state: &State, line: u32) -> Option<usize> {
-    let set = line & state.sets.wrapping_sub(1); // sets is a power of two
-    let base = (set as usize).saturating_mul(state.ways as usize);
-    let ways = state.tags.iter().skip(base).take(state.ways as usize);
+    let set = line & state.figures.sets.wrapping_sub(1); // sets is a power of two
+    let base = (set as usize).saturating_mul(state.figures.ways as usize);
+    let ways = state.tags.iter().skip(base).take(state.figures.ways as usize);
     ways.enumerate().find(|(_, tag)| tag.valid && tag.line == line).map(|(way, _)| base + way)
 }
 
@@ -195,7 +195,7 @@ pub fn free_places_zero(state: &State, _: &[u8], _: &[u8]) -> bool {
 
 /// "each set has ages 0 to ways - 1 once each".
 pub fn ages_complete(state: &State, _: &[u8], _: &[u8]) -> bool {
-    let all = (1u32 << state.ways.min(31)) - 1;
+    let all = (1u32 << state.figures.ways.min(31)) - 1;
     by_set(state).all(|set| {
         let seen = set.iter().fold(0, |seen, tag| seen | 1u32 << tag.age.min(31));
         seen == all
@@ -210,7 +210,7 @@ pub fn valid_lines_in_memory(state: &State, _: &[u8], _: &[u8]) -> bool {
 
 /// "is in its own set".
 pub fn valid_lines_in_own_set(state: &State, _: &[u8], _: &[u8]) -> bool {
-    let mask = state.sets.wrapping_sub(1); // sets is a power of two
+    let mask = state.figures.sets.wrapping_sub(1); // sets is a power of two
     by_set(state)
         .zip(0u32..)
         .all(|(set, index)| set.iter().all(|tag| !tag.valid || tag.line & mask == index))

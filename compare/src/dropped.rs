@@ -1,26 +1,11 @@
-//! Demand 3 over a whole run: every dropped stretch is found, struck and the
-//! rest played again from the same beginning; answers and end must be the same.
+//! Demand 3 over a whole run: a dropped stretch of any kind is struck and the rest
+//! played again from the same beginning; answers and end must be the same.
 
 use std::fmt::Debug;
 
 use crate::random::Run;
+use crate::stretch::{Given, Stretch};
 use crate::types::{Answer, Call, State, Step};
-
-/// A dropped stretch for n: the calls from `first` to `abort`, that one included.
-#[derive(Clone, Copy, Debug, PartialEq, Eq)]
-pub struct Stretch {
-    pub first: usize,
-    pub abort: usize,
-    pub n: u32,
-}
-
-/// What one call gave: its answer and, for show line, the bytes shown.
-#[derive(Clone, Debug, PartialEq, Eq)]
-pub struct Given {
-    pub call: Call,
-    pub answer: Answer,
-    pub bytes: Vec<u8>,
-}
 
 /// A run played to its end.
 pub struct Played {
@@ -51,60 +36,9 @@ pub fn play(run: &Run, step: Step, calls: impl Iterator<Item = Call>) -> Played 
     Played { given, state, cache, memory }
 }
 
-/// The next operation number before each call, told by calls and answers alone.
-fn next_numbers(first: u64, given: &[Given]) -> Vec<u64> {
-    let mut next = first;
-    let mut before = Vec::with_capacity(given.len());
-    for one in given {
-        before.push(next);
-        match one.call {
-            Call::Load { .. } | Call::Store { .. } if one.answer.accepted() => next += 1,
-            Call::Abort { number } if one.answer.accepted() => next = number as u64,
-            _ => {}
-        }
-    }
-    before
-}
-
-/// Every dropped stretch of a run: for each accepted abort naming n, each place
-/// before it, back to an accepted abort that names less, where the next number
-/// is n. The abort alone is one of them when the next number is n already.
-pub fn stretches(first: u64, given: &[Given]) -> Vec<Stretch> {
-    let next = next_numbers(first, given);
-    let aborted = |at: usize| match given[at].call {
-        Call::Abort { number } if given[at].answer.accepted() => Some(number),
-        _ => None,
-    };
-    let mut found = Vec::new();
-    for abort in 0..given.len() {
-        let Some(n) = aborted(abort) else {
-            continue;
-        };
-        for first in (0..=abort).rev() {
-            if aborted(first).is_some_and(|named| named < n) {
-                break;
-            }
-            if next[first] == n as u64 {
-                found.push(Stretch { first, abort, n });
-            }
-        }
-    }
-    found
-}
-
-/// Is a call of a dropped stretch for n struck from it?
-pub fn struck(call: Call, n: u32) -> bool {
-    match call {
-        Call::Load { .. } | Call::Store { .. } => true,
-        Call::Retry { number } | Call::Abort { number } => number >= n,
-        _ => false,
-    }
-}
-
 /// The places of the run that remain when a stretch is struck.
 pub fn remaining(given: &[Given], stretch: Stretch) -> Vec<usize> {
-    let inside = |at: usize| (stretch.first..=stretch.abort).contains(&at);
-    (0..given.len()).filter(|at| !(inside(*at) && struck(given[*at].call, stretch.n))).collect()
+    (0..given.len()).filter(|at| !stretch.strikes(*at, given[*at].call)).collect()
 }
 
 /// Strikes a stretch, plays the rest from the same beginning and compares each
@@ -131,8 +65,7 @@ fn same_end(whole: &Played, again: &Played) -> Result<(), String> {
     let (w, a) = (&whole.state, &again.state);
     same("memory", &whole.memory, &again.memory)?;
     same("cache", &whole.cache, &again.cache)?;
-    same("sets", &[w.sets], &[a.sets])?;
-    same("ways", &[w.ways], &[a.ways])?;
+    same("figures", &[w.figures], &[a.figures])?;
     same("memory length", &[w.memory_length], &[a.memory_length])?;
     same("tags", &w.tags, &a.tags)?;
     same("stores", &w.stores, &a.stores)?;

@@ -4,11 +4,12 @@ use std::collections::BTreeSet;
 
 use crate::check;
 use crate::counts::{self, Counts};
-use crate::dropped::{self, given, Given, Played, Stretch};
+use crate::dropped::{self, given, Played};
 use crate::flat::Flat;
 use crate::plain;
 use crate::random::Run;
 use crate::rules::{self, Source};
+use crate::stretch::{self, Given, Stretch};
 use crate::types::{Answer, Call, Snapshot, State, Step, Tag};
 
 /// The checks to make.
@@ -99,8 +100,8 @@ impl Examiner<'_> {
 
     /// The start before the run.
     fn start(&mut self) -> Result<(), Failure> {
-        let Run { sets, ways, ref found, .. } = *self.run;
-        let call = Call::Start { sets, ways };
+        let Run { figures, ref found, .. } = *self.run;
+        let call = Call::Start { figures };
         let (zero, old_cache) = (State::zero(), self.run.found_cache());
         let before = Snapshot { state: &zero, cache: &old_cache, memory: found };
         let (mut state, mut cache, mut memory) = (zero.clone(), old_cache.clone(), found.clone());
@@ -153,7 +154,7 @@ impl Examiner<'_> {
             return Ok(());
         }
         let first = u64::from(self.run.numbered) + 1;
-        for stretch in dropped::stretches(first, &whole.given) {
+        for stretch in stretch::stretches(first, &whole.given) {
             dropped::compare(self.run, self.step, whole, stretch)
                 .map_err(|(place, what)| self.failure(place, what))?;
             self.count_stretch(&whole.given, stretch);
@@ -222,13 +223,13 @@ impl Examiner<'_> {
 
     /// Counts what a dropped stretch has in it.
     fn count_stretch(&mut self, all: &[Given], stretch: Stretch) {
-        let inside = &all[stretch.first..=stretch.abort];
+        let inside = &all[stretch.first..=stretch.end];
         let load =
             inside.iter().any(|one| matches!(one.call, Call::Load { .. }) && one.answer.accepted());
         let reply = inside.iter().any(|one| matches!(one.answer, Answer::Filled(_)));
-        let evicts = self.evicting.range(stretch.first..=stretch.abort).next().is_some();
-        self.counts.met("dropped stretch", true);
-        self.counts.met("dropped stretch, load and reply inside", load && reply);
-        self.counts.met("dropped stretch, load and eviction inside", load && evicts);
+        let evicts = self.evicting.range(stretch.first..=stretch.end).next().is_some();
+        self.counts.met(stretch.kind.name, true);
+        self.counts.met(stretch.kind.with_reply, load && reply);
+        self.counts.met(stretch.kind.with_eviction, load && evicts);
     }
 }

@@ -1,15 +1,14 @@
-//! The named ways of making the model wrong, each in one place. The right model
-//! is `Fault::None` and pays nothing for the others.
+//! The named ways of being wrong. Each is a machine of its own in `faulty`; a row
+//! here names it, and the compiler asks for the machine.
 
-use crate::check::{self, Clause};
-use crate::model::Unit;
+use crate::faulty;
+use crate::model::{Machine, Right};
 use crate::types::Step;
 
 macro_rules! faults {
     ($($(#[$doc:meta])* $name:ident),* $(,)?) => {
         /// A way of being wrong.
         #[derive(Clone, Copy, Debug, PartialEq, Eq)]
-        #[repr(u8)]
         pub enum Fault {
             /// The right model.
             None,
@@ -20,19 +19,11 @@ macro_rules! faults {
         pub const ALL: &[Fault] = &[$(Fault::$name),*];
 
         impl Fault {
-            /// The fault of a number; the right model for all others.
-            pub const fn of(number: u8) -> Fault {
-                $(if number == Fault::$name as u8 {
-                    return Fault::$name;
-                })*
-                Fault::None
-            }
-
             /// The machine that has this fault.
             pub fn step(self) -> Step {
                 match self {
-                    Fault::None => Unit::<{ Fault::None as u8 }>::step,
-                    $(Fault::$name => Unit::<{ Fault::$name as u8 }>::step),*
+                    Fault::None => Right::step,
+                    $(Fault::$name => faulty::$name::step),*
                 }
             }
         }
@@ -124,24 +115,4 @@ faults! {
     StartKeepsCache,
     /// Show line gives the set's first way.
     ShowFirstWay,
-}
-
-impl Fault {
-    /// The clause of well-formedness that the faulty machine does not know, for
-    /// a fault that would else stop at the first state it spoils.
-    pub const fn unknown_clause(self) -> Option<Clause> {
-        match self {
-            Fault::LoadAlwaysWaits => Some(check::waiting_loads_lack_a_byte),
-            Fault::RequestForUncommitted => Some(check::request_wanted),
-            Fault::DroppedNumberOnly => Some(check::free_places_zero),
-            Fault::CommitKeepsLoads | Fault::RetryKeepsCommitted => {
-                Some(check::committed_loads_wait)
-            }
-            Fault::CopiesOnlyAtFlush
-            | Fault::FlushMissesWriteBack
-            | Fault::FillKeepsByte
-            | Fault::DrainLeavesClean => Some(check::clean_lines_equal_memory),
-            _ => None,
-        }
-    }
 }

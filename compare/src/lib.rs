@@ -4,15 +4,16 @@
 //! - `types`: the data that all parts share.
 //! - `check`: the checks before a call, one function for each clause.
 //! - `model`: the machine, quick and in place.
-//! - `fault`: the named ways of making the machine wrong.
+//! - `fault`: the named ways of being wrong; `faulty` has a machine for each.
 //! - `plain`: the same state read into lists and maps, or found ill formed.
 //! - `rules`: each call's rule once more, slow and plain.
 //! - `flat`: demand 2, over whole runs.
+//! - `stretch`: the kinds of dropped stretches.
 //! - `dropped`: demand 3, over whole runs.
 //! - `script`: the script player.
 //! - `program`: a player under test, and where two outputs differ.
 //! - `stored`: the stored examples.
-//! - `random`: random runs.
+//! - `random`: random runs; `maker` has the table of their calls and turns.
 //! - `examine`: one run under all the checks.
 //! - `counts`: what runs met, and what they must meet.
 //! - `long`: long random scripts.
@@ -32,8 +33,10 @@ pub mod counts;
 pub mod dropped;
 pub mod examine;
 pub mod fault;
+mod faulty;
 pub mod flat;
 pub mod long;
+mod maker;
 pub mod met;
 pub mod model;
 pub mod plain;
@@ -42,5 +45,6 @@ pub mod random;
 pub mod rules;
 pub mod script;
 pub mod stored;
+pub mod stretch;
 pub mod struck;
 pub mod types;

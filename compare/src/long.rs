@@ -2,33 +2,30 @@
 //! ones, refused G's and numbers with leading zeros.
 
 use crate::random::{script_run, Mix, Rng, Run};
-use crate::script::{command, line_of};
+use crate::script::{begin_line, command, line_of};
+use crate::types::Setup;
 
-/// Mostly accepted calls, with much work for the cache.
-const MIX: Mix = [24, 20, 14, 8, 4, 1, 8, 1];
-
-/// Figures of a run: mostly few sets, ways and lines, now and then any, or all
-/// of the largest.
-pub fn figures(rng: &mut Rng) -> (u32, u32, u32) {
+/// What a run begins with: mostly few sets, ways and lines, now and then any, or
+/// all of the largest.
+pub fn setup(rng: &mut Rng) -> Setup {
     if rng.one_in(12) {
-        return (64, 4, 65536);
+        return Setup::new(64, 4, 65536);
     }
     let any = rng.one_in(5);
     let sets = if any { 1 << rng.below(7) } else { rng.pick(&[1, 1, 2]) };
     let ways = if any { 1 + rng.below(4) as u32 } else { rng.pick(&[1, 1, 2, 2, 3]) };
     let lines = 1 + sets * ways / 2 + rng.below(u64::from(sets * ways) + 3) as u32;
-    (sets, ways, 16 * lines)
+    Setup::new(sets, ways, 16 * lines)
 }
 
 /// The lines of a run, its G first.
 pub fn lines_of(run: &Run) -> impl Iterator<Item = String> + '_ {
-    let start = format!("G {} {} {}", run.sets, run.ways, run.found.len());
-    std::iter::once(start).chain(run.calls.iter().copied().filter_map(line_of))
+    std::iter::once(begin_line(run.setup())).chain(run.calls.iter().copied().filter_map(line_of))
 }
 
 /// A G that is refused by one of its figures.
 fn refused_start(rng: &mut Rng) -> Vec<u8> {
-    let mut figures = [1, 1, 32];
+    let mut numbers = [1, 1, 32];
     let (place, bad) = rng.pick(&[
         (0, 0),
         (0, 3),
@@ -42,8 +39,8 @@ fn refused_start(rng: &mut Rng) -> Vec<u8> {
         (2, 65552),
         (2, u32::MAX - 15),
     ]);
-    figures[place] = bad;
-    format!("G {} {} {}", figures[0], figures[1], figures[2]).into_bytes()
+    numbers[place] = bad;
+    begin_line(Setup::new(numbers[0], numbers[1], numbers[2])).into_bytes()
 }
 
 /// A byte of a damaged line: no LF.
@@ -125,8 +122,8 @@ pub fn script(seed: u64, lines: usize) -> Vec<u8> {
     let mut left = lines;
     while left > 0 {
         let length = (1 + rng.below(12_000) as usize).min(left);
-        let figures = figures(&mut rng);
-        let run = script_run(&mut rng, figures, length, &MIX);
+        let setup = setup(&mut rng);
+        let run = script_run(&mut rng, setup, length, Mix::Long);
         add_run(&mut script, &mut rng, &run);
         left -= length;
     }

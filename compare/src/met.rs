@@ -1,7 +1,7 @@
 //! What scripts met, told by the model line by line, and what they must meet.
 
 use crate::counts::{refused, Counts};
-use crate::model::Right;
+use crate::model::{Machine, Right};
 use crate::script::{command, Command, Playing};
 use crate::types::{Answer, Call};
 

@@ -1,34 +1,43 @@
-//! The machine: ten calls in place on a lent state, cache and memory. Each call
-//! does its own checks in the paper's order and changes nothing when it refuses.
+//! The machine: ten calls in place on a lent state, cache and memory, and the steps
+//! that they are made of. Each call does its own checks in the paper's order and
+//! changes nothing when it refuses.
 //!
-//! `Unit<FAULT>` is wrong in the one way that `FAULT` names; `Right` is right.
+//! `Right` is this machine and nothing else. Every call asks for its steps by
+//! `Self`, so that another machine can have one of them otherwise.
+
+use std::ops::Range;
 
 use crate::check;
-use crate::fault::Fault;
 use crate::types::{
-    Answer, Call, LoadEntry, Part, Request, State, StoreEntry, Tag, LINE, LOADS, STORES,
+    Answer, Call, Figures, LoadEntry, Part, Request, State, StoreEntry, Tag, LINE, LOADS, STORES,
 };
 
-/// The load/store unit with a fault, none for the right one.
-pub struct Unit<const FAULT: u8>;
+/// The right machine.
+pub struct Right;
 
-/// The right unit.
-pub type Right = Unit<{ Fault::None as u8 }>;
+impl Machine for Right {}
 
 /// The line number of an address.
-fn line_of(address: u32) -> u32 {
+pub fn line_of(address: u32) -> u32 {
     address / LINE as u32
 }
 
 /// The bytes of a record in the cache.
-fn record_bytes(record: usize) -> std::ops::Range<usize> {
+pub fn record_bytes(record: usize) -> Range<usize> {
     record * LINE..record * LINE + LINE
 }
 
 /// The bytes of a line in memory.
-fn line_bytes(line: u32) -> std::ops::Range<usize> {
+pub fn line_bytes(line: u32) -> Range<usize> {
     let first = line as usize * LINE;
     first..first + LINE
+}
+
+/// The records of a line's set.
+fn set_of(state: &State, line: u32) -> Range<usize> {
+    let ways = state.figures.ways as usize;
+    let base = (line % state.figures.sets) as usize * ways;
+    base..base + ways
 }
 
 /// The aligned word of the cache that holds an address of a record's line.
@@ -44,19 +53,25 @@ fn remove_load(state: &mut State, place: usize) {
 }
 
 /// Takes the oldest store out of the store queue.
-fn remove_oldest_store(state: &mut State) {
+pub fn remove_oldest_store(state: &mut State) {
     state.stores.copy_within(1.., 0);
     state.stores[STORES - 1] = StoreEntry::default();
 }
 
 /// Writes a store's bytes, lowest first, to where its address stands.
-fn write_value(bytes: &mut [u8], at: usize, store: StoreEntry) {
+pub fn write_value(bytes: &mut [u8], at: usize, store: StoreEntry) {
     let width = store.width as usize;
     bytes[at..at + width].copy_from_slice(&store.value.to_le_bytes()[..width]);
 }
 
+/// Writes a record's bytes back to memory.
+pub fn write_back(state: &State, cache: &[u8], memory: &mut [u8], record: usize) {
+    let line = state.tags[record].line;
+    memory[line_bytes(line)].copy_from_slice(&cache[record_bytes(record)]);
+}
+
 /// The oldest held store, if it is committed.
-fn committed_store(state: &State) -> Option<StoreEntry> {
+pub fn committed_store(state: &State) -> Option<StoreEntry> {
     let oldest = state.stores[0];
     let committed = oldest.number != 0 && oldest.number <= state.committed;
     committed.then_some(oldest)
@@ -67,53 +82,89 @@ fn ready_store(state: &State) -> Option<StoreEntry> {
     committed_store(state).filter(|store| !check::waits_before(state, store.number))
 }
 
-/// The steps inside the calls.
-impl<const FAULT: u8> Unit<FAULT> {
-    const fn has(fault: Fault) -> bool {
-        FAULT == fault as u8
-    }
+/// Does a load leave the queue at a commit of k?
+pub fn leaves(load: &LoadEntry, k: u32) -> bool {
+    load.answered && load.number <= k
+}
 
-    /// Checks 1 and 10. A faulty machine may not know one of the clauses.
+/// Sets the register to a line.
+fn request(state: &mut State, line: u32) -> Answer {
+    state.request = Request::Line(line);
+    Answer::Requested(line * LINE as u32)
+}
+
+/// A machine. What stands here is right.
+pub trait Machine {
+    // The checks.
+
+    /// Checks 1 and 10.
     fn refusal(state: &State, cache: &[u8], memory: &[u8]) -> Option<u32> {
-        let no = check::refusal(state, cache, memory)?;
-        let Some(unknown) = Fault::of(FAULT).unknown_clause() else {
-            return Some(no);
-        };
-        let broken = |clause: check::Clause| !clause(state, cache, memory);
-        let all_broken = check::CLAUSES.iter().filter(|(_, clause)| broken(*clause));
-        if no == 10 && broken(unknown) && all_broken.count() == 1 {
-            return None;
-        }
-        Some(no)
+        check::refusal(state, cache, memory)
     }
 
     /// Input checks of an access: 2, 3, 4.
     fn access(state: &State, address: u32, width: u32) -> Option<u32> {
-        if Self::has(Fault::AddressWraps) && address.wrapping_add(width) <= state.memory_length {
-            return check::access(u32::MAX, address, width).filter(|no| *no != 4);
-        }
         check::access(state.memory_length, address, width)
+    }
+
+    /// The checks of a load.
+    fn load_refusal(state: &State, address: u32, width: u32) -> Option<u32> {
+        Self::access(state, address, width)
+            .or_else(|| (state.last == u32::MAX).then_some(13))
+            .or_else(|| (state.loads[LOADS - 1].number != 0).then_some(12))
+    }
+
+    /// The checks of a store.
+    fn store_refusal(state: &State, address: u32, width: u32, value: u32) -> Option<u32> {
+        Self::access(state, address, width)
+            .or_else(|| check::value(width, value))
+            .or_else(|| (state.last == u32::MAX).then_some(13))
+            .or_else(|| (state.stores[STORES - 1].number != 0).then_some(11))
+    }
+
+    /// The check of a commit.
+    fn commit_refusal(state: &State, k: u32) -> Option<u32> {
+        (k < state.committed || k > state.last).then_some(15)
+    }
+
+    /// The check of an abort.
+    fn abort_refusal(state: &State, n: u32) -> Option<u32> {
+        let above = u64::from(n) > u64::from(state.last) + 1;
+        (n <= state.committed || above).then_some(16)
+    }
+
+    /// The check of a flush.
+    fn flush_refusal(state: &State) -> Option<u32> {
+        committed_store(state).map(|_| 18)
+    }
+
+    // The steps of loads and inquiries.
+
+    /// Does a held store give bytes to load `number`?
+    fn forwards(store: &StoreEntry, number: u32, address: u32) -> bool {
+        store.number < number && store.address / 4 == address / 4
     }
 
     /// The bytes of an access that held stores give load `number` (bypass): the
     /// aligned word that they make, and the bits still missing in it.
     fn forward(state: &State, number: u32, address: u32, width: u32) -> (u32, u32) {
-        let wanted = check::word_mask(address, width);
-        let (mut word, mut missing) = (0, wanted);
-        let held = check::held(state);
-        for place in (0..held.len()).rev() {
-            let oldest = Self::has(Fault::ForwardFromOldest);
-            let store = held[if oldest { held.len() - 1 - place } else { place }];
-            let younger = store.number >= number && !Self::has(Fault::BypassFromYounger);
-            if younger || store.address / 4 != address / 4 {
-                continue;
+        let youngest_first = check::held(state).iter().rev();
+        Self::overlay(youngest_first, number, address, width)
+    }
+
+    /// The same of stores in the order in which they are asked.
+    fn overlay<'a>(
+        stores: impl Iterator<Item = &'a StoreEntry>,
+        number: u32,
+        address: u32,
+        width: u32,
+    ) -> (u32, u32) {
+        let (mut word, mut missing) = (0, check::word_mask(address, width));
+        for store in stores {
+            if Self::forwards(store, number, address) {
+                word |= (store.value << (8 * (store.address % 4))) & missing;
+                missing &= !check::word_mask(store.address, store.width);
             }
-            let covered = check::word_mask(store.address, store.width);
-            if Self::has(Fault::ForwardWholeOnly) && wanted & !covered != 0 {
-                continue;
-            }
-            word |= (store.value << (8 * (store.address % 4))) & missing;
-            missing &= !covered;
         }
         (word, missing)
     }
@@ -130,13 +181,38 @@ impl<const FAULT: u8> Unit<FAULT> {
         Some((word & wanted) >> (8 * (address % 4)))
     }
 
+    /// Lists a load with what it found. It takes last + 1.
+    fn list_load(state: &mut State, address: u32, width: u32, found: Option<u32>) -> Answer {
+        let number = state.last + 1;
+        let place = check::listed(state).len();
+        state.loads[place] = LoadEntry { number, address, width, answered: found.is_some() };
+        state.last = number;
+        match found {
+            Some(value) => Answer::Value { number, value },
+            None => Answer::Waits(number),
+        }
+    }
+
+    /// A waiting load is answered: it uses its line and leaves if it is committed.
+    fn answer_load(state: &mut State, place: usize) {
+        let load = state.loads[place];
+        if load.number <= state.committed {
+            Self::use_line(state, line_of(load.address));
+            remove_load(state, place);
+        } else {
+            state.loads[place].answered = true;
+        }
+    }
+
+    // The steps of the lines.
+
     /// Use: age 0 for the record, 1 more for each smaller age of its set.
     fn use_record(state: &mut State, record: usize) {
-        let ways = state.ways as usize;
+        let ways = state.figures.ways as usize;
         let base = record / ways * ways;
         let old = state.tags[record].age;
         for tag in &mut state.tags[base..base + ways] {
-            if tag.age < old || Self::has(Fault::UseAgesAll) {
+            if tag.age < old {
                 tag.age += 1;
             }
         }
@@ -150,86 +226,82 @@ impl<const FAULT: u8> Unit<FAULT> {
         }
     }
 
-    /// Writes a record's bytes back to memory.
-    fn write_back(state: &State, cache: &[u8], memory: &mut [u8], record: usize) {
-        let line = state.tags[record].line;
-        memory[line_bytes(line)].copy_from_slice(&cache[record_bytes(record)]);
+    /// The lowest invalid record of a set.
+    fn invalid_record(state: &State, mut set: Range<usize>) -> Option<usize> {
+        set.find(|record| !state.tags[*record].valid)
+    }
+
+    /// The record of greatest age of a set.
+    fn oldest_record(state: &State, mut set: Range<usize>) -> Option<usize> {
+        set.find(|record| state.tags[*record].age == state.figures.ways - 1)
     }
 
     /// The record that a fill of a line takes: the lowest invalid way of the
     /// set, else the way of greatest age.
     fn victim(state: &State, line: u32) -> usize {
-        let ways = state.ways as usize;
-        let base = (line % state.sets) as usize * ways;
-        let mut invalid = (base..base + ways).filter(|record| !state.tags[*record].valid);
-        let found = if Self::has(Fault::VictimHighestInvalid) {
-            invalid.next_back()
-        } else {
-            invalid.next()
-        };
-        let wanted = if Self::has(Fault::VictimLeastAge) { 0 } else { state.ways - 1 };
-        let oldest = (base..base + ways).find(|record| state.tags[*record].age == wanted);
-        if Self::has(Fault::VictimPassesInvalid) {
-            return oldest.unwrap_or(base);
+        let set = set_of(state, line);
+        let base = set.start;
+        let invalid = Self::invalid_record(state, set.clone());
+        invalid.or_else(|| Self::oldest_record(state, set)).unwrap_or(base)
+    }
+
+    /// Eviction: a dirty record is written back.
+    fn evict(state: &State, cache: &[u8], memory: &mut [u8], record: usize) {
+        if state.tags[record].dirty {
+            write_back(state, cache, memory, record);
         }
-        found.or(oldest).unwrap_or(base)
     }
 
     /// Fill: copies the line's bytes out of memory into the record's bytes.
     fn fill(into: &mut [u8], from: &[u8]) {
-        let length = if Self::has(Fault::FillKeepsByte) { LINE - 1 } else { LINE };
-        if !Self::has(Fault::CopiesOnlyAtFlush) {
-            into[..length].copy_from_slice(&from[..length]);
-        }
+        into.copy_from_slice(from);
     }
 
-    /// Case (a) of idle, once it applies.
-    fn drain(state: &mut State, cache: &mut [u8], store: StoreEntry, record: usize) -> Answer {
-        if Self::has(Fault::CopiesOnlyAtFlush) {
-            return Answer::Drained(store.number);
+    /// Writes every dirty line back and counts them.
+    fn write_dirty(state: &mut State, cache: &[u8], memory: &mut [u8]) -> u32 {
+        let mut written = 0;
+        for record in 0..cache.len() / LINE {
+            if state.tags[record].dirty {
+                write_back(state, cache, memory, record);
+                state.tags[record].dirty = false;
+                written += 1;
+            }
         }
+        written
+    }
+
+    // The steps of idle.
+
+    /// Case (a), once it applies: the oldest store is written to its record.
+    fn drain(state: &mut State, cache: &mut [u8], store: StoreEntry, record: usize) -> Answer {
         let at = record * LINE + store.address as usize % LINE;
         write_value(cache, at, store);
-        state.tags[record].dirty = !Self::has(Fault::DrainLeavesClean);
-        if !Self::has(Fault::DrainWithoutUse) {
-            Self::use_record(state, record);
-        }
+        state.tags[record].dirty = true;
+        Self::use_record(state, record);
         remove_oldest_store(state);
         Answer::Drained(store.number)
     }
 
-    /// Sets the register to a line.
-    fn request(state: &mut State, line: u32) -> Answer {
-        state.request = Request::Line(line);
-        Answer::Requested(line * LINE as u32)
+    /// Is a load committed, does it wait, and is its line absent?
+    fn lacks_line(state: &State, load: &LoadEntry) -> bool {
+        load.number <= state.committed
+            && !load.answered
+            && check::find(state, line_of(load.address)).is_none()
     }
 
-    /// The line of the lowest committed waiting load whose line is absent.
+    /// Case (b): the line of the lowest committed waiting load whose line is absent.
     fn missing_line(state: &State) -> Option<u32> {
-        let wants = |load: &&LoadEntry| {
-            let committed = load.number <= state.committed;
-            (committed || Self::has(Fault::RequestForUncommitted))
-                && !load.answered
-                && check::find(state, line_of(load.address)).is_none()
-        };
-        let loads = check::listed(state).iter();
-        let load = if Self::has(Fault::RequestHighest) {
-            loads.rev().find(wants)
-        } else {
-            loads.into_iter().find(wants)
-        };
-        load.map(|load| line_of(load.address))
+        let mut loads = check::listed(state).iter();
+        loads.find(|load| Self::lacks_line(state, load)).map(|load| line_of(load.address))
     }
+
+    // The steps of commit and abort.
 
     /// The uses of a commit: answered loads numbered k or less, in number order.
     fn use_leaving(state: &mut State, k: u32) {
-        if Self::has(Fault::CommitWithoutUse) {
-            return;
-        }
         for place in 0..LOADS {
-            let reversed = Self::has(Fault::CommitUsesReversed);
-            let load = state.loads[if reversed { LOADS - 1 - place } else { place }];
-            if load.answered && load.number <= k {
+            let load = state.loads[place];
+            if leaves(&load, k) {
                 Self::use_line(state, line_of(load.address));
             }
         }
@@ -240,7 +312,7 @@ impl<const FAULT: u8> Unit<FAULT> {
         let mut kept = 0;
         for place in 0..LOADS {
             let load = state.loads[place];
-            if !(load.answered && load.number <= k) {
+            if !leaves(&load, k) {
                 state.loads[kept] = load;
                 kept += 1;
             }
@@ -251,95 +323,46 @@ impl<const FAULT: u8> Unit<FAULT> {
     /// Clears the entries numbered n or more (squash).
     fn remove_from(state: &mut State, n: u32) {
         for store in state.stores.iter_mut().filter(|s| s.number >= n) {
-            let rest = *store;
             *store = StoreEntry::default();
-            if Self::has(Fault::DroppedNumberOnly) {
-                *store = StoreEntry { number: 0, ..rest };
-            }
         }
         for load in state.loads.iter_mut().filter(|l| l.number >= n) {
-            let rest = *load;
             *load = LoadEntry::default();
-            if Self::has(Fault::DroppedNumberOnly) {
-                *load = LoadEntry { number: 0, ..rest };
-            }
         }
     }
 
-    /// The flush of the sham that moves bytes at a flush only.
-    fn sham_flush(state: &mut State, cache: &mut [u8], memory: &mut [u8]) -> Answer {
-        if let Some(no) = Self::refusal(state, cache, memory) {
-            return Answer::Refused(no);
-        }
-        let mut written = 0;
-        while let Some(store) = committed_store(state) {
-            write_value(memory, store.address as usize, store);
-            remove_oldest_store(state);
-            written += 1;
-        }
-        for record in (0..cache.len() / LINE).filter(|record| state.tags[*record].valid) {
-            let line = state.tags[record].line;
-            cache[record_bytes(record)].copy_from_slice(&memory[line_bytes(line)]);
-        }
-        Answer::Flushed(written)
-    }
-}
+    // The ten calls.
 
-/// The ten calls.
-impl<const FAULT: u8> Unit<FAULT> {
     /// Start. Refused, it hands back the all-zero state and leaves the cache.
-    pub fn start(sets: u32, ways: u32, cache: &mut [u8], memory: &[u8]) -> (State, Answer) {
+    fn start(figures: Figures, cache: &mut [u8], memory: &[u8]) -> (State, Answer) {
         let mut state = State::zero();
-        let allowed = check::figures_allowed(sets, ways, memory.len());
-        if !allowed || cache.len() != check::cache_length(sets, ways) {
+        let allowed = check::figures_allowed(figures, memory.len());
+        if !allowed || cache.len() != check::cache_length(figures) {
             return (state, Answer::Refused(1));
         }
-        state.sets = sets;
-        state.ways = ways;
+        state.figures = figures;
         state.memory_length = memory.len() as u32;
-        for set in state.tags[..cache.len() / LINE].chunks_exact_mut(ways as usize) {
+        for set in state.tags[..cache.len() / LINE].chunks_exact_mut(figures.ways as usize) {
             for (tag, age) in set.iter_mut().zip(0..) {
                 tag.age = age;
             }
         }
-        if !Self::has(Fault::StartKeepsCache) {
-            cache.fill(0);
-        }
+        cache.fill(0);
         (state, Answer::Ready)
     }
 
     /// Load: takes last + 1 and joins the load queue.
-    pub fn load(
-        state: &mut State,
-        cache: &[u8],
-        memory: &[u8],
-        address: u32,
-        width: u32,
-    ) -> Answer {
+    fn load(state: &mut State, cache: &[u8], memory: &[u8], address: u32, width: u32) -> Answer {
         let refused = Self::refusal(state, cache, memory)
-            .or_else(|| Self::access(state, address, width))
-            .or_else(|| (state.last == u32::MAX).then_some(13))
-            .or_else(|| (state.loads[LOADS - 1].number != 0).then_some(12));
+            .or_else(|| Self::load_refusal(state, address, width));
         if let Some(no) = refused {
             return Answer::Refused(no);
         }
-        let number = state.last + 1;
-        let found = Self::gather(state, cache, number, address, width)
-            .filter(|_| !Self::has(Fault::LoadAlwaysWaits));
-        let place = check::listed(state).len();
-        state.loads[place] = LoadEntry { number, address, width, answered: found.is_some() };
-        state.last = number;
-        if Self::has(Fault::LoadChangesAges) && found.is_some() {
-            Self::use_line(state, line_of(address));
-        }
-        match found {
-            Some(value) => Answer::Value { number, value },
-            None => Answer::Waits(number),
-        }
+        let found = Self::gather(state, cache, state.last + 1, address, width);
+        Self::list_load(state, address, width, found)
     }
 
     /// Store: takes last + 1 and joins the store queue, uncommitted.
-    pub fn store(
+    fn store(
         state: &mut State,
         cache: &[u8],
         memory: &[u8],
@@ -347,13 +370,8 @@ impl<const FAULT: u8> Unit<FAULT> {
         width: u32,
         value: u32,
     ) -> Answer {
-        let full = state.stores[STORES - 1].number != 0;
         let refused = Self::refusal(state, cache, memory)
-            .or_else(|| (full && Self::has(Fault::FullBeforeInput)).then_some(11))
-            .or_else(|| Self::access(state, address, width))
-            .or_else(|| check::value(width, value))
-            .or_else(|| (state.last == u32::MAX).then_some(13))
-            .or_else(|| full.then_some(11));
+            .or_else(|| Self::store_refusal(state, address, width, value));
         if let Some(no) = refused {
             return Answer::Refused(no);
         }
@@ -365,7 +383,7 @@ impl<const FAULT: u8> Unit<FAULT> {
     }
 
     /// Retry (the inquiry of the paper): tries a waiting load again.
-    pub fn retry(state: &mut State, cache: &[u8], memory: &[u8], number: u32) -> Answer {
+    fn retry(state: &mut State, cache: &[u8], memory: &[u8], number: u32) -> Answer {
         if let Some(no) = Self::refusal(state, cache, memory) {
             return Answer::Refused(no);
         }
@@ -374,64 +392,44 @@ impl<const FAULT: u8> Unit<FAULT> {
             return Answer::Refused(14);
         };
         let LoadEntry { address, width, .. } = state.loads[place];
-        let bound = if Self::has(Fault::RetryFromYounger) { u32::MAX } else { number };
-        let Some(value) = Self::gather(state, cache, bound, address, width) else {
+        let Some(value) = Self::gather(state, cache, number, address, width) else {
             return Answer::Waits(number);
         };
-        let committed = number <= state.committed;
-        if committed || Self::has(Fault::RetryUsesUncommitted) {
-            Self::use_line(state, line_of(address));
-        }
-        if committed && !Self::has(Fault::RetryKeepsCommitted) {
-            remove_load(state, place);
-        } else {
-            state.loads[place].answered = true;
-        }
+        Self::answer_load(state, place);
         Answer::Value { number, value }
     }
 
     /// Commit k.
-    pub fn commit(state: &mut State, cache: &[u8], memory: &[u8], k: u32) -> Answer {
-        if let Some(no) = Self::refusal(state, cache, memory) {
+    fn commit(state: &mut State, cache: &[u8], memory: &[u8], k: u32) -> Answer {
+        let refused =
+            Self::refusal(state, cache, memory).or_else(|| Self::commit_refusal(state, k));
+        if let Some(no) = refused {
             return Answer::Refused(no);
-        }
-        let below = k < state.committed && !Self::has(Fault::CommitFallsBack);
-        if below || k > state.last {
-            return Answer::Refused(15);
         }
         state.committed = k;
         Self::use_leaving(state, k);
-        if !Self::has(Fault::CommitKeepsLoads) {
-            Self::remove_leaving(state, k);
-        }
+        Self::remove_leaving(state, k);
         Answer::Committed(k)
     }
 
     /// Abort n (squash): drops every store and load numbered n or more.
-    pub fn abort(state: &mut State, cache: &[u8], memory: &[u8], n: u32) -> Answer {
-        if let Some(no) = Self::refusal(state, cache, memory) {
+    fn abort(state: &mut State, cache: &[u8], memory: &[u8], n: u32) -> Answer {
+        let refused = Self::refusal(state, cache, memory).or_else(|| Self::abort_refusal(state, n));
+        if let Some(no) = refused {
             return Answer::Refused(no);
         }
-        if n <= state.committed || u64::from(n) > u64::from(state.last) + 1 {
-            return Answer::Refused(16);
-        }
-        if !Self::has(Fault::DroppedKept) {
-            Self::remove_from(state, n);
-        }
-        if !Self::has(Fault::AbortKeepsLast) {
-            state.last = n - 1;
-        }
+        Self::remove_from(state, n);
+        state.last = n - 1;
         Answer::Kept(n - 1)
     }
 
     /// Idle: the first of its four cases that applies.
-    pub fn idle(state: &mut State, cache: &mut [u8], memory: &[u8]) -> Answer {
+    fn idle(state: &mut State, cache: &mut [u8], memory: &[u8]) -> Answer {
         if let Some(no) = Self::refusal(state, cache, memory) {
             return Answer::Refused(no);
         }
         let ready = ready_store(state);
-        let drains = if Self::has(Fault::DrainPassesLoad) { committed_store(state) } else { ready };
-        if let Some(store) = drains {
+        if let Some(store) = ready {
             if let Some(record) = check::find(state, line_of(store.address)) {
                 return Self::drain(state, cache, store, record);
             }
@@ -440,104 +438,63 @@ impl<const FAULT: u8> Unit<FAULT> {
             return Answer::Idle;
         }
         if let Some(line) = Self::missing_line(state) {
-            return Self::request(state, line);
+            return request(state, line);
         }
         match ready {
-            Some(store) => Self::request(state, line_of(store.address)),
+            Some(store) => request(state, line_of(store.address)),
             None => Answer::Idle,
         }
     }
 
     /// Reply: fills the requested line, with write back of a dirty victim.
-    pub fn reply(state: &mut State, cache: &mut [u8], memory: &mut [u8]) -> Answer {
+    fn reply(state: &mut State, cache: &mut [u8], memory: &mut [u8]) -> Answer {
         if let Some(no) = Self::refusal(state, cache, memory) {
             return Answer::Refused(no);
         }
         let Request::Line(line) = state.request else {
             return Answer::Refused(17);
         };
-        if Self::has(Fault::ReplyRefuses) {
-            return Answer::Refused(17);
-        }
         let record = Self::victim(state, line);
-        let age = state.tags[record].age;
-        if state.tags[record].dirty && !Self::has(Fault::EvictWithoutWriteBack) {
-            Self::write_back(state, cache, memory, record);
-        }
+        Self::evict(state, cache, memory, record);
         Self::fill(&mut cache[record_bytes(record)], &memory[line_bytes(line)]);
-        state.tags[record] = Tag { valid: true, dirty: false, line, age };
-        if !Self::has(Fault::FillWithoutUse) {
-            Self::use_record(state, record);
-        }
-        if !Self::has(Fault::ReplyKeepsRequest) {
-            state.request = Request::Free;
-        }
+        state.tags[record] = Tag { valid: true, dirty: false, line, ..state.tags[record] };
+        Self::use_record(state, record);
+        state.request = Request::Free;
         Answer::Filled(line * LINE as u32)
     }
 
     /// Flush: writes every dirty line back and counts them.
-    pub fn flush(state: &mut State, cache: &[u8], memory: &mut [u8]) -> Answer {
-        if let Some(no) = Self::refusal(state, cache, memory) {
-            return Answer::Refused(no);
+    fn flush(state: &mut State, cache: &[u8], memory: &mut [u8]) -> Answer {
+        let refused = Self::refusal(state, cache, memory).or_else(|| Self::flush_refusal(state));
+        match refused {
+            Some(no) => Answer::Refused(no),
+            None => Answer::Flushed(Self::write_dirty(state, cache, memory)),
         }
-        let any_held = state.stores[0].number != 0;
-        let too_strict = Self::has(Fault::FlushRefusedForUncommitted) && any_held;
-        if committed_store(state).is_some() || too_strict {
-            return Answer::Refused(18);
-        }
-        let mut written = 0;
-        for record in 0..cache.len() / LINE {
-            if !state.tags[record].dirty {
-                continue;
-            }
-            if written == 0 || !Self::has(Fault::FlushMissesWriteBack) {
-                Self::write_back(state, cache, memory, record);
-            }
-            state.tags[record].dirty = Self::has(Fault::FlushLeavesDirty);
-            written += 1;
-        }
-        if Self::has(Fault::InventsFlushCount) {
-            return Answer::Flushed(1);
-        }
-        Answer::Flushed(written)
     }
 
     /// Show line: where the present line's bytes stand in the lent cache.
-    pub fn show_line(state: &State, cache: &[u8], memory: &[u8], address: u32) -> Part {
+    fn show_line(state: &State, cache: &[u8], memory: &[u8], address: u32) -> Part {
         let outside = address >= state.memory_length;
         if outside || Self::refusal(state, cache, memory).is_some() {
             return Part::default();
         }
-        let Some(record) = check::find(state, line_of(address)) else {
-            return Part::default();
-        };
-        let shown = if Self::has(Fault::ShowFirstWay) {
-            record / state.ways as usize * state.ways as usize
-        } else {
-            record
-        };
-        Part { place: shown * LINE, length: LINE }
+        match check::find(state, line_of(address)) {
+            Some(record) => Part { place: record * LINE, length: LINE },
+            None => Part::default(),
+        }
     }
 
     /// The bytes that show line gives: that part of the lent cache.
-    pub fn shown_bytes<'a>(
-        state: &State,
-        cache: &'a [u8],
-        memory: &[u8],
-        address: u32,
-    ) -> &'a [u8] {
+    fn shown_bytes<'a>(state: &State, cache: &'a [u8], memory: &[u8], address: u32) -> &'a [u8] {
         let part = Self::show_line(state, cache, memory, address);
         &cache[part.place..part.place + part.length]
     }
-}
 
-/// One call out of the ten.
-impl<const FAULT: u8> Unit<FAULT> {
-    /// The call as it is.
-    fn dispatch(state: &mut State, cache: &mut [u8], memory: &mut [u8], call: Call) -> Answer {
+    /// One call out of the ten.
+    fn step(state: &mut State, cache: &mut [u8], memory: &mut [u8], call: Call) -> Answer {
         match call {
-            Call::Start { sets, ways } => {
-                let (next, answer) = Self::start(sets, ways, cache, memory);
+            Call::Start { figures } => {
+                let (next, answer) = Self::start(figures, cache, memory);
                 *state = next;
                 answer
             }
@@ -550,31 +507,10 @@ impl<const FAULT: u8> Unit<FAULT> {
             Call::Abort { number } => Self::abort(state, cache, memory, number),
             Call::Idle => Self::idle(state, cache, memory),
             Call::Reply => Self::reply(state, cache, memory),
-            Call::Flush if Self::has(Fault::CopiesOnlyAtFlush) => {
-                Self::sham_flush(state, cache, memory)
-            }
             Call::Flush => Self::flush(state, cache, memory),
             Call::ShowLine { address } => {
                 Answer::Shown(Self::show_line(state, cache, memory, address))
             }
         }
-    }
-
-    /// One call, with the shams that touch every call after the start.
-    pub fn step(state: &mut State, cache: &mut [u8], memory: &mut [u8], call: Call) -> Answer {
-        let starting = matches!(call, Call::Start { .. });
-        if Self::has(Fault::RefusesAll) && !starting {
-            return Answer::Refused(10);
-        }
-        if Self::has(Fault::ChangesNothing) && !starting {
-            let (mut state, mut cache, mut memory) =
-                (state.clone(), cache.to_vec(), memory.to_vec());
-            return Self::dispatch(&mut state, &mut cache, &mut memory, call);
-        }
-        let answer = Self::dispatch(state, cache, memory, call);
-        if Self::has(Fault::AnswersAlike) && !starting {
-            return Answer::Idle;
-        }
-        answer
     }
 }

@@ -3,7 +3,7 @@
 
 use std::collections::{BTreeMap, BTreeSet};
 
-use crate::types::{LoadEntry, Request, Snapshot, State, StoreEntry, Tag};
+use crate::types::{Figures, LoadEntry, Request, Snapshot, State, StoreEntry, Tag};
 
 /// A line that is present.
 #[derive(Clone, Debug, PartialEq, Eq)]
@@ -18,8 +18,7 @@ pub struct Present {
 /// when state, cache and memory are.
 #[derive(Clone, Debug, PartialEq, Eq)]
 pub struct View {
-    pub sets: usize,
-    pub ways: usize,
+    pub figures: Figures,
     pub last: u64,
     pub committed: u64,
     pub request: Option<u32>,
@@ -35,12 +34,13 @@ pub struct View {
 /// Check 1: figures allowed and lengths in agreement.
 pub fn figures_agree(now: Snapshot) -> bool {
     let state = now.state;
-    start_allowed(state.sets, state.ways, now.cache.len(), now.memory.len())
+    start_allowed(state.figures, now.cache.len(), now.memory.len())
         && state.memory_length as u64 == now.memory.len() as u64
 }
 
 /// The figures and lengths with which a start is accepted.
-pub fn start_allowed(sets: u32, ways: u32, cache: usize, memory: usize) -> bool {
+pub fn start_allowed(figures: Figures, cache: usize, memory: usize) -> bool {
+    let Figures { sets, ways } = figures;
     [1, 2, 4, 8, 16, 32, 64].contains(&sets)
         && [1, 2, 3, 4].contains(&ways)
         && (16..=65536).contains(&memory)
@@ -76,8 +76,7 @@ pub fn input_refusal(length: u64, address: u32, width: u32, value: Option<u32>) 
 pub fn read(now: Snapshot) -> Result<View, &'static str> {
     let state = now.state;
     let mut view = View {
-        sets: state.sets as usize,
-        ways: state.ways as usize,
+        figures: state.figures,
         last: state.last as u64,
         committed: state.committed as u64,
         request: match state.request {
@@ -120,19 +119,19 @@ fn read_lists(state: &State, view: &mut View) -> Result<(), &'static str> {
 
 /// The tag records: ages, present lines, invalid and unused records.
 fn read_tags(now: Snapshot, view: &mut View) -> Result<(), &'static str> {
-    for set in 0..view.sets {
+    for set in 0..view.sets() {
         let mut by_age = BTreeMap::new();
-        for way in 0..view.ways {
-            let record = set * view.ways + way;
+        for way in 0..view.ways() {
+            let record = set * view.ways() + way;
             by_age.insert(now.state.tags[record].age as usize, way);
             read_record(now, view, set, way, record)?;
         }
-        if by_age.keys().copied().collect::<Vec<_>>() != (0..view.ways).collect::<Vec<_>>() {
+        if by_age.keys().copied().collect::<Vec<_>>() != (0..view.ways()).collect::<Vec<_>>() {
             return Err("each set has ages 0 to ways - 1 once each");
         }
         view.recency.push(by_age.into_values().collect());
     }
-    for tag in &now.state.tags[view.sets * view.ways..] {
+    for tag in &now.state.tags[view.sets() * view.ways()..] {
         if *tag != Tag::default() {
             return Err("unused records are all zero");
         }
@@ -157,7 +156,7 @@ fn read_record(
     if first + 16 > now.memory.len() {
         return Err("a valid line lies in memory");
     }
-    if line as usize % view.sets != set {
+    if line as usize % view.sets() != set {
         return Err("a valid line is in its own set");
     }
     if !dirty && bytes != now.memory[first..first + 16] {
@@ -254,6 +253,14 @@ fn request(view: &View) -> Result<(), &'static str> {
 }
 
 impl View {
+    pub fn sets(&self) -> usize {
+        self.figures.sets as usize
+    }
+
+    pub fn ways(&self) -> usize {
+        self.figures.ways as usize
+    }
+
     /// The oldest store, when it is committed and no waiting load is older.
     pub fn ready_store(&self) -> Option<StoreEntry> {
         let oldest = *self.stores.first()?;

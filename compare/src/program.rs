@@ -5,7 +5,7 @@ use std::fmt;
 use std::io::{self, BufReader, ErrorKind, Read, Write};
 use std::process::{Command, Stdio};
 
-use crate::model::Right;
+use crate::model::{Machine, Right};
 use crate::script;
 use crate::types::Step;
 

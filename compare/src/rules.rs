@@ -5,7 +5,7 @@
 use std::collections::BTreeMap;
 
 use crate::plain::{self, covers, input_refusal, Present, View};
-use crate::types::{Answer, Call, LoadEntry, Part, Snapshot, State, StoreEntry};
+use crate::types::{Answer, Call, Figures, LoadEntry, Part, Snapshot, State, StoreEntry};
 
 /// Where a byte of a load comes from.
 #[derive(Clone, Copy, Debug, PartialEq, Eq, PartialOrd, Ord)]
@@ -18,8 +18,8 @@ pub enum Source {
 
 /// Holds when the answer and all that stands after are what the rules say.
 pub fn judge(before: Snapshot, call: Call, answer: Answer, after: Snapshot) -> Result<(), String> {
-    if let Call::Start { sets, ways } = call {
-        return judge_start(before, sets, ways, answer, after);
+    if let Call::Start { figures } = call {
+        return judge_start(before, figures, answer, after);
     }
     let view = match admitted(before, call) {
         Ok(view) => view,
@@ -40,12 +40,11 @@ pub fn judge(before: Snapshot, call: Call, answer: Answer, after: Snapshot) -> R
 /// Start: way w has age w, all else is zero, memory stays as found.
 fn judge_start(
     before: Snapshot,
-    sets: u32,
-    ways: u32,
+    figures: Figures,
     answer: Answer,
     after: Snapshot,
 ) -> Result<(), String> {
-    if !plain::start_allowed(sets, ways, before.cache.len(), before.memory.len()) {
+    if !plain::start_allowed(figures, before.cache.len(), before.memory.len()) {
         same_answer(Answer::Refused(1), answer)?;
         return unchanged(Snapshot { state: &State::zero(), ..before }, after);
     }
@@ -53,21 +52,20 @@ fn judge_start(
     if !plain::figures_agree(after) || after.cache.iter().any(|byte| *byte != 0) {
         return Err("figures or cache bytes".to_string());
     }
-    same_view(&started(sets, ways, before.memory), &plain::read(after)?)
+    same_view(&started(figures, before.memory), &plain::read(after)?)
 }
 
 /// What an accepted start leaves.
-fn started(sets: u32, ways: u32, memory: &[u8]) -> View {
+fn started(figures: Figures, memory: &[u8]) -> View {
     View {
-        sets: sets as usize,
-        ways: ways as usize,
+        figures,
         last: 0,
         committed: 0,
         request: None,
         stores: vec![],
         loads: vec![],
         present: Default::default(),
-        recency: vec![(0..ways as usize).collect(); sets as usize],
+        recency: vec![(0..figures.ways as usize).collect(); figures.sets as usize],
         memory: memory.to_vec(),
     }
 }
@@ -296,13 +294,13 @@ fn drain(mut view: View, store: StoreEntry) -> (Answer, View) {
 
 fn reply(mut view: View) -> (Answer, View) {
     let line = view.request.take().expect("a line is requested");
-    let set = line as usize % view.sets;
+    let set = line as usize % view.sets();
     let mut holders: BTreeMap<usize, u32> = BTreeMap::new();
     for (held, present) in view.present.iter().filter(|(_, p)| p.set == set) {
         holders.insert(present.way, *held);
     }
-    let invalid = (0..view.ways).find(|way| !holders.contains_key(way));
-    let way = invalid.unwrap_or(view.recency[set][view.ways - 1]);
+    let invalid = (0..view.ways()).find(|way| !holders.contains_key(way));
+    let way = invalid.unwrap_or(view.recency[set][view.ways() - 1]);
     if let Some(old) = holders.get(&way) {
         let gone = view.present.remove(old).expect("it is held");
         if gone.dirty {
@@ -336,7 +334,7 @@ fn shown(view: &View, address: u32) -> Part {
     }
     match view.present.get(&(address / 16)) {
         None => Part::default(),
-        Some(p) => Part { place: (p.set * view.ways + p.way) * 16, length: 16 },
+        Some(p) => Part { place: (p.set * view.ways() + p.way) * 16, length: 16 },
     }
 }
 
@@ -359,7 +357,7 @@ fn unchanged(before: Snapshot, after: Snapshot) -> Result<(), String> {
 /// What stands after agrees, field by field.
 fn same_view(expected: &View, seen: &View) -> Result<(), String> {
     let (e, s) = (expected, seen);
-    agree("sets and ways", &(e.sets, e.ways), &(s.sets, s.ways))?;
+    agree("figures", &e.figures, &s.figures)?;
     agree("last", &e.last, &s.last)?;
     agree("committed", &e.committed, &s.committed)?;
     agree("request", &e.request, &s.request)?;

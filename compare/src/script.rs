@@ -3,8 +3,8 @@
 use std::io::{self, BufRead, BufReader, BufWriter, ErrorKind, Write};
 
 use crate::check;
-use crate::model::Right;
-use crate::types::{Answer, Call, Snapshot, State, Step};
+use crate::model::{Machine, Right};
+use crate::types::{Answer, Call, Setup, Snapshot, State, Step};
 
 /// Bytes a line may have before its LF.
 const LONGEST: usize = 64;
@@ -56,7 +56,7 @@ impl Held {
 #[derive(Clone, Copy, Debug, PartialEq, Eq)]
 pub enum Command {
     /// G: sets, ways, memory length.
-    Begin(u32, u32, u32),
+    Begin(Setup),
     Step(Call),
 }
 
@@ -93,7 +93,7 @@ pub fn command(line: &[u8]) -> Option<Command> {
     let (letter, rest) = line.split_first()?;
     let (n, count) = numbers(rest)?;
     let call = match (letter, count) {
-        (b'G', 3) => return Some(Command::Begin(n[0], n[1], n[2])),
+        (b'G', 3) => return Some(Command::Begin(Setup::new(n[0], n[1], n[2]))),
         (b'S', 3) => Call::Store { address: n[0], width: n[1], value: n[2] },
         (b'L', 2) => Call::Load { address: n[0], width: n[1] },
         (b'A', 1) => Call::Retry { number: n[0] },
@@ -105,6 +105,12 @@ pub fn command(line: &[u8]) -> Option<Command> {
         _ => return None,
     };
     Some(Command::Step(call))
+}
+
+/// The G that begins a run.
+pub fn begin_line(setup: Setup) -> String {
+    let Setup { figures, memory } = setup;
+    format!("G {} {} {memory}", figures.sets, figures.ways)
 }
 
 /// A call as a script line; a start and show line have none.
@@ -147,13 +153,14 @@ impl Playing {
     }
 
     /// G: a new run over zeroed memory; refused, the run going on stays.
-    fn begin(&mut self, sets: u32, ways: u32, length: u32) -> Answer {
-        if !check::figures_allowed(sets, ways, length as usize) {
+    fn begin(&mut self, setup: Setup) -> Answer {
+        let (figures, length) = (setup.figures, setup.memory as usize);
+        if !check::figures_allowed(figures, length) {
             return Answer::Refused(1);
         }
-        let (mut state, mut memory) = (State::zero(), vec![0; length as usize]);
-        let mut cache = vec![0; check::cache_length(sets, ways)];
-        let answer = (self.step)(&mut state, &mut cache, &mut memory, Call::Start { sets, ways });
+        let (mut state, mut memory) = (State::zero(), vec![0; length]);
+        let mut cache = vec![0; check::cache_length(figures)];
+        let answer = (self.step)(&mut state, &mut cache, &mut memory, Call::Start { figures });
         if answer.accepted() {
             self.going = Some(Going { state, cache, memory });
         }
@@ -163,7 +170,7 @@ impl Playing {
     /// The answer to a line; none stands for one that is too long.
     pub fn answer(&mut self, line: Option<&[u8]>) -> Answer {
         match (line.and_then(command), &mut self.going) {
-            (Some(Command::Begin(sets, ways, length)), _) => self.begin(sets, ways, length),
+            (Some(Command::Begin(setup)), _) => self.begin(setup),
             (Some(Command::Step(call)), Some(run)) => {
                 (self.step)(&mut run.state, &mut run.cache, &mut run.memory, call)
             }

@@ -2,16 +2,14 @@
 //! dropped stretch struck from each. What answers the remaining lines is the same.
 
 use crate::counts::Counts;
-use crate::dropped::{self, Given, Stretch};
-use crate::long::{figures, lines_of};
+use crate::dropped;
+use crate::long::{lines_of, setup};
 use crate::met::{Teller, Told};
 use crate::program::{difference, Difference};
 use crate::random::{told_run, Mix, Rng, Run};
 use crate::script::Command;
+use crate::stretch::{self, Given, Stretch};
 use crate::types::{Answer, Call};
-
-/// Runs in which much is dropped.
-const MIX: Mix = [8, 8, 6, 10, 2, 1, 6, 1];
 
 /// Stretches struck from one run, each from a copy of its own.
 const STRETCHES: u64 = 3;
@@ -81,14 +79,15 @@ fn given(told: &Told) -> Option<Given> {
 
 /// What is in a stretch, in the order of `NEEDED`.
 fn inside(told: &[Told], stretch: Stretch) -> [bool; 9] {
-    let lines = &told[1..][stretch.first..=stretch.abort];
+    let lines = &told[1..][stretch.first..=stretch.end];
     let given: Vec<(Call, Answer)> =
         lines.iter().filter_map(given).map(|one| (one.call, one.answer)).collect();
     let has = |wanted: &dyn Fn(&(Call, Answer)) -> bool| given.iter().any(wanted);
     let answers = |wanted: fn(&Answer) -> bool| given.iter().any(|(_, answer)| wanted(answer));
     let waits = has(&|one| matches!(one, (Call::Load { .. }, Answer::Waits(_))));
+    let struck = |call: Call| (stretch.kind.struck)(call, stretch.n);
     let inquiry = has(&|one| match one {
-        (Call::Retry { number }, Answer::Value { .. }) => *number >= stretch.n,
+        (Call::Retry { .. }, Answer::Value { .. }) => struck(one.0),
         _ => false,
     });
     [
@@ -120,12 +119,12 @@ pub fn pair(seed: u64, runs: usize, counts: &mut Counts) -> Pair {
     let mut rng = Rng::new(seed);
     let mut pair = Pair::default();
     for _ in 0..runs {
-        let (figures, length) = (figures(&mut rng), 20 + rng.below(150) as usize);
-        let (run, before) = told_run(&mut rng, figures, length, &MIX);
+        let (setup, length) = (setup(&mut rng), 20 + rng.below(150) as usize);
+        let (run, before) = told_run(&mut rng, setup, length, Mix::Struck);
         let (lines, told) = told(&run);
         let given: Vec<Given> = told.iter().filter_map(given).collect();
-        let mut stretches = dropped::stretches(1, &given);
-        stretches.retain(|stretch| stretch.abort < before);
+        let mut stretches = stretch::stretches(1, &given);
+        stretches.retain(|stretch| stretch.end < before);
         for _ in 0..STRETCHES {
             let Some(stretch) = choose(&mut rng, &told, &stretches) else { break };
             pair.add(&lines, &given, stretch);

@@ -46,11 +46,37 @@ pub enum Request {
     Line(u32),
 }
 
+/// What a start chooses. Made by `new` alone, so that a further figure stands here
+/// and where it is chosen.
+#[derive(Clone, Copy, Debug, Default, PartialEq, Eq)]
+pub struct Figures {
+    pub sets: u32,
+    pub ways: u32,
+}
+
+impl Figures {
+    pub const fn new(sets: u32, ways: u32) -> Figures {
+        Figures { sets, ways }
+    }
+}
+
+/// What a script's run begins with: the figures, and so much zeroed memory.
+#[derive(Clone, Copy, Debug, PartialEq, Eq)]
+pub struct Setup {
+    pub figures: Figures,
+    pub memory: u32,
+}
+
+impl Setup {
+    pub const fn new(sets: u32, ways: u32, memory: u32) -> Setup {
+        Setup { figures: Figures::new(sets, ways), memory }
+    }
+}
+
 /// The state. Cache and memory bytes are lent beside it.
 #[derive(Clone, Debug, PartialEq, Eq)]
 pub struct State {
-    pub sets: u32,
-    pub ways: u32,
+    pub figures: Figures,
     pub memory_length: u32,
     /// The last operation number given.
     pub last: u32,
@@ -66,8 +92,7 @@ impl State {
     /// The all-zero state, which a refused start hands back.
     pub fn zero() -> State {
         State {
-            sets: 0,
-            ways: 0,
+            figures: Figures::default(),
             memory_length: 0,
             last: 0,
             committed: 0,
@@ -91,8 +116,7 @@ pub struct Snapshot<'a> {
 #[derive(Clone, Copy, Debug, PartialEq, Eq)]
 pub enum Call {
     Start {
-        sets: u32,
-        ways: u32,
+        figures: Figures,
     },
     Load {
         address: u32,

@@ -4,11 +4,11 @@
 mod judged;
 
 use compare::check::{self, CLAUSES};
-use compare::model::Right;
+use compare::model::{Machine, Right};
 use compare::plain;
 use compare::random::{self, Rng};
 use compare::rules;
-use compare::types::{Answer, Call, Part, Request, Snapshot, State, Tag};
+use compare::types::{Answer, Call, Figures, Part, Request, Snapshot, State, Tag};
 use judged::Judged;
 
 /// A machine in which every part of the state is in use: line 0 dirty, line 2
@@ -233,10 +233,10 @@ fn waiting_load_with_its_line_present() {
 #[test]
 fn figures_of_the_state() {
     for sets in [0, 1, 3, 4, 128, u32::MAX] {
-        figures(|b| b.state.sets = sets);
+        figures(|b| b.state.figures.sets = sets);
     }
     for ways in [0, 1, 3, 5, 256, u32::MAX] {
-        figures(|b| b.state.ways = ways);
+        figures(|b| b.state.figures.ways = ways);
     }
     for length in [0, 16, 127, 129, 144, 65552, u32::MAX] {
         figures(|b| b.state.memory_length = length);
@@ -260,7 +260,7 @@ fn lent_lengths() {
     }
     for (sets, ways) in [(0, 2), (3, 2), (128, 2), (2, 0), (2, 5)] {
         figures(|b| {
-            (b.state.sets, b.state.ways) = (sets, ways);
+            b.state.figures = Figures::new(sets, ways);
             b.cache.resize((sets * ways * 16) as usize, 0);
         });
     }
@@ -287,8 +287,8 @@ fn damage_at_random(judged: &mut Judged, rng: &mut Rng) {
     let number = odd_number(rng);
     let state = &mut judged.state;
     match rng.below(12) {
-        0 => state.sets = number,
-        1 => state.ways = number,
+        0 => state.figures.sets = number,
+        1 => state.figures.ways = number,
         2 => state.memory_length = number,
         3 => state.last = number,
         4 => state.committed = number,
@@ -336,18 +336,18 @@ fn flip(bytes: &mut [u8], rng: &mut Rng) {
 fn odd_call(rng: &mut Rng) -> Call {
     let (number, address) = (odd_number(rng), odd_number(rng));
     let (width, value) = (rng.pick(&[1, 2, 4, 4, number]), odd_number(rng));
-    match rng.below(10) {
-        0 => Call::Start { sets: number, ways: width },
-        1 => Call::Load { address, width },
-        2 => Call::Store { address, width, value },
-        3 => Call::Retry { number },
-        4 => Call::Commit { number },
-        5 => Call::Abort { number },
-        6 => Call::Idle,
-        7 => Call::Reply,
-        8 => Call::Flush,
-        _ => Call::ShowLine { address },
-    }
+    rng.pick(&[
+        Call::Start { figures: Figures::new(number, width) },
+        Call::Load { address, width },
+        Call::Store { address, width, value },
+        Call::Retry { number },
+        Call::Commit { number },
+        Call::Abort { number },
+        Call::Idle,
+        Call::Reply,
+        Call::Flush,
+        Call::ShowLine { address },
+    ])
 }
 
 /// The machine in the middle of the run of a seed.
@@ -416,12 +416,12 @@ fn rubbish(rng: &mut Rng) -> Judged {
     judged.state.last = odd_number(rng);
     judged.state.committed = odd_number(rng);
     judged.state.request = Request::Line(odd_number(rng));
-    (judged.state.sets, judged.state.ways) = (odd_number(rng), odd_number(rng));
+    judged.state.figures = Figures::new(odd_number(rng), odd_number(rng));
     judged.state.memory_length = odd_number(rng);
     if rng.one_in(2) {
         let (sets, ways) = (rng.pick(&[1, 2, 4, 64]), 1 + rng.below(4) as u32);
-        (judged.state.sets, judged.state.ways) = (sets, ways);
-        judged.cache.resize((sets * ways * 16) as usize, 1);
+        judged.state.figures = Figures::new(sets, ways);
+        judged.cache.resize(check::cache_length(judged.state.figures), 1);
         judged.state.memory_length = 64;
         judged.memory.resize(64, 1);
     }

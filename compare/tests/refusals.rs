@@ -3,7 +3,7 @@
 
 mod judged;
 
-use compare::types::{Answer, Call, LoadEntry, Part, State, StoreEntry};
+use compare::types::{Answer, Call, Figures, LoadEntry, Part, State, StoreEntry};
 use judged::Judged;
 
 /// Every list of some of the numbers, in their order.
@@ -192,7 +192,7 @@ fn start_with(sets: u32, ways: u32, cache: usize, memory: usize) {
         && (1..=4).contains(&ways)
         && [16, 32, 65536].contains(&memory)
         && cache == (sets * ways * 16) as usize;
-    let answer = judged.call(Call::Start { sets, ways });
+    let answer = judged.call(Call::Start { figures: Figures::new(sets, ways) });
     if allowed {
         assert_eq!(answer, Answer::Ready);
         assert_eq!(judged.memory, vec![9; memory]);

@@ -2,11 +2,12 @@
 //! stretches of small runs made by hand.
 
 use compare::counts::Counts;
-use compare::dropped::{self, Stretch};
+use compare::dropped;
 use compare::examine::{examine, Checks};
 use compare::fault::Fault;
 use compare::random::{self, Run};
-use compare::types::Call;
+use compare::stretch::{self, Stretch};
+use compare::types::{Call, Figures};
 
 #[test]
 fn right_model_passes() {
@@ -26,7 +27,7 @@ fn every_figure_is_met() {
     let mut met = std::collections::BTreeSet::new();
     for seed in 0..1000 {
         let run = random::run(seed);
-        met.insert((run.sets, run.ways));
+        met.insert((run.figures.sets, run.figures.ways));
     }
     assert_eq!(met.len(), 28);
 }
@@ -36,15 +37,15 @@ const BAD_LOAD: Call = Call::Load { address: 0, width: 3 };
 
 /// The stretches of a run with these calls after a start.
 fn stretches(calls: &[Call]) -> Vec<(usize, usize, u32)> {
-    let run =
-        Run { seed: 0, sets: 1, ways: 1, found: vec![0; 32], numbered: 0, calls: calls.to_vec() };
+    let (figures, found) = (Figures::new(1, 1), vec![0; 32]);
+    let run = Run { seed: 0, figures, found, numbered: 0, calls: calls.to_vec() };
     let step = Fault::None.step();
     let whole = dropped::play(&run, step, calls.iter().copied());
-    for stretch in dropped::stretches(1, &whole.given) {
+    for stretch in stretch::stretches(1, &whole.given) {
         dropped::compare(&run, step, &whole, stretch).unwrap();
     }
-    let found = dropped::stretches(1, &whole.given).into_iter();
-    found.map(|Stretch { first, abort, n }| (first, abort, n)).collect()
+    let found = stretch::stretches(1, &whole.given).into_iter();
+    found.map(|Stretch { first, end, n, .. }| (first, end, n)).collect()
 }
 
 fn abort(number: u32) -> Call {
@@ -82,9 +83,9 @@ fn struck_calls() {
     let commit = Call::Commit { number: 5 };
     let show = Call::ShowLine { address: 0 };
     for call in [LOAD, BAD_LOAD, retry(3), retry(4), abort(3), abort(9)] {
-        assert!(dropped::struck(call, 3), "{call:?}");
+        assert!((stretch::PLAIN.struck)(call, 3), "{call:?}");
     }
     for call in [retry(2), abort(2), commit, show, Call::Idle, Call::Reply, Call::Flush] {
-        assert!(!dropped::struck(call, 3), "{call:?}");
+        assert!(!(stretch::PLAIN.struck)(call, 3), "{call:?}");
     }
 }

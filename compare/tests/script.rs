@@ -1,9 +1,9 @@
 //! The script player: limits of lines and numbers, G, and any bytes at all.
 
 use compare::dropped;
-use compare::model::Right;
+use compare::model::{Machine, Right};
 use compare::random::{self, Rng};
-use compare::script::{line_of, play, play_stream};
+use compare::script::{begin_line, line_of, play, play_stream};
 use compare::types::Answer;
 
 /// The output lines of a script.
@@ -160,7 +160,7 @@ fn random_runs_as_scripts() {
         run.found.fill(0);
         run.numbered = 0;
         run.calls.retain(|call| line_of(*call).is_some());
-        let mut script = format!("G {} {} {}\n", run.sets, run.ways, run.found.len());
+        let mut script = begin_line(run.setup()) + "\n";
         for line in run.calls.iter().copied().filter_map(line_of) {
             script += &format!("{line}\n");
         }

@@ -5,7 +5,7 @@ use std::fs;
 use std::path::PathBuf;
 
 use compare::fault::{self, Fault};
-use compare::model::Right;
+use compare::model::{Machine, Right};
 use compare::program::{difference, Player};
 use compare::rules;
 use compare::script::{self, Command, Playing};

@@ -15,19 +15,14 @@ use std::process::ExitCode;
 use std::time::Instant;
 
 use compare::arguments;
-use compare::model::Right;
+use compare::check;
+use compare::model::{Machine as _, Right};
 use compare::random::{script_run, Mix, Rng};
-use compare::types::{Answer, Call, State};
+use compare::types::{Answer, Call, Setup, State};
 use nicoisetarn::Image;
 
-/// Sets, ways and memory.
-type Figures = (u32, u32, u32);
-
 /// A small cache, and the largest one.
-const FIGURES: [Figures; 2] = [(2, 2, 256), (64, 4, 65536)];
-
-/// Accepted calls for the most part: accesses, commits, fills, drains, aborts.
-const MIX: Mix = [20, 20, 20, 3, 1, 0, 1, 0];
+const SETUPS: [Setup; 2] = [Setup::new(2, 2, 256), Setup::new(64, 4, 65536)];
 
 /// Calls of a mixed run, and of its pieces, which are timed one by one.
 const MIXED: usize = 8_000;
@@ -84,7 +79,7 @@ impl Machine for Image {
     fn call_of(call: Call) -> Made {
         match (call, beside::call_of(call)) {
             (_, Some(call)) => Made::Call(call),
-            (Call::Start { sets, ways }, None) => Made::Start(nicoisetarn::Figures { sets, ways }),
+            (Call::Start { figures }, None) => Made::Start(beside::library_figures(figures)),
             (_, None) => Made::NoCall,
         }
     }
@@ -135,11 +130,11 @@ struct Way {
 
 impl Way {
     /// After a start.
-    fn new(figures: Figures) -> Way {
-        let (sets, ways, length) = figures;
-        let (cache, memory) = (vec![0; (sets * ways) as usize * 16], vec![0; length as usize]);
+    fn new(setup: Setup) -> Way {
+        let Setup { figures, memory } = setup;
+        let (cache, memory) = (vec![0; check::cache_length(figures)], vec![0; memory as usize]);
         let mut way = Way { calls: Vec::new(), state: State::zero(), cache, memory };
-        way.push(Call::Start { sets, ways });
+        way.push(Call::Start { figures });
         way
     }
 
@@ -159,7 +154,7 @@ impl Way {
 
     /// Fills the cache and makes every other line dirty.
     fn filled(mut self) -> Way {
-        let lines = self.state.sets * self.state.ways;
+        let lines = (self.cache.len() / 16) as u32;
         for line in 0..lines {
             let number = self.request(line);
             self.push(Call::Reply);
@@ -194,9 +189,10 @@ struct Case {
 }
 
 /// The ten calls, each on a state in which it does its work, and a refused one.
-fn cases(figures: Figures) -> Vec<Case> {
-    let filled = || Way::new(figures).filled();
-    let absent = figures.0 * figures.1;
+fn cases(setup: Setup) -> Vec<Case> {
+    let figures = setup.figures;
+    let filled = || Way::new(setup).filled();
+    let absent = figures.sets * figures.ways;
     let busy = |name, call: fn(&State) -> Call| {
         let way = filled().busy();
         let call = call(&way.state);
@@ -210,9 +206,8 @@ fn cases(figures: Figures) -> Vec<Case> {
     let mut waiting = filled();
     let number = waiting.request(absent);
     waiting.push(Call::Reply);
-    let (sets, ways, _) = figures;
     vec![
-        Case { name: "start", way: filled().busy(), call: Call::Start { sets, ways } },
+        Case { name: "start", way: filled().busy(), call: Call::Start { figures } },
         busy("load: a value from stores and a line", |_| Call::Load { address: 16, width: 4 }),
         busy("store", |_| Call::Store { address: 40, width: 4, value: 5 }),
         Case { name: "retry: a value", way: waiting.busy(), call: Call::Retry { number } },
@@ -327,8 +322,8 @@ impl Pair {
 /// The cases of a geometry in rounds, so that each is timed now and then; the last
 /// is a call number that there is not, for the library: the image is handed in and
 /// out, and nothing is looked at.
-fn measure(read: &Arguments, figures: Figures) -> Result<Vec<Pair>, String> {
-    let cases = cases(figures);
+fn measure(read: &Arguments, setup: Setup) -> Result<Vec<Pair>, String> {
+    let cases = cases(setup);
     let mut pairs = cases.iter().map(Pair::new).collect::<Result<Vec<Pair>, String>>()?;
     for case in cases.iter().filter(|case| case.name == REFUSED) {
         let mut pair = Pair::new(case)?;
@@ -344,9 +339,9 @@ fn measure(read: &Arguments, figures: Figures) -> Result<Vec<Pair>, String> {
 
 /// A run of all calls, with a show line after every sixteenth. The refused calls
 /// are left out: they change nothing, so the others are answered as before.
-fn mixed_calls(figures: Figures) -> Vec<Call> {
-    let run = script_run(&mut Rng::new(1), figures, MIXED, &MIX);
-    let mut way = Way::new(figures);
+fn mixed_calls(setup: Setup) -> Vec<Call> {
+    let run = script_run(&mut Rng::new(1), setup, MIXED, Mix::Accepted);
+    let mut way = Way::new(setup);
     let mut mixed = way.calls.clone();
     let mut address = 0;
     for (place, call) in run.calls.into_iter().enumerate() {
@@ -365,11 +360,11 @@ fn mixed_calls(figures: Figures) -> Vec<Call> {
 
 /// Plays a run piece by piece and keeps the better time of each piece; the calls
 /// accepted, and the memory left.
-fn play<M: Machine>(figures: Figures, calls: &[Call], best: &mut [f64]) -> (usize, Vec<u8>) {
+fn play<M: Machine>(setup: Setup, calls: &[Call], best: &mut [f64]) -> (usize, Vec<u8>) {
     let calls: Vec<M::Call> = calls.iter().map(|call| M::call_of(*call)).collect();
     let mut machine = M::unstarted();
-    let mut cache = vec![0; (figures.0 * figures.1) as usize * 16];
-    let mut memory = vec![0; figures.2 as usize];
+    let mut cache = vec![0; check::cache_length(setup.figures)];
+    let mut memory = vec![0; setup.memory as usize];
     let mut accepted = 0;
     for (piece, best) in calls.chunks(PIECE).zip(best) {
         let begun = Instant::now();
@@ -382,13 +377,13 @@ fn play<M: Machine>(figures: Figures, calls: &[Call], best: &mut [f64]) -> (usiz
 }
 
 /// Nanoseconds a call of a mixed run on both.
-fn measure_mixed(read: &Arguments, figures: Figures) -> Result<[f64; 2], String> {
-    let calls = mixed_calls(figures);
+fn measure_mixed(read: &Arguments, setup: Setup) -> Result<[f64; 2], String> {
+    let calls = mixed_calls(setup);
     let pieces = calls.len().div_ceil(PIECE);
     let (mut of_library, mut of_model) = (vec![f64::MAX; pieces], vec![f64::MAX; pieces]);
     for _ in 0..read.rounds.div_ceil(4) {
-        let library = play::<Image>(figures, &calls, &mut of_library);
-        let model = play::<State>(figures, &calls, &mut of_model);
+        let library = play::<Image>(setup, &calls, &mut of_library);
+        let model = play::<State>(setup, &calls, &mut of_model);
         if library != model || library.0 != calls.len() {
             return Err("mixed run: the machines do not agree, or refuse".to_string());
         }
@@ -403,19 +398,20 @@ fn row(what: &str, [library, model]: [f64; 2]) {
 }
 
 /// Prints the table of a geometry.
-fn table(read: &Arguments, figures: Figures) -> Result<(), String> {
-    let (sets, ways, length) = figures;
+fn table(read: &Arguments, setup: Setup) -> Result<(), String> {
+    let Setup { figures, memory } = setup;
+    let (sets, ways) = (figures.sets, figures.ways);
     println!(
-        "\n| {sets} sets, {ways} ways, {length} bytes | library, ns | Rust model, ns | ratio |"
+        "\n| {sets} sets, {ways} ways, {memory} bytes | library, ns | Rust model, ns | ratio |"
     );
     println!("|---|---|---|---|");
-    for pair in measure(read, figures)? {
+    for pair in measure(read, setup)? {
         match pair.name {
             NO_CALL => println!("| {NO_CALL} | {:.0} | – | – |", pair.times()[0]),
             name => row(name, pair.times()),
         }
     }
-    row("mixed run", measure_mixed(read, figures)?);
+    row("mixed run", measure_mixed(read, setup)?);
     Ok(())
 }
 
@@ -429,7 +425,7 @@ fn tables(read: &Arguments) -> Result<(), String> {
          start, nothing is set back, and the best of each piece of {PIECE} calls counts.",
         read.rounds, read.calls
     );
-    FIGURES.into_iter().try_for_each(|figures| table(read, figures))
+    SETUPS.into_iter().try_for_each(|setup| table(read, setup))
 }
 
 fn main() -> ExitCode {

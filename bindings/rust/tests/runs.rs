@@ -9,7 +9,7 @@ use beside::{judge, times, Bench, Beside};
 use compare::counts::Counts;
 use compare::met;
 use compare::random::{self, Mix, Rng, Run};
-use compare::types::{Answer, Call};
+use compare::types::{Answer, Call, Setup};
 
 /// Plays a run and counts what it met.
 fn play(run: &Run, counts: &mut Counts) -> Result<(), String> {
@@ -86,22 +86,24 @@ fn short_runs() {
     assert_eq!((counts.of("refused 1"), counts.of("refused 10")), (0, 0));
 }
 
-/// Sets, ways and memory of the long runs.
-const FIGURES: [(u32, u32, u32); 5] =
-    [(1, 1, 32), (2, 2, 256), (4, 3, 512), (16, 4, 2048), (64, 4, 65536)];
-
-/// Accepted calls for the most part: accesses, commits, fills, drains, aborts.
-const MIX: Mix = [20, 20, 20, 3, 1, 0, 1, 0];
+/// What the long runs begin with.
+const SETUPS: [Setup; 5] = [
+    Setup::new(1, 1, 32),
+    Setup::new(2, 2, 256),
+    Setup::new(4, 3, 512),
+    Setup::new(16, 4, 2048),
+    Setup::new(64, 4, 65536),
+];
 
 #[test]
 fn long_runs() {
     let mut counts = Counts::default();
     for turn in 0..times() {
         let mut rng = Rng::new(turn ^ 0x1046_0000);
-        for figures in FIGURES {
-            let run = random::script_run(&mut rng, figures, 25_000, &MIX);
+        for setup in SETUPS {
+            let run = random::script_run(&mut rng, setup, 25_000, Mix::Accepted);
             if let Err(what) = play(&run, &mut counts) {
-                panic!("turn {turn}, {figures:?}, {what}");
+                panic!("turn {turn}, {setup:?}, {what}");
             }
         }
     }

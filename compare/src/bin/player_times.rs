@@ -15,15 +15,10 @@ use compare::long::plain_script;
 use compare::program::difference;
 use compare::random::{script_run, Mix, Rng};
 use compare::script;
-
-/// Sets, ways and memory.
-type Figures = (u32, u32, u32);
+use compare::types::Setup;
 
 /// A small cache that is crowded, and the largest one.
-const FIGURES: [Figures; 2] = [(2, 2, 256), (64, 4, 65536)];
-
-/// Accepted calls for the most part: accesses, commits, fills, drains, aborts.
-const MIX: Mix = [20, 20, 20, 3, 1, 0, 1, 0];
+const SETUPS: [Setup; 2] = [Setup::new(2, 2, 256), Setup::new(64, 4, 65536)];
 
 /// The command line.
 struct Arguments {
@@ -113,15 +108,15 @@ fn measure(read: &Arguments, files: &Files, script: &[u8]) -> Result<[f64; 2], S
 }
 
 /// The mix of a run.
-fn mixed(figures: Figures, lines: usize) -> Vec<u8> {
+fn mixed(setup: Setup, lines: usize) -> Vec<u8> {
     // Show lines are taken out of the run: some more calls make up for them.
-    plain_script(&script_run(&mut Rng::new(1), figures, lines + lines / 20, &MIX))
+    plain_script(&script_run(&mut Rng::new(1), setup, lines + lines / 20, Mix::Accepted))
 }
 
 /// A run that fills the cache, then one line again and again.
-fn repeated(figures: Figures, line: &str, lines: usize) -> Vec<u8> {
-    let mut script = format!("G {} {} {}\n", figures.0, figures.1, figures.2);
-    for number in 1..=figures.0 * figures.1 {
+fn repeated(setup: Setup, line: &str, lines: usize) -> Vec<u8> {
+    let mut script = script::begin_line(setup) + "\n";
+    for number in 1..=setup.figures.sets * setup.figures.ways {
         script += &format!("L {} 1\nC {number}\nI\nR\nA {number}\n", 16 * (number - 1));
     }
     (script + &format!("{line}\n").repeat(lines)).into_bytes()
@@ -146,22 +141,24 @@ fn head(what: &str) {
 /// Prints both tables.
 fn tables(read: &Arguments) -> Result<(), String> {
     let files = Files::new()?;
-    let name = |(sets, ways, memory): Figures| format!("{sets} sets, {ways} ways, {memory} bytes");
+    let name = |Setup { figures, memory }: Setup| {
+        format!("{} sets, {} ways, {memory} bytes", figures.sets, figures.ways)
+    };
     head("mixed calls");
-    for figures in FIGURES {
-        row(read, &files, &name(figures), &mixed(figures, read.lines))?;
+    for setup in SETUPS {
+        row(read, &files, &name(setup), &mixed(setup, read.lines))?;
     }
     println!();
     head("one line again and again");
-    for figures in FIGURES {
+    for setup in SETUPS {
         let parts = [
             ("malformed: read and answered", "S 16 4 7 x", read.lines * 4),
             ("refused: well-formedness too", "L 16 3", read.lines / 2),
             ("idle: nothing to do", "I", read.lines / 2),
         ];
         for (what, line, lines) in parts {
-            let script = repeated(figures, line, lines);
-            row(read, &files, &format!("{}; {what}", name(figures)), &script)?;
+            let script = repeated(setup, line, lines);
+            row(read, &files, &format!("{}; {what}", name(setup)), &script)?;
         }
     }
     Ok(())

@@ -44,8 +44,8 @@ fn play_only(seed: u64) -> Result<(), String> {
     let run = random::run(seed);
     println!(
         "seed {seed}: sets {}, ways {}, memory {}, first last {}",
-        run.sets,
-        run.ways,
+        run.figures.sets,
+        run.figures.ways,
         run.found.len(),
         run.numbered
     );

@@ -2,9 +2,10 @@
 //! calls is judged by the plain rules too.
 #![allow(dead_code)]
 
-use compare::model::Right;
+use compare::check;
+use compare::model::{Machine, Right};
 use compare::rules;
-use compare::types::{Answer, Call, Snapshot, State};
+use compare::types::{Answer, Call, Figures, Snapshot, State};
 
 /// A state with what is lent to it.
 #[derive(Clone, Debug, PartialEq, Eq)]
@@ -18,9 +19,10 @@ impl Judged {
     /// An accepted start over memory that is found with byte a % 251 + 1 at a.
     pub fn new(sets: u32, ways: u32, length: usize) -> Judged {
         let memory = (0..length).map(|a| (a % 251 + 1) as u8).collect();
-        let mut judged =
-            Judged { state: State::zero(), cache: vec![0xA5; (sets * ways) as usize * 16], memory };
-        assert_eq!(judged.call(Call::Start { sets, ways }), Answer::Ready);
+        let figures = Figures::new(sets, ways);
+        let cache = vec![0xA5; check::cache_length(figures)];
+        let mut judged = Judged { state: State::zero(), cache, memory };
+        assert_eq!(judged.call(Call::Start { figures }), Answer::Ready);
         judged
     }
 

@@ -19,9 +19,11 @@ use Rattle.lists.proofs.CountedLoops.{all-end}
 use Rattle.rules.specs.declared.Figures.{Figures}
 use Rattle.rules.specs.declared.Tag.{Tag}
 use Rattle.rules.specs.Shape.{Hierarchy, noTag, tagAt, slots, firstSlot, setsAllowed, waysAllowed, figuresAllowed, fits}
-use Rattle.rules.specs.Lines.{holdsLine}
+use Rattle.rules.specs.Lines.{holdsLine, dirtyAt}
 use Rattle.rules.specs.WellFormed.{zeroTag, linesFormed}
-use Rattle.rules.proofs.LineFacts.{Fits, Ages, Good, set-room, good-tells, good-is}
+use Rattle.rules.proofs.Records.{set-room}
+use Rattle.rules.proofs.Recency.{Ages, recency-ages, ages-recency}
+use Rattle.rules.proofs.LineFacts.{Fits, Good, good-tells, good-is}
 use Rattle.line_checks.specs.SlotTests.{sameBytes, zeroBytes, validGood, invalidGood, slotGood, sameAgeOrLine, apartFrom, nothing}
 
 -- ---- numbers
@@ -45,6 +47,11 @@ few-ways b e =
 
 -- ---- one record
 
+-- a dirty line is dirty at each byte
+whole-line : (t : Tag) (i : ℕ) → dirtyAt t i ≡ t .dirty
+unfolding dirtyAt
+whole-line t i = refl
+
 module _ (f : Figures) (size : ℕ) (cache memory : List ℕ) (s k : ℕ) (t : Tag) where
   abbrev good : Bool
   good = slotGood f size cache memory s k t
@@ -53,7 +60,7 @@ module _ (f : Figures) (size : ℕ) (cache memory : List ℕ) (s k : ℕ) (t : T
   pub record Valid : Type 0 where
     pub inside : 16 * t .line < size
     pub own : t .line % f .sets ≡ s
-    pub clean : t .dirty ≡ false → (i : ℕ) → i < 16 → getD cache (16 * k + i) 0 ≡ getD memory (16 * t .line + i) 0
+    pub clean : (i : ℕ) → dirtyAt t i ≡ false → i < 16 → getD cache (16 * k + i) 0 ≡ getD memory (16 * t .line + i) 0
 
   -- and of an invalid one
   pub record Invalid : Type 0 where
@@ -73,7 +80,7 @@ module _ (f : Figures) (size : ℕ) (cache memory : List ℕ) (s k : ℕ) (t : T
       record {
         inside = ltb-true (16 * t .line) size (and-left (ltb (16 * t .line) size) _ g);
         own = eqb-true (t .line % f .sets) s (and-left (eqb (t .line % f .sets) s) _ h);
-        clean = λ d i l. eqb-true _ _ (all-at _ 16 0 (or-then (t .dirty) _ (and-right (eqb (t .line % f .sets) s) _ h) d) i (omega arith) (omega arith));
+        clean = λ i d l. eqb-true _ _ (all-at _ 16 0 (or-then (t .dirty) _ (and-right (eqb (t .line % f .sets) s) _ h) (sym (whole-line t i) ∙ d)) i (omega arith) (omega arith));
       }
 
   invalid-tells : good ≡ true → t .valid ≡ false → Invalid
@@ -97,7 +104,7 @@ module _ (f : Figures) (size : ℕ) (cache memory : List ℕ) (s k : ℕ) (t : T
       rw v
       (and-both _ _ (lt-ltb (16 * t .line) size (h .inside))
       (and-both _ _ (eq-eqb (t .line % f .sets) s (h .own))
-      (or-by _ _ (λ d. all-by _ 16 0 (λ i p q. eq-eqb _ _ (h .clean d i (omega arith))))))))
+      (or-by _ _ (λ d. all-by _ 16 0 (λ i p q. eq-eqb _ _ (h .clean i (whole-line t i ∙ d) (omega arith))))))))
       (λ v.
       let h = g v in
       rw v
@@ -200,16 +207,19 @@ module _ (b : Hierarchy) (g : Good b) (s w : ℕ) (s-in : s < b .figures .sets) 
   in-use : k < slots b
   in-use = let h = set-room s (b .figures .sets) (b .figures .ways) s-in in omega arith
 
+  ages-in : Ages (b .tags) (b .figures .ways) (s * b .figures .ways)
+  ages-in = recency-ages b (g .recency) s s-in
+
   pub good-passes : Passed b s w
   good-passes =
       record {
         alone =
             slot-is (b .figures) (b .size) (b .cache) (b .memory) s k (tag b s w)
-            (g .ages s s-in .small k (omega arith) (omega arith))
+            (ages-in .small k (omega arith) (omega arith))
             (λ v. record {
               inside = g .lines .inside k v;
               own = same-set _ s w (b .figures .ways) w-in (g .lines .own k v .0) (g .lines .own k v .1);
-              clean = λ d i l. g .clean k i v d l;
+              clean = λ i d l. g .clean k i v d l;
             })
             (λ v. record {
               undirty = g .empty k v .0;
@@ -218,7 +228,7 @@ module _ (b : Hierarchy) (g : Good b) (s w : ℕ) (s-in : s < b .figures .sets) 
             });
         apart = λ j l.
             apart-is (tag b s j) (tag b s w)
-            (λ e. let z = g .ages s s-in .same (s * b .figures .ways + j) k (omega arith) (omega arith) (omega arith) (omega arith) e in omega arith)
+            (λ e. let z = ages-in .same (s * b .figures .ways + j) k (omega arith) (omega arith) (omega arith) (omega arith) e in omega arith)
             (λ u v e. let z = g .lines .once (s * b .figures .ways + j) k u v e in omega arith);
       }
 
@@ -291,7 +301,7 @@ module _ (b : Hierarchy) (fit : Fits b) (table : length (b .tags) ≡ 256) (unus
       record {
         table = table;
         unused = past;
-        ages = ages;
+        recency = ages-recency b ages;
         lines = record {
           inside = λ k v. by-way (λ k. tagAt (b .tags) k .valid ≡ true → 16 * tagAt (b .tags) k .line < b .size) (λ s w p q v. valid-at s w p q v .inside) k (here k v) v;
           own = λ k v.
@@ -304,8 +314,8 @@ module _ (b : Hierarchy) (fit : Fits b) (table : length (b .tags) ≡ 256) (unus
               j (here j u) u e;
         };
         clean = λ k i v d l.
-            by-way (λ k. tagAt (b .tags) k .valid ≡ true → tagAt (b .tags) k .dirty ≡ false → getD (b .cache) (16 * k + i) 0 ≡ getD (b .memory) (16 * tagAt (b .tags) k .line + i) 0)
-            (λ s w p q v d. valid-at s w p q v .clean d i l) k (here k v) v d;
+            by-way (λ k. tagAt (b .tags) k .valid ≡ true → dirtyAt (tagAt (b .tags) k) i ≡ false → getD (b .cache) (16 * k + i) 0 ≡ getD (b .memory) (16 * tagAt (b .tags) k .line + i) 0)
+            (λ s w p q v d. valid-at s w p q v .clean i d l) k (here k v) v d;
         empty = λ k v.
             elim (decLt k (slots b)) [
               | yes h ↦ by-way (λ k. tagAt (b .tags) k .valid ≡ false → (tagAt (b .tags) k .dirty ≡ false) × (tagAt (b .tags) k .line ≡ 0))

@@ -1,23 +1,42 @@
 -- Calls by their checks: what a call's outcome is, when checks 1 and 10 refuse it, and when they pass and its own checks follow.
 use Prim.Native.Nat.{ℕ, _^_}
 use mathlib.Core.Path.{_≡_, refl, sym, _∙_, ap}
-use mathlib.Core.Bool.{Bool, true, false, not}
+use mathlib.Core.Bool.{Bool, true, false, not, _&&_}
 use mathlib.Core.List.{List, [], _∷_, _++_}
 use native.Mathlib.Omega.{arith}
-use lib.Dec.{ltb}
+use lib.Dec.{ltb, eqb}
 use borrow.Author.Tests.{ltb-true, ltb-false, le-leb, lt-leb, eq-eqb, ne-eqb}
-use Rattle.lists.proofs.Cond.{cases}
+use Rattle.lists.proofs.Cond.{cases, and-left}
 use Rattle.rules.specs.Shape.{Queues, Hierarchy, fits, topNumber, isFreeStore, isFreeLoad}
 use Rattle.lists.specs.Padded.{any}
-use Rattle.rules.specs.Calls.{Call, Check, load, store, refused, check, numberCheck, loadRule, storeRule, guarded, passes, unchanged, accessChecks, callChecks, rule}
-use Rattle.rules.specs.WellFormed.{wellFormed}
+use Rattle.rules.specs.Calls.{Call, Check, load, store, refused, check, numberCheck, loadRule, storeRule, guarded, passes, unchanged, accessChecks, earlyChecks, callChecks, rule}
+use Rattle.rules.specs.WellFormed.{linesFormed, queuesFormed, wellFormed}
 use Rattle.rules.specs.Runs.{stateChecks, refusal, outcome}
-use Rattle.rules.proofs.Checks.{shut, malformed, opened, checked, guarded-append, guarded-passes}
+use Rattle.rules.proofs.Checks.{EachPasses, shut, malformed, opened, checked, guarded-append, guarded-passes}
 use Rattle.access.specs.AccessChecks.{sized, checkedAccess}
 use Rattle.access.proofs.AccessChecks.{checks-refuse, checks-pass}
 use Rattle.model.specs.State.{storeRest}
 use Rattle.access.specs.declared.Access.{Access}
 use Rattle.access.specs.declared.Checked.the-variants.{Passed, Failed}
+
+-- where the number of checks 1 and 10 is 0 the state is well formed
+pub state-formed : (q : Queues) (b : Hierarchy) (k : ℕ) → k ≡ guarded (stateChecks q b) (λ j. j) 0 → k ≡ 0 → wellFormed q b ≡ true
+unfolding guarded
+state-formed q b k e n =
+    cases (wellFormed q b) (λ g. g)
+    (λ g. cases (fits b)
+    (λ f. let z : k ≡ 10 = rw (f, g) at e in let no : ⊥ = omega arith in absurd no)
+    (λ f. let z : k ≡ 1 = rw f at e in let no : ⊥ = omega arith in absurd no))
+
+-- and only there
+pub state-judged : (q : Queues) (b : Hierarchy) (k : ℕ) → k ≡ guarded (stateChecks q b) (λ j. j) 0 → eqb k 0 ≡ wellFormed q b
+unfolding guarded wellFormed
+state-judged q b k e =
+    cases (fits b)
+    (λ f. cases (linesFormed b && queuesFormed q b)
+    (λ g. let z : k ≡ 0 = rw (f, g) at e in rw (z, f, g))
+    (λ g. let z : k ≡ 10 = rw (f, g) at e in rw (z, f, g)))
+    (λ f. let z : k ≡ 1 = rw f at e in rw (z, f))
 
 module _ (c : Call) (q : Queues) (b : Hierarchy) where
   -- checks 1 and 10 pass
@@ -26,24 +45,20 @@ module _ (c : Call) (q : Queues) (b : Hierarchy) where
     pub formed : wellFormed q b ≡ true
     pub does : outcome c q b ≡ checked c q b
 
-  -- what the number of checks 1 and 10 tells: the refusal, or that both pass
-  pub state-refuses : (k : ℕ) → k ≡ guarded (stateChecks q b) (λ j. j) 0 → (k ≡ 0 → ⊥) → outcome c q b ≡ unchanged (refusal c k) q b
+  -- what the number of checks 1 and 10 tells of a call whose early checks pass: the refusal
+  pub state-refuses : (k : ℕ) → k ≡ guarded (stateChecks q b) (λ j. j) 0 → (k ≡ 0 → ⊥) → EachPasses (earlyChecks c b) → outcome c q b ≡ unchanged (refusal c k) q b
   unfolding guarded
-  state-refuses k e n =
+  state-refuses k e n early =
       cases (fits b)
       (λ f. cases (wellFormed q b)
       (λ g. let z : k ≡ 0 = rw (f, g) at e in absurd (n z))
-      (λ g. let z : k ≡ 10 = rw (f, g) at e in rw z (malformed c q b f g)))
+      (λ g. let z : k ≡ 10 = rw (f, g) at e in rw z (malformed c q b early f g)))
       (λ f. let z : k ≡ 1 = rw f at e in rw z (shut c q b f))
 
-  pub state-opens : (k : ℕ) → k ≡ guarded (stateChecks q b) (λ j. j) 0 → k ≡ 0 → Open
-  unfolding guarded
-  state-opens k e n =
-      cases (fits b)
-      (λ f. cases (wellFormed q b)
-      (λ g. record { fit = f; formed = g; does = opened c q b f g })
-      (λ g. let z : k ≡ 10 = rw (f, g) at e in let no : ⊥ = omega arith in absurd no))
-      (λ f. let z : k ≡ 1 = rw f at e in let no : ⊥ = omega arith in absurd no)
+  -- a well-formed state passes both
+  pub formed-opens : wellFormed q b ≡ true → EachPasses (earlyChecks c b) → Open
+  unfolding wellFormed
+  formed-opens e early = let f = and-left (fits b) _ e in record { fit = f; formed = e; does = opened c q b early f e }
 
 -- ---- load, store: the access, then the rest of the checks
 

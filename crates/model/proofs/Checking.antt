@@ -18,8 +18,8 @@ use Rattle.rules.specs.WellFormed.{freeZero, freePlacesLast, committedUpToLast,
 use Rattle.rules.specs.Runs.{stateChecks}
 use Rattle.queue_checks.specs.Good.{queuesGood, queuesWith}
 use Rattle.access.specs.AccessChecks.{sized}
-use Rattle.model.specs.Tables.{tabled, usedTags}
-use Rattle.model.proofs.CacheLoops.{used-line}
+use Rattle.records.specs.Records.{tabled, usedTags}
+use Rattle.records.proofs.Answers.{used-line}
 use Rattle.model.specs.State.{queuesOf, hierarchyOf}
 use Rattle.model.specs.declared.State.{State}
 

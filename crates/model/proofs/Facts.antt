@@ -8,24 +8,24 @@ use lib.Dec.{ltb, eqb}
 use lib.ListN.{length, length-map}
 use borrow.Author.Tests.{ltb-true, ltb-false, le-leb, eqb-true, not-true}
 use Rattle.lists.specs.Padded.{any, every, first}
-use Rattle.lists.specs.Counted.{firstFrom}
 use Rattle.lists.proofs.Cond.{and-left, and-right, or-then}
-use Rattle.lists.proofs.Counting.{first-low, first-high}
 use Rattle.lists.proofs.Every.{every-first, every-head}
 use Rattle.lists.proofs.Some.{any-first}
 use Rattle.rules.specs.declared.Request.{Request}
 use Rattle.rules.specs.declared.Request.the-variants.{Line}
 use Rattle.rules.specs.Shape.{Queues, Hierarchy, figuresAllowed, fits, noLoad, noStore, isFreeLoad, isFreeStore}
 use Rattle.rules.specs.Calls.{widthAllowed, passes, accessChecks, waitingAt, committedStore, oldestStore, storeReady}
-use Rattle.rules.specs.WellFormed.{wellFormed, loadPasses, storePasses, freeStoreZero, freeLoadZero, committedWaitAt, waitingUncoveredAt, requestAbsent, requestInside, requestWanted}
+use Rattle.rules.specs.WellFormed.{loadPasses, storePasses, freeStoreZero, freeLoadZero, committedWaitAt, waitingUncoveredAt, requestAbsent, requestInside, requestWanted}
 use Rattle.rules.proofs.QueueView.{Parts, parts, goodLoad, goodStore, goodRequest, load-passes, store-passes, good-load, good-store}
-use Rattle.model.specs.State.{queuesOf, hierarchyOf, Shaped, InOneLine}
-use Rattle.rules.proofs.LineFacts.{fits-tells, good-tells}
+use Rattle.model.specs.State.{queuesOf, hierarchyOf, Formed, Shaped, InOneLine}
+use Rattle.rules.proofs.LineFacts.{Fits, fits-tells, good-tells}
 use Rattle.line_checks.proofs.Figures.{Figured, figures-tell}
-use Rattle.model.specs.Tables.{DirtyInside}
+use Rattle.line_bytes.specs.Writes.{DirtyInside}
+use Rattle.records.specs.Records.{hasRoom}
+use Rattle.records.proofs.Places.{has-room}
 use Rattle.model.specs.declared.State.{State}
 use Rattle.access.proofs.AccessChecks.{width-cases}
-use Rattle.model.proofs.CacheLoops.{dirty-inside}
+use Rattle.model.proofs.Leaves.{dirty-inside}
 
 -- ---- widths and accesses
 
@@ -73,6 +73,10 @@ module _ (s : State) (cache memory : List ℕ) (f : fits (hierarchyOf s cache me
       let g = fit-figures in
       record { some-set = g .some-set; some-way = g .some-way; room = g .room; cache-long = fit-cache }
 
+-- there is room for the figures
+pub shaped-room : (s : State) (n : ℕ) → Shaped s n → hasRoom (s .figures) ≡ true
+shaped-room s n h = has-room (s .figures) (h .some-set) (h .some-way) (h .room)
+
 -- the same, with no cache at hand
 pub shaped-self : (s : State) (n : ℕ) → Shaped s n → Shaped s (s .figures .sets * s .figures .ways * 16)
 shaped-self s n h =
@@ -83,23 +87,6 @@ shaped-self s n h =
 -- its length, from that of its values
 pub length-of : (X Y : Type 0) (f : X → Y) (l : List X) (n : ℕ) → length (map f l) ≡ n → length l ≡ n
 length-of X Y f l n e = sym (length-map l f) ∙ e
-
--- ---- where a search ends
-
-pub found-low : (p : ℕ → Bool) (f n r : ℕ) → r ≡ firstFrom p f n → (f ≤ r) × (r ≤ f + n)
-found-low p f n r e = (omega (arith, first-low p n f), omega (arith, first-high p n f))
-
--- the slots from f on, w of them, are among the slots in use
-pub slot-low : (f w n : ℕ) → f + w ≤ n → n ≤ 256 → f + w ≤ 256
-slot-low f w n p q = omega arith
-
--- the bytes of such a slot are in the cache
-pub slot-bytes : (v f w n k : ℕ) → v < f + w → f + w ≤ n → k ≡ n * 16 → 16 * v + 16 ≤ k
-slot-bytes v f w n k p q e = omega arith
-
--- a line of memory
-pub line-low : (l k : ℕ) → 16 * l + 16 ≤ k → k ≤ 65536 → l < 4096
-line-low l k p q = omega arith
 
 -- ---- entries of a well-formed state
 
@@ -133,27 +120,24 @@ module _ (q : Queues) (b : Hierarchy) (small : b .size ≤ 65536) (p : Parts q b
       ltb-true (16 * l) (b .size) (and-left _ _ (and-right (requestAbsent (Line l) b) _ w))
 
 -- what a well-formed state that requests line l leaves to the fill
-pub record Filling (s : State) (l cacheLength memoryLength : ℕ) : Type 0 where
-  pub some-set : 0 < s .figures .sets
-  pub some-way : 0 < s .figures .ways
-  pub room : s .figures .sets * s .figures .ways ≤ 256
-  pub cache-long : cacheLength ≡ s .figures .sets * s .figures .ways * 16
-  pub inside : 16 * l + 16 ≤ memoryLength
-  pub small : memoryLength ≤ 65536
-  pub dirty-lines : DirtyInside (s .tags) 256 memoryLength
+pub record Filling (b : Hierarchy) (l : ℕ) : Type 0 where
+  pub fit : Fits b
+  pub room : hasRoom (b .figures) ≡ true
+  pub inside : 16 * l + 16 ≤ length (b .memory)
+  pub low : l < 4096
+  pub dirty-lines : DirtyInside (b .tags) 256 (length (b .memory))
 
 pub filling :
-    (s : State) (cache memory : List ℕ) (l : ℕ) → wellFormed (queuesOf s) (hierarchyOf s cache memory) ≡ true → s .request ≡ Line l
-    → Filling s l (length cache) (length memory)
+    (s : State) (cache memory : List ℕ) (l : ℕ) → Formed s cache memory → s .request ≡ Line l → Filling (hierarchyOf s cache memory) l
 filling s cache memory l g e =
-    let p = parts (queuesOf s) (hierarchyOf s cache memory) g in
+    let b = hierarchyOf s cache memory in
+    let p = parts (queuesOf s) b g in
     let f = fit-figures s cache memory (p .fit) in
+    let asked = request-inside (queuesOf s) b (f .most-size) p l e in
     record {
-      some-set = f .some-set;
-      some-way = f .some-way;
-      room = f .room;
-      cache-long = fit-cache s cache memory (p .fit);
-      inside = omega (arith, request-inside (queuesOf s) (hierarchyOf s cache memory) (f .most-size) p l e, f .whole-lines, fit-memory s cache memory (p .fit));
-      small = omega (arith, f .most-size, fit-memory s cache memory (p .fit));
-      dirty-lines = dirty-inside (hierarchyOf s cache memory) (fits-tells _ (p .fit)) (good-tells _ (p .lines)) 256;
+      fit = fits-tells _ (p .fit);
+      room = has-room (s .figures) (f .some-set) (f .some-way) (f .room);
+      inside = omega (arith, asked, f .whole-lines, fit-memory s cache memory (p .fit));
+      low = omega (arith, asked, f .most-size);
+      dirty-lines = dirty-inside b (fits-tells _ (p .fit)) (good-tells _ (p .lines)) 256;
     }

@@ -1,4 +1,4 @@
-pub mod CacheLoops
+pub mod Leaves
 pub mod Calls
 pub mod Facts
 pub mod Reading

@@ -8,10 +8,10 @@ use lib.Dec.{ltb}
 use lib.ListN.{length, set, take, drop, replicate, length-take, length-drop, length-replicate}
 use lib.Seq.{set-set, ext-getD, getD-take, getD-drop}
 use borrow.Author.Tests.{lt-ltb, le-ltb, eq-eqb, ne-eqb, not-true}
-use Rattle.lists.specs.Padded.{any, first, filter, shifted}
+use Rattle.lists.specs.Padded.{any, first, shifted}
 use Rattle.lists.specs.Bytes.{overlaid}
-use Rattle.lists.specs.Counted.{firstFrom, eachFrom}
-use Rattle.lists.proofs.Cond.{cases, and-left, wrong, or-left, or-right}
+use Rattle.lists.specs.Counted.{eachFrom}
+use Rattle.lists.proofs.Cond.{cases, cond-then, and-left, and-both, wrong, or-left, or-right}
 use Rattle.lists.proofs.Counting.{each-length, each-at}
 use Rattle.lists.proofs.Some.{any-first}
 use Rattle.rules.specs.declared.Figures.{Figures}
@@ -20,14 +20,18 @@ use Rattle.rules.specs.declared.LoadEntry.{LoadEntry}
 use Rattle.rules.specs.declared.StoreEntry.{StoreEntry}
 use Rattle.rules.specs.declared.Request.the-variants.{Free, Line}
 use Rattle.rules.specs.Shape.{Queues, Hierarchy, holding, noStore, noLoad, isFreeLoad, lineOf, slots, firstSlot, tagAt, withDirty}
-use Rattle.rules.specs.Lines.{holdsLine, slotOf, present, placeOf, agedAt, useSlot, putStore, writeStore, writtenBackAt, writeBackSlot, copiedAt, install, victim, fillLine, writeBackAll}
-use Rattle.rules.specs.Calls.{Outcome, wantsLine, oldestStore, storeReady, requestLine, drainOldest, unchanged, idled, idleRule, replyRule, showRule, shown, emptyPart, answeredBy, useEach}
+use Rattle.rules.specs.Lines.{slotOf, present, placeOf, agedAt, useSlot, putStore, writeStore, writtenBackAt, writeBackSlot, copiedAt, install, victim, fillLine, writeBackAll}
+use Rattle.rules.specs.Calls.{Outcome, wantsLine, oldestStore, storeReady, requestLine, drainOldest, unchanged, idled, idleRule, replyRule, showRule, shown, emptyPart, useEach}
 use Rattle.rules.specs.Calls as rules
 use Rattle.rules.specs.Runs.{outcome, answer}
 use Rattle.rules.proofs.Checks.{outcome-by}
 use Rattle.line_checks.specs.Refusal.{hierarchy}
-use Rattle.model.specs.Tables.{tabled, usedTags, victimIn, installedIn, flushedTags, flushedMemory}
-use Rattle.model.proofs.CacheLoops.{used-line, flushed-all, filledAt, fill-copies, victim-slot}
+use Rattle.records.specs.Records.{inSet, tabled, usedTags, installedIn, flushedTags}
+use Rattle.line_bytes.specs.Writes.{flushedMemory, lineWritten, lineFilled, storePut}
+use Rattle.line_bytes.proofs.Writing.{written-inside, written-length, fill-copies, put-inside}
+use Rattle.records.proofs.Answers.{used-line}
+use Rattle.model.proofs.Leaves.{Located, Chosen, present-slot, slot-in-set, flushed-all}
+use Rattle.model.proofs.Facts.{Filling}
 use Rattle.model.specs.State.{bytesFrom, queuesOf, hierarchyOf, worldOf, outcomeOf, idleRequest}
 use Rattle.model.specs.Shows.{partIn, shownPart}
 use Rattle.model.specs.declared.State.{State}
@@ -45,21 +49,6 @@ each-used g size cache memory (l ∷ ls) tags =
     ap (useEach ls) (used-line (lineOf (l .address)) (hierarchy g size tags cache memory))
     ∙ each-used g size cache memory ls (usedTags g (lineOf (l .address)) tags)
     ∙ ap (λ (b : Hierarchy). hierarchy g size (useEach ls b .tags) cache memory) (sym (used-line (lineOf (l .address)) (tabled g tags)))
-
--- the lines of the answered loads, one load further: it uses its line, or it is not answered
-module _ (g : Figures) (k : ℕ) (l : LoadEntry) (ls : List LoadEntry) (tags : List Tag) where
-  pub answered-step :
-      answeredBy k l ≡ true
-      → useEach (filter (answeredBy k) (l ∷ ls)) (tabled g tags) .tags
-      ≡ useEach (filter (answeredBy k) ls) (tabled g (usedTags g (lineOf (l .address)) tags)) .tags
-  unfolding filter useEach
-  answered-step t = rw t (ap (λ (b : Hierarchy). useEach (filter (answeredBy k) ls) b .tags) (used-line (lineOf (l .address)) (tabled g tags)))
-
-  pub other-step :
-      answeredBy k l ≡ false
-      → useEach (filter (answeredBy k) (l ∷ ls)) (tabled g tags) .tags ≡ useEach (filter (answeredBy k) ls) (tabled g tags) .tags
-  unfolding filter
-  other-step t = rw t
 
 -- ---- idle
 
@@ -154,38 +143,31 @@ fill-parts b l v e =
 
 -- the fill, from what each function made
 pub filled-whole :
-    (g : Figures) (tags : List Tag) (cache memory : List ℕ) (l f v n : ℕ) (tags′ : List Tag) (cache′ memory′ : List ℕ)
-    → f ≡ (l % g .sets) * g .ways → v ≡ victimIn tags f (g .ways)
-    → memory′ ≡ eachFrom (writtenBackAt (tagAt tags v) cache v) 0 memory
-    → n ≡ 16 → cache′ ≡ eachFrom (filledAt v (take n (drop (16 * l) memory′))) 0 cache
-    → tags′ ≡ installedIn f (g .ways) v l tags
-    → hierarchy g 0 tags′ cache′ memory′ ≡ fillLine l (hierarchy g 0 tags cache memory)
-filled-whole g tags cache memory l f v n tags′ cache′ memory′ at-first found m e c t =
-    let b : Hierarchy = hierarchy g 0 tags cache memory in
-    let whole = fill-parts b l v (victim-slot b l f v at-first found) in
-    let copied : cache′ ≡ eachFrom (copiedAt memory′ v l) 0 cache = c ∙ rw e (fill-copies memory′ v l cache) in
-    rw (whole, t, copied, m, ← at-first)
-
--- the memory length plays no part in it
-fill-sized :
-    (l : ℕ) (b : Hierarchy)
-    → (let f : Hierarchy = fillLine l (hierarchy (b .figures) 0 (b .tags) (b .cache) (b .memory)) in holding b (f .tags) (f .cache) (f .memory))
-    ≡ fillLine l b
-unfolding fillLine install writeBackSlot useSlot victim
-fill-sized l b = refl
+    (b : Hierarchy) (l f v n : ℕ) (tags : List Tag) (cache memory : List ℕ) → Filling b l → Chosen b l f v
+    → memory ≡ lineWritten (tagAt (b .tags) v) v (b .cache) (b .memory)
+    → n ≡ 16 → cache ≡ lineFilled v (take n (drop (16 * l) memory)) (b .cache)
+    → tags ≡ cond (inSet f (b .figures .ways) v && ltb l 65536) (installedIn f (b .figures .ways) v l (b .tags)) (b .tags)
+    → holding b tags cache memory ≡ fillLine l b
+filled-whole b l f v n tags cache memory g h m e c t =
+    let slot : 16 * v + 16 ≤ length (b .cache) = omega (arith, h .high, h .within, g .fit .cache-long) in
+    let written : memory ≡ eachFrom (writtenBackAt (tagAt (b .tags) v) (b .cache) v) 0 (b .memory) =
+    m ∙ written-inside (tagAt (b .tags) v) v (b .cache) (b .memory) slot (g .dirty-lines v (omega (arith, h .high, h .within, h .room))) in
+    let long : 16 * l + 16 ≤ length memory = rw (m, written-length) (g .inside) in
+    let copied : cache ≡ eachFrom (copiedAt memory v l) 0 (b .cache) = c ∙ rw e (fill-copies memory v l (b .cache) slot long) in
+    let in-range : (inSet f (b .figures .ways) v && ltb l 65536) ≡ true =
+    and-both _ _ (slot-in-set b f v (h .within) (h .room) (h .low) (h .high)) (lt-ltb l 65536 (omega (arith, g .low))) in
+    let installed : tags ≡ installedIn f (b .figures .ways) v l (b .tags) = t ∙ sym (cond-then _ _ in-range) in
+    rw (fill-parts b l v (h .slot), installed, copied, written, ← (h .first))
 
 -- the whole reply
 pub filled-state :
     (s : State) (cache memory : List ℕ) (l : ℕ) (tags : List Tag) (cache′ memory′ : List ℕ)
     → s .request ≡ Line l
-    → hierarchy (s .figures) 0 tags cache′ memory′ ≡ fillLine l (hierarchy (s .figures) 0 (s .tags) cache memory)
+    → holding (hierarchyOf s cache memory) tags cache′ memory′ ≡ fillLine l (hierarchyOf s cache memory)
     → outcomeOf (record { answer = Filled (l * 16); next = record { figures = s .figures; size = s .size; last = s .last; committed = s .committed; request = Free; stores = s .stores; loads = s .loads; tags = tags } }) cache′ memory′
     ≡ replyRule (queuesOf s) (hierarchyOf s cache memory)
 unfolding replyRule
-filled-state s cache memory l tags cache′ memory′ r e =
-    let whole : hierarchy (s .figures) (s .size) tags cache′ memory′ ≡ fillLine l (hierarchyOf s cache memory) =
-    ap (λ (f : Hierarchy). hierarchy (s .figures) (s .size) (f .tags) (f .cache) (f .memory)) e ∙ fill-sized l (hierarchyOf s cache memory) in
-    rw (r, ← whole)
+filled-state s cache memory l tags cache′ memory′ r e = rw (r, ← e)
 
 -- ---- drain
 
@@ -212,14 +194,21 @@ drained-state s cache memory e tags cache′ stores o w p =
 
 -- the bytes and the records of a store that is written, from what each function made
 pub written-whole :
-    (g : Figures) (tags : List Tag) (cache : List ℕ) (e : StoreEntry) (f v : ℕ) (dirty used : List Tag) (cache′ : List ℕ)
-    → f ≡ (lineOf (e .address) % g .sets) * g .ways → v ≡ firstFrom (λ k. holdsLine (lineOf (e .address)) (tagAt tags k)) f (g .ways)
-    → cache′ ≡ eachFrom (overlaid (16 * v + e .address % 16) (e .width) (e .value)) 0 cache
-    → dirty ≡ set tags v (withDirty true (tagAt tags v))
-    → used ≡ eachFrom (agedAt f (g .ways) v (tagAt dirty v .age)) 0 dirty
-    → hierarchy g 0 used cache′ [] ≡ writeStore e (hierarchy g 0 tags cache [])
-unfolding writeStore putStore useSlot slotOf
-written-whole g tags cache e f v dirty used cache′ at-first found c d u = rw (u, d, c, found, at-first)
+    (b : Hierarchy) (e : StoreEntry) (f v : ℕ) (dirty used : List Tag) (cache : List ℕ)
+    → Located b (lineOf (e .address)) f v → present b (lineOf (e .address)) ≡ true
+    → e .width ≤ 4 → e .address % 16 + e .width ≤ 16 → length (b .cache) ≡ slots b * 16
+    → cache ≡ storePut (16 * v + e .address % 16) (e .width) (e .value) (b .cache)
+    → dirty ≡ set (b .tags) v (withDirty true (tagAt (b .tags) v))
+    → used ≡ cond (inSet f (b .figures .ways) v) (eachFrom (agedAt f (b .figures .ways) v (tagAt dirty v .age)) 0 dirty) dirty
+    → holding b used cache (b .memory) ≡ writeStore e b
+unfolding writeStore putStore useSlot
+written-whole b e f v dirty used cache h here narrow one-line long c d u =
+    let high = present-slot b (lineOf (e .address)) f v h here in
+    let put : cache ≡ eachFrom (overlaid (16 * v + e .address % 16) (e .width) (e .value)) 0 (b .cache) =
+    c ∙ put-inside _ _ _ (b .cache) narrow (omega (arith, h .within)) in
+    let aged : used ≡ eachFrom (agedAt f (b .figures .ways) v (tagAt dirty v .age)) 0 dirty =
+    u ∙ sym (cond-then _ _ (slot-in-set b f v (h .within) (h .room) (h .low) high)) in
+    rw (aged, d, put, h .slot, h .first)
 
 -- ---- flush
 

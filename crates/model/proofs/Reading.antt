@@ -1,28 +1,25 @@
 -- What a load reads, byte by byte, is the rules' value: its line is looked up once.
-use Prim.Native.Nat.{ℕ, zero, suc, _+_, _*_, _-_, _/_, _%_, _^_, _<_, _≤_}
-use mathlib.Core.Path.{_≡_, refl, sym, _∙_, ap, ap₂}
-use mathlib.Core.Bool.{Bool, true, false, cond}
+use Prim.Native.Nat.{ℕ, zero, suc, _+_, _*_, _-_, _%_, _<_, _≤_}
+use mathlib.Core.Path.{_≡_, refl, _∙_, ap, ap₂}
+use mathlib.Core.Bool.{Bool, true}
 use mathlib.Core.List.{List}
 use mathlib.Core.Option.{Option, some, none}
 use native.Mathlib.Omega.{arith}
-use native.Mathlib.Nat.{mod-lt, mod-eq-of-lt, pow-suc}
 use lib.Dec.{ltb}
-use lib.ListN.{getD}
-use Rattle.lists.specs.Padded.{any, final}
-use Rattle.lists.specs.Bytes.{byteOf, addByte, gather}
-use Rattle.lists.proofs.Cond.{cases, either}
+use lib.ListN.{length}
+use borrow.Author.Tests.{ltb-true}
+use Rattle.lists.specs.Bytes.{addByte, gather}
 use Rattle.rules.specs.declared.StoreEntry.{StoreEntry}
-use Rattle.rules.specs.Shape.{Hierarchy, noStore, lineOf, firstSlot}
+use Rattle.rules.specs.Shape.{Hierarchy, lineOf, slots, firstSlot}
 use Rattle.rules.specs.Lines.{slotOf, present, placeOf, cachedByte}
-use Rattle.rules.specs.Forward.{olderCovers, storeByte, loadByte, loadValue}
-use Rattle.rules.specs.Calls.{isNone, loadAnswer}
-use Rattle.model.specs.State.{InOneLine, answerOf}
-use Rattle.store_queue.specs.Forwarded.{forwarded}
-use Rattle.model.specs.Reads.{byteAs, readOf, byteFrom, byteOrLine, joinedTo, isLacking, answerTo}
-use Rattle.store_queue.specs.declared.Byte.the-variants.{Known, Unknown}
-use Rattle.model.specs.declared.read.Read.the-variants.{Whole, Lacking}
+use Rattle.rules.specs.Forward.{loadByte, loadValue}
+use Rattle.rules.specs.Calls.{loadAnswer}
+use Rattle.line_bytes.specs.Reads.{readOf, byteFrom, readable, bytesRead}
+use Rattle.line_bytes.proofs.Reading.{is-readable, read-inside}
+use Rattle.model.specs.State.{InOneLine, answerOf, answerTo}
+use Rattle.model.proofs.Leaves.{Located}
 
--- ---- values put together from bytes
+-- ---- the value
 
 -- bytes that agree give the same value
 gather-same : (f g : ℕ → Option ℕ) (w a : ℕ) → ((x : ℕ) → a ≤ x → x < a + w → f x ≡ g x) → gather f a w ≡ gather g a w
@@ -30,73 +27,6 @@ unfolding gather
 gather-same f g zero a h = refl
 gather-same f g (suc w) a h =
     ap₂ addByte (h a (omega arith) (omega arith)) (gather-same f g w (suc a) (λ x l u. h x (omega arith) (omega arith)))
-
--- every known byte is below 256
-abbrev pub Small : (ℕ → Option ℕ) → Type 0
-Small f = (x y : ℕ) → f x ≡ some y → y < 256
-
--- so is the value below 256 to the power of the width
-gather-small : (f : ℕ → Option ℕ) → Small f → (w a v : ℕ) → gather f a w ≡ some v → v < 256 ^ w
-unfolding gather addByte
-gather-small f h zero a v e = let z : _≡_ {A = ℕ} 0 v = cc in omega arith
-gather-small f h (suc w) a v e = go (f a) refl (gather f (suc a) w) (λ y q. gather-small f h w (suc a) y q) e
-  where
-    go : (x : Option ℕ) → f a ≡ x → (y : Option ℕ) → ((z : ℕ) → y ≡ some z → z < 256 ^ w) → addByte x y ≡ some v → v < 256 ^ suc w
-    go none p y q e = let z : _≡_ {A = ℕ} 0 1 = cc in let no : ⊥ = omega arith in absurd no
-    go (some x) p none q e = let z : _≡_ {A = ℕ} 0 1 = cc in let no : ⊥ = omega arith in absurd no
-    go (some x) p (some y) q e =
-        let z : x + 256 * y ≡ v = cc in
-        let s : 256 ^ suc w ≡ 256 ^ w * 256 = pow-suc 256 w in
-        omega (arith, h a x p, q y refl)
-
--- a lowest byte joins what stands above it
-pub joined-gather : (f : ℕ → Option ℕ) → Small f → (n a : ℕ) → n ≤ 3 → joinedTo (byteAs (f a)) (readOf (gather f (suc a) n)) ≡ readOf (gather f a (suc n))
-unfolding gather addByte
-joined-gather f h n a l = go (f a) (gather f (suc a) n) refl
-  where
-    three : (n : ℕ) → n ≤ 3 → 256 ^ n ≤ 16777216
-    three zero l = omega arith
-    three (suc zero) l = omega arith
-    three (suc (suc zero)) l = omega arith
-    three (suc (suc (suc zero))) l = omega arith
-    three (suc (suc (suc (suc n)))) l = let no : ⊥ = omega arith in absurd no
-
-    go : (x y : Option ℕ) → gather f (suc a) n ≡ y → joinedTo (byteAs x) (readOf y) ≡ readOf (addByte x y)
-    go none none q = refl
-    go none (some y) q = refl
-    go (some x) none q = refl
-    go (some x) (some y) q =
-        let b : y < 16777216 = omega (arith, gather-small f h n (suc a) y q, three n l) in
-        let m : y % 16777216 ≡ y = mod-eq-of-lt b in
-        let e : y % 16777216 * 256 + x ≡ x + 256 * y = omega arith in
-        ap Whole e
-
--- ---- one byte
-
-module _ (i a : ℕ) (ss : List StoreEntry) (cache : List ℕ) (p : ℕ) (here : Bool) where
-  -- the byte that the code reads
-  pub byte-from : (x : ℕ) → byteOrLine i x ss cache (p + (x - a)) here ≡ byteAs (byteFrom i a ss cache p here x)
-  unfolding byteOrLine byteFrom
-  byte-from x = cases (any (olderCovers i x) ss) (λ e. rw e) (λ e. cases here (λ h. rw (e, h)) (λ h. rw (e, h)))
-
-  pub from-small : ((j : ℕ) → getD cache j 0 < 256) → Small (byteFrom i a ss cache p here)
-  unfolding byteFrom byteOf
-  from-small b x =
-      either (λ (o : Option ℕ). (y : ℕ) → o ≡ some y → y < 256) (any (olderCovers i x) ss)
-      (λ t y e.
-      let z : byteOf (x - s .address) (s .value) ≡ y = cc in
-      omega (arith, mod-lt (s .value / 256 ^ (x - s .address)) some-bytes))
-      (λ t. either (λ (o : Option ℕ). (y : ℕ) → o ≡ some y → y < 256) here
-      (λ h y e. let z : getD cache (p + (x - a)) 0 ≡ y = cc in omega (arith, b (p + (x - a))))
-      (λ h y e. let z : _≡_ {A = ℕ} 0 1 = cc in let no : ⊥ = omega arith in absurd no))
-    where
-      s : StoreEntry
-      s = final (olderCovers i x) noStore ss
-
-      some-bytes : 0 < 256
-      some-bytes = omega arith
-
--- ---- the value
 
 module _ (i a w : ℕ) (ss : List StoreEntry) (b : Hierarchy) (f : InOneLine a w) where
   -- where the line of the access stands, and whether it does
@@ -114,45 +44,26 @@ module _ (i a w : ℕ) (ss : List StoreEntry) (b : Hierarchy) (f : InOneLine a w
       let m : 16 * slotOf b (lineOf a) + a % 16 + (x - a) ≡ 16 * slotOf b (lineOf a) + x % 16 = omega (arith, f .one-line) in
       rw (e, m)
 
-  pub read-value : gather (byteFrom i a ss (b .cache) place there) a w ≡ loadValue i a w ss b
+  read-value : gather (byteFrom i a ss (b .cache) place there) a w ≡ loadValue i a w ss b
   unfolding loadValue
   read-value = gather-same (byteFrom i a ss (b .cache) place there) (loadByte i ss b) w a one-byte
 
--- ---- a byte from the held stores, else from the line
+  -- what `read_bytes` answers, when it is told where the line was looked for
+  pub read-located :
+      (g v : ℕ) → Located b (lineOf a) g v → length (b .cache) ≡ slots b * 16
+      → bytesRead i a w ss (b .cache) (16 * v + a % 16) (ltb v (g + b .figures .ways)) ≡ readOf (loadValue i a w ss b)
+  read-located g v h long =
+      let r : readable a w (16 * v + a % 16) (ltb v (g + b .figures .ways)) (length (b .cache)) ≡ true = is-readable _ _ _ _ _ (record {
+        narrow = f .narrow;
+        low = f .inside;
+        place-low = omega (arith, h .high, h .within, h .room);
+        in-cache = λ t. omega (arith, ltb-true v (g + b .figures .ways) t, h .within, f .one-line);
+      }) in
+      let value : gather (byteFrom i a ss (b .cache) (16 * v + a % 16) (ltb v (g + b .figures .ways))) a w ≡ loadValue i a w ss b = rw (h .slot, h .first) read-value in
+      read-inside i a w ss (b .cache) _ _ r ∙ ap readOf value
 
-module _ (i a : ℕ) (ss : List StoreEntry) (cache : List ℕ) (p : ℕ) (here : Bool) where
-  pub known-byte : (x : ℕ) → forwarded i a ss ≡ Known x → Known x ≡ byteOrLine i a ss cache p here
-  unfolding forwarded byteOrLine
-  known-byte x e = cases (any (olderCovers i a) ss)
-      (λ t. rw t (sym (rw t at e)))
-      (λ t. let z : Unknown ≡ Known x = rw t at e in let n : _≡_ {A = ℕ} 0 1 = cc in let no : ⊥ = omega arith in absurd no)
-
-  unknown-byte : forwarded i a ss ≡ Unknown → cond here (Known (getD cache p 0)) Unknown ≡ byteOrLine i a ss cache p here
-  unfolding forwarded byteOrLine
-  unknown-byte e = cases (any (olderCovers i a) ss)
-      (λ t. let z : Known (storeByte (final (olderCovers i a) noStore ss) a) ≡ Unknown = rw t at e in let n : _≡_ {A = ℕ} 0 1 = cc in let no : ⊥ = omega arith in absurd no)
-      (λ t. rw t)
-
-  pub line-byte : forwarded i a ss ≡ Unknown → here ≡ true → Known (getD cache p 0) ≡ byteOrLine i a ss cache p here
-  line-byte e h = ap (λ (t : Bool). cond t (Known (getD cache p 0)) Unknown) (sym h) ∙ unknown-byte e
-
-  pub no-byte : forwarded i a ss ≡ Unknown → here ≡ false → Unknown ≡ byteOrLine i a ss cache p here
-  no-byte e h = ap (λ (t : Bool). cond t (Known (getD cache p 0)) Unknown) (sym h) ∙ unknown-byte e
-
--- ---- a load's answer and its mark
+-- ---- a load's answer
 
 pub answer-read : (i : ℕ) (o : Option ℕ) (cache : List ℕ) → answerOf (answerTo i (readOf o)) cache ≡ loadAnswer i o
 answer-read i none cache = refl
 answer-read i (some v) cache = refl
-
-pub lacking-read : (o : Option ℕ) → isLacking (readOf o) ≡ isNone o
-lacking-read none = refl
-lacking-read (some v) = refl
-
-pub lacks : (o : Option ℕ) → readOf o ≡ Lacking → o ≡ none
-lacks none e = refl
-lacks (some v) e = let n : _≡_ {A = ℕ} 0 1 = cc in let no : ⊥ = omega arith in absurd no
-
-pub whole-of : (o : Option ℕ) (v : ℕ) → readOf o ≡ Whole v → o ≡ some v
-whole-of none v e = let n : _≡_ {A = ℕ} 0 1 = cc in let no : ⊥ = omega arith in absurd no
-whole-of (some x) v e = let z : x ≡ v = cc in ap some z

@@ -1,5 +1,3 @@
-pub mod Tables
 pub mod State
-pub mod Reads
 pub mod Starts
 pub mod Shows

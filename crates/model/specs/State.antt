@@ -1,17 +1,25 @@
 -- The state as a struct, beside the two halves of the rules; answers and calls of the code as those of the rules.
 use Prim.Native.Nat.{ℕ, _+_, _*_, _%_, _<_, _≤_}
 use mathlib.Core.Path.{_≡_}
-use mathlib.Core.Bool.{cond, not}
+use mathlib.Core.Bool.{Bool, true, false, cond, not}
 use mathlib.Core.List.{List, [], _∷_}
 use lib.ListN.{getD, replicate}
 use Rattle.lists.specs.Counted.{eachFrom}
 use Rattle.lists.specs.Padded.{any}
+use Rattle.rules.specs.declared.Figures.{Figures}
+use Rattle.rules.specs.declared.Tag.{Tag}
+use Rattle.rules.specs.declared.StoreEntry.{StoreEntry}
 use Rattle.rules.specs.declared.Request.{Request}
 use Rattle.rules.specs.declared.Request.the-variants.{Free}
-use Rattle.rules.specs.Shape.{Queues, Hierarchy, World, world, tableSize, storePlaces, loadPlaces, noStore, noLoad, noTag, noFigures, isFreeStore}
+use Rattle.rules.specs.Shape.{Queues, Hierarchy, World, world, tableSize, storePlaces, loadPlaces, noStore, noLoad, noTag, noFigures, isFreeStore, lineOf}
+use Rattle.rules.specs.Lines.{present}
 use Rattle.rules.specs.Calls.{Outcome, guarded}
 use Rattle.rules.specs.Calls as rules
+use Rattle.rules.specs.WellFormed.{wellFormed}
 use Rattle.rules.specs.Runs.{outcome}
+use Rattle.records.specs.Records.{tabled}
+use Rattle.line_bytes.specs.declared.Read.{Read}
+use Rattle.line_bytes.specs.declared.Read.the-variants.{Whole, Lacking}
 use Rattle.model.specs.declared.State.{State}
 use Rattle.model.specs.declared.Step.{Step}
 use Rattle.model.specs.declared.Call.{Call}
@@ -41,6 +49,10 @@ hierarchyOf s cache memory = record {
 
 abbrev pub worldOf : State → List ℕ → List ℕ → World
 worldOf s cache memory = world (queuesOf s) (hierarchyOf s cache memory)
+
+-- the state is well formed, with this cache and this memory
+abbrev pub Formed : State → List ℕ → List ℕ → Type 0
+Formed s cache memory = wellFormed (queuesOf s) (hierarchyOf s cache memory) ≡ true
 
 -- the state that is all zero
 abbrev pub noState : State
@@ -89,6 +101,11 @@ answerOf (Filled a) cache = rules.filled a
 answerOf (Flushed k) cache = rules.flushed k
 answerOf (Shown p n) cache = rules.shown p (bytesFrom p n cache)
 
+-- what load i answers to what it read
+abbrev pub answerTo : ℕ → Read → Answer
+answerTo i (Whole v) = Value i v
+answerTo i Lacking = Waits i
+
 -- what a call hands back, with the cache and the memory that it leaves
 abbrev pub outcomeOf : Step → List ℕ → List ℕ → Outcome
 outcomeOf r cache memory =
@@ -111,6 +128,18 @@ callOf Reply = rules.reply
 callOf Flush = rules.flush
 callOf (Show a) = rules.show a
 
+-- the call only reads the lent bytes
+abbrev pub readsOnly : Call → Bool
+readsOnly (Load a w) = true
+readsOnly (Store a w v) = true
+readsOnly (Retry i) = true
+readsOnly (Commit k) = true
+readsOnly (Abort n) = true
+readsOnly Idle = false
+readsOnly Reply = false
+readsOnly Flush = false
+readsOnly (Show a) = true
+
 -- ---- what check 1 and the access checks leave to the functions behind them
 
 pub record Shaped (s : State) (cacheLength : ℕ) : Type 0 where
@@ -118,6 +147,16 @@ pub record Shaped (s : State) (cacheLength : ℕ) : Type 0 where
   pub some-way : 0 < s .figures .ways
   pub room : s .figures .sets * s .figures .ways ≤ 256
   pub cache-long : cacheLength ≡ s .figures .sets * s .figures .ways * 16
+
+-- what is left to the writing of a store whose line is present
+pub record Writable (g : Figures) (tags : List Tag) (e : StoreEntry) (cacheLength : ℕ) : Type 0 where
+  pub some-set : 0 < g .sets
+  pub some-way : 0 < g .ways
+  pub room : g .sets * g .ways ≤ 256
+  pub cache-long : cacheLength ≡ g .sets * g .ways * 16
+  pub narrow : e .width ≤ 4
+  pub one-line : e .address % 16 + e .width ≤ 16
+  pub here : present (tabled g tags) (lineOf (e .address)) ≡ true
 
 -- an access lies in one line of memory
 pub record InOneLine (a w : ℕ) : Type 0 where

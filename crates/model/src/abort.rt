@@ -4,7 +4,7 @@ ghost use mathlib.Core.List.{List};
 ghost use Prim.Native.Nat.{ℕ, _<_};
 ghost use Rattle.rules.specs.Calls.{abortRule};
 ghost use Rattle.rules.specs.Calls as rules;
-ghost use Rattle.model.specs.State.{queuesOf, hierarchyOf, outcomeOf, Does, worldOf};
+ghost use Rattle.model.specs.State.{queuesOf, hierarchyOf, outcomeOf, Does, worldOf, Formed};
 use crate::Answer;
 use crate::State;
 use crate::Step;
@@ -30,6 +30,20 @@ impl State {
         }
     }
 
+    // An abort on a well-formed state: check 16, then the abort.
+    pub(crate) fn abort_formed(self, cache: &[u8], memory: &[u8], n: u32) -> Step
+        requires { ⌜ Formed self (now cache) (now memory) ⌝ }
+        ensures { λ r. ⌜ Does (rules.abort n) (worldOf self (now (cache .entry)) (now (memory .entry))) r (now (cache .entry)) (now (memory .entry)) ⌝ }
+    {
+        if n <= self.committed {
+            return self.refused(BAD_ABORT);
+        }
+        if self.last < n - 1 {
+            return self.refused(BAD_ABORT);
+        }
+        self.abort_accepted(n)
+    }
+
     // Abort from number n on. Refused: 1, 10, 16.
     pub fn abort(self, cache: &[u8], memory: &[u8], n: u32) -> Step
         ensures { λ r. ⌜ Does (rules.abort n) (worldOf self (now (cache .entry)) (now (memory .entry))) r (now (cache .entry)) (now (memory .entry)) ⌝ }
@@ -38,12 +52,6 @@ impl State {
         if k != 0 {
             return self.refused(k);
         }
-        if n <= self.committed {
-            return self.refused(BAD_ABORT);
-        }
-        if self.last < n - 1 {
-            return self.refused(BAD_ABORT);
-        }
-        self.abort_accepted(n)
+        self.abort_formed(cache, memory, n)
     }
 }

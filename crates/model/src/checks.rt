@@ -1,36 +1,22 @@
 // Checks 1 and 10 of a state: the lines first, with the figures and the lent lengths, then the queues and the register. And what calls
-// share: whether a line is present, a refusal, and the state with another register.
+// share: a refusal, and the state with another register.
 ghost use mathlib.Core.Path.{_≡_};
 ghost use mathlib.Core.Bool.{_&&_};
 ghost use Prim.Native.Nat.{_*_};
-ghost use Rattle.rules.specs.Lines.{present};
 ghost use Rattle.rules.specs.Calls.{guarded};
-ghost use Rattle.rules.specs.WellFormed.{requestAbsent, requestInside, requestWanted};
+ghost use Rattle.rules.specs.WellFormed.{requestAbsent, requestInside, requestWanted, wellFormed};
 ghost use Rattle.rules.specs.Runs.{stateChecks};
-ghost use Rattle.model.specs.Tables.{tabled};
+ghost use Rattle.records.specs.Records.{tabled};
 ghost use Rattle.access.specs.AccessChecks.{sized};
 ghost use Rattle.model.specs.State.{queuesOf, hierarchyOf, withRegister, Shaped};
 use crate::Answer;
 use crate::State;
 use crate::Step;
-use crate::cache;
 use rules::LINE_BYTES;
 use rules::NOT_WELL_FORMED;
 use rules::Request;
 
 impl State {
-    // The line is present.
-    pub(crate) fn is_present(self, line: u32) -> bool
-        requires { ⌜ Shaped self (self .figures .sets * self .figures .ways * 16) ⌝ }
-        ensures { λ r. ⌜ r ≡ present (tabled (self .figures) (self .tags)) line ⌝ }
-    {
-        let tags = self.tags;
-        let figures = self.figures;
-        let ways = figures.ways as usize;
-        let first = cache::first_slot(figures, line);
-        cache::find(tags, first, ways, line) < first + ways
-    }
-
     // A requested line is absent, lies in memory, and is wanted.
     fn is_request_good(self) -> bool
         requires { ⌜ Shaped self (self .figures .sets * self .figures .ways * 16) ⌝ }
@@ -40,7 +26,9 @@ impl State {
         match request {
             Request::Free => true,
             Request::Line(line) => {
-                if self.is_present(line) {
+                let tags = self.tags;
+                let figures = self.figures;
+                if records::is_present(tags, figures, line) {
                     return false;
                 }
                 if self.size as u64 <= (LINE_BYTES as u64) * (line as u64) {
@@ -71,6 +59,13 @@ impl State {
             }
         }
         NOT_WELL_FORMED
+    }
+
+    // Whether checks 1 and 10 pass: the state is well formed, with this cache and this memory.
+    pub fn is_formed(self, cache: &[u8], memory: &[u8]) -> bool
+        ensures { λ r. ⌜ r ≡ wellFormed (queuesOf self) (hierarchyOf self (now (cache .entry)) (now (memory .entry))) ⌝ }
+    {
+        self.state_refusal(cache, memory) == 0
     }
 
     // The same state with another register. (A field that is an enum is not stored to: the state is made anew, here alone.)

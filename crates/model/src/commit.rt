@@ -1,46 +1,14 @@
 // Commit.
 ghost use mathlib.Core.Path.{_≡_};
 ghost use mathlib.Core.List.{List};
-ghost use Prim.Native.Nat.{ℕ, _*_, _<_, _≤_};
-ghost use Rattle.lists.specs.Padded.{filter};
-ghost use Rattle.rules.specs.Calls.{answeredBy, useEach, commitRule};
+ghost use Prim.Native.Nat.{ℕ, _*_};
+ghost use Rattle.rules.specs.Calls.{commitRule};
 ghost use Rattle.rules.specs.Calls as rules;
-ghost use Rattle.model.specs.Tables.{tabled};
-ghost use Rattle.model.specs.State.{queuesOf, hierarchyOf, outcomeOf, Shaped, Does, worldOf};
+ghost use Rattle.model.specs.State.{queuesOf, hierarchyOf, outcomeOf, Shaped, Does, worldOf, Formed};
 use crate::Answer;
 use crate::State;
 use crate::Step;
-use crate::cache;
 use rules::BAD_COMMIT;
-use rules::Figures;
-use rules::LINE_BYTES;
-use rules::LOAD_PLACES;
-use rules::LoadEntry;
-use rules::TAG_RECORDS;
-use rules::Tag;
-
-// The lines of the answered loads numbered k or less are used, in number order.
-fn use_all_answered(
-    tags: [Tag; TAG_RECORDS],
-    figures: Figures,
-    loads: [LoadEntry; LOAD_PLACES],
-    k: u32,
-) -> [Tag; TAG_RECORDS]
-    requires { ⌜ (0 < figures .sets) × (figures .sets * figures .ways ≤ 256) ⌝ }
-    ensures { λ r. ⌜ r ≡ useEach (filter (answeredBy k) loads) (tabled figures tags) .tags ⌝ }
-{
-    let mut out = tags;
-    let mut j: usize = 0;
-    while j < LOAD_PLACES {
-        let l = loads[j];
-        j += 1;
-        if load_queue::is_answered_by(l, k) {
-            let used = cache::use_line(out, figures, l.address / LINE_BYTES);
-            out = used;
-        }
-    }
-    out
-}
 
 impl State {
     // "Commit k sets h to k. Answered loads numbered k or less leave the list in number order, each using its line if the line is present."
@@ -51,7 +19,7 @@ impl State {
         let loads = self.loads;
         let tags = self.tags;
         let figures = self.figures;
-        let used = use_all_answered(tags, figures, loads, k);
+        let used = records::use_answered(tags, figures, loads, k);
         let rest = load_queue::remove_answered(loads, k);
         self.committed = k;
         self.loads = rest;
@@ -62,6 +30,20 @@ impl State {
         }
     }
 
+    // A commit on a well-formed state: check 15, then the commit.
+    pub(crate) fn commit_formed(self, cache: &[u8], memory: &[u8], k: u32) -> Step
+        requires { ⌜ Formed self (now cache) (now memory) ⌝ }
+        ensures { λ r. ⌜ Does (rules.commit k) (worldOf self (now (cache .entry)) (now (memory .entry))) r (now (cache .entry)) (now (memory .entry)) ⌝ }
+    {
+        if k < self.committed {
+            return self.refused(BAD_COMMIT);
+        }
+        if self.last < k {
+            return self.refused(BAD_COMMIT);
+        }
+        self.commit_accepted(k)
+    }
+
     // Commit up to number k. Refused: 1, 10, 15.
     pub fn commit(self, cache: &[u8], memory: &[u8], k: u32) -> Step
         ensures { λ r. ⌜ Does (rules.commit k) (worldOf self (now (cache .entry)) (now (memory .entry))) r (now (cache .entry)) (now (memory .entry)) ⌝ }
@@ -70,12 +52,6 @@ impl State {
         if n != 0 {
             return self.refused(n);
         }
-        if k < self.committed {
-            return self.refused(BAD_COMMIT);
-        }
-        if self.last < k {
-            return self.refused(BAD_COMMIT);
-        }
-        self.commit_accepted(k)
+        self.commit_formed(cache, memory, k)
     }
 }

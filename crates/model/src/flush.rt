@@ -1,33 +1,42 @@
 // Flush.
 ghost use mathlib.Core.Path.{_≡_};
-ghost use mathlib.Core.Bool.{true};
 ghost use Rattle.rules.specs.Calls.{flushRule};
 ghost use Rattle.rules.specs.Calls as rules;
-ghost use Rattle.rules.specs.WellFormed.{wellFormed};
-ghost use Rattle.model.specs.State.{queuesOf, hierarchyOf, outcomeOf, Does, worldOf};
+ghost use Rattle.model.specs.State.{queuesOf, hierarchyOf, outcomeOf, Does, worldOf, Formed};
 use crate::Answer;
 use crate::State;
 use crate::Step;
-use crate::cache;
 use rules::COMMITTED_STORE_HELD;
 
 impl State {
     // "Flush writes every dirty line to memory, marks it clean and answers the number of lines written. Ages stay."
     fn flush_accepted(mut self, cache: &[u8], memory: &mut [u8]) -> Step
-        requires { ⌜ wellFormed (queuesOf self) (hierarchyOf self (now cache) (now memory)) ≡ true ⌝ }
+        requires { ⌜ Formed self (now cache) (now memory) ⌝ }
         ensures { λ r. ⌜ outcomeOf r (now (cache .entry)) (now (memory .exit)) ≡ flushRule (queuesOf self) (hierarchyOf self (now (cache .entry)) (now (memory .entry))) ⌝ }
     {
         let tags = self.tags;
         let figures = self.figures;
         let count = (figures.sets * figures.ways) as usize;
-        let written = cache::dirty_count(tags);
-        cache::write_back_all(tags, count, cache, memory);
-        let clean = cache::clean_all(tags, count);
+        let written = records::dirty_count(tags);
+        line_bytes::write_back_all(tags, count, cache, memory);
+        let clean = records::clean_all(tags, count);
         self.tags = clean;
         Step {
             answer: Answer::Flushed(written),
             next: self,
         }
+    }
+
+    // A flush on a well-formed state: check 18, then the flush.
+    pub(crate) fn flush_formed(self, cache: &[u8], memory: &mut [u8]) -> Step
+        requires { ⌜ Formed self (now cache) (now memory) ⌝ }
+        ensures { λ r. ⌜ Does rules.flush (worldOf self (now (cache .entry)) (now (memory .entry))) r (now (cache .entry)) (now (memory .exit)) ⌝ }
+    {
+        let stores = self.stores;
+        if store_queue::has_committed_store(stores, self.committed) {
+            return self.refused(COMMITTED_STORE_HELD);
+        }
+        self.flush_accepted(cache, memory)
     }
 
     // Flush: every dirty line goes to memory. Refused: 1, 10, 18.
@@ -38,10 +47,6 @@ impl State {
         if k != 0 {
             return self.refused(k);
         }
-        let stores = self.stores;
-        if store_queue::has_committed_store(stores, self.committed) {
-            return self.refused(COMMITTED_STORE_HELD);
-        }
-        self.flush_accepted(cache, memory)
+        self.flush_formed(cache, memory)
     }
 }

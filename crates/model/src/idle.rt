@@ -2,46 +2,25 @@
 ghost use mathlib.Core.Path.{_≡_};
 ghost use mathlib.Core.Bool.{true};
 ghost use mathlib.Core.List.{List, []};
-ghost use Prim.Native.Nat.{ℕ, _*_, _<_};
-ghost use lib.ListN.{length, set};
-ghost use Rattle.lists.specs.Padded.{first};
-ghost use Rattle.rules.specs.Shape.{noLoad, lineOf, tagAt, withDirty};
+ghost use Prim.Native.Nat.{ℕ, _*_};
+ghost use lib.ListN.{length};
+ghost use Rattle.rules.specs.Shape.{lineOf};
 ghost use Rattle.rules.specs.Lines.{present, writeStore};
 ghost use Rattle.line_checks.specs.Refusal.{hierarchy};
-ghost use Rattle.rules.specs.Calls.{wantsLine, oldestStore, storeReady, drainOldest, requestLine};
+ghost use Rattle.rules.specs.Calls.{oldestStore, storeReady, drainOldest, requestLine};
 ghost use Rattle.rules.specs.Calls as rules;
-ghost use Rattle.model.specs.Tables.{tabled, Writable};
-ghost use Rattle.model.specs.State.{queuesOf, hierarchyOf, outcomeOf, Shaped, InOneLine, idleRequest, Does, worldOf};
+ghost use Rattle.records.specs.Records.{tabled};
+ghost use Rattle.model.specs.State.{queuesOf, hierarchyOf, outcomeOf, Shaped, Writable, InOneLine, idleRequest, Does, worldOf, Formed};
 use crate::Answer;
 use crate::State;
 use crate::Step;
-use crate::cache;
 use rules::Figures;
 use rules::LINE_BYTES;
 use rules::LINE_LENGTH;
-use rules::LOAD_PLACES;
-use rules::LoadEntry;
-use rules::NO_LOAD;
 use rules::Request;
 use rules::StoreEntry;
 use rules::TAG_RECORDS;
 use rules::Tag;
-
-// Slot v is marked dirty.
-fn marked_dirty(tags: [Tag; TAG_RECORDS], v: usize) -> [Tag; TAG_RECORDS]
-    requires { ⌜ v < 256 ⌝ }
-    ensures { λ r. ⌜ r ≡ set tags v (withDirty true (tagAt tags v)) ⌝ }
-{
-    let mut out = tags;
-    let t = out[v];
-    out[v] = Tag {
-        valid: t.valid,
-        dirty: true,
-        line: t.line,
-        age: t.age,
-    };
-    out
-}
 
 // "write it, mark the line dirty, use the line": of a store whose line is present.
 fn write_store(
@@ -55,12 +34,12 @@ fn write_store(
 {
     let n = figures.ways as usize;
     let line = s.address / LINE_BYTES;
-    let first = cache::first_slot(figures, line);
-    let slot = cache::find(tags, first, n, line);
+    let first = records::first_slot(figures, line);
+    let slot = records::find(tags, first, n, line);
     let at = LINE_LENGTH * slot + (s.address % LINE_BYTES) as usize;
-    cache::put_store(cache, at, s.width, s.value);
-    let dirty = marked_dirty(tags, slot);
-    let used = cache::use_slot(dirty, first, n, slot);
+    line_bytes::put_store(cache, at, s.width, s.value);
+    let dirty = records::mark_dirty(tags, slot);
+    let used = records::use_slot(dirty, first, n, slot);
     used
 }
 
@@ -94,43 +73,6 @@ impl State {
         }
     }
 
-    // A committed waiting load whose line is absent.
-    fn wants_line(self, l: LoadEntry) -> bool
-        requires { ⌜ Shaped self (self .figures .sets * self .figures .ways * 16) ⌝ }
-        ensures { λ r. ⌜ r ≡ wantsLine (tabled (self .figures) (self .tags)) (self .committed) l ⌝ }
-    {
-        if l.number == 0 {
-            return false;
-        }
-        if self.committed < l.number {
-            return false;
-        }
-        if l.waiting {
-            if self.is_present(l.address / LINE_BYTES) {
-                return false;
-            }
-            return true;
-        }
-        false
-    }
-
-    // The lowest such load, or a free place.
-    fn lowest_wanting(self) -> LoadEntry
-        requires { ⌜ Shaped self (self .figures .sets * self .figures .ways * 16) ⌝ }
-        ensures { λ r. ⌜ r ≡ first (wantsLine (tabled (self .figures) (self .tags)) (self .committed)) noLoad (self .loads) ⌝ }
-    {
-        let loads = self.loads;
-        let mut j: usize = 0;
-        while j < LOAD_PLACES {
-            let l = loads[j];
-            if self.wants_line(l) {
-                return l;
-            }
-            j += 1;
-        }
-        NO_LOAD
-    }
-
     // (b), (c) and (d): what follows where nothing drains. The oldest store is ready, its line is here, as told.
     fn idle_request(self, ready: bool, here: bool, s: StoreEntry) -> Step
         requires { ⌜ Shaped self (self .figures .sets * self .figures .ways * 16) × (ready ≡ storeReady (queuesOf self)) × (s ≡ oldestStore (queuesOf self)) × (here ≡ present (tabled (self .figures) (self .tags)) (lineOf (s .address))) ⌝ }
@@ -143,7 +85,10 @@ impl State {
                 next: self,
             },
             Request::Free => {
-                let l = self.lowest_wanting();
+                let tags = self.tags;
+                let figures = self.figures;
+                let loads = self.loads;
+                let l = records::lowest_wanting(tags, figures, self.committed, loads);
                 if l.number != 0 {
                     return self.request_line(l.address);
                 }
@@ -164,6 +109,27 @@ impl State {
         }
     }
 
+    // Idle on a well-formed state.
+    pub(crate) fn idle_formed(self, cache: &mut [u8], memory: &mut [u8]) -> Step
+        requires { ⌜ Formed self (now cache) (now memory) ⌝ }
+        ensures { λ r. ⌜ Does rules.idle (worldOf self (now (cache .entry)) (now (memory .entry))) r (now (cache .exit)) (now (memory .exit)) ⌝ }
+    {
+        let stores = self.stores;
+        let loads = self.loads;
+        let s = stores[0];
+        let ready = queue_checks::store_ready(stores, loads, self.committed);
+        let tags = self.tags;
+        let figures = self.figures;
+        let here = records::is_present(tags, figures, s.address / LINE_BYTES);
+        if ready {
+            if here {
+                return self.drain_oldest(cache, s);
+            }
+            return self.idle_request(ready, here, s);
+        }
+        self.idle_request(ready, here, s)
+    }
+
     // "Idle does the first that applies." Refused: 1, 10. (Memory is lent to be written, and is left as it was.)
     pub fn idle(self, cache: &mut [u8], memory: &mut [u8]) -> Step
         ensures { λ r. ⌜ Does rules.idle (worldOf self (now (cache .entry)) (now (memory .entry))) r (now (cache .exit)) (now (memory .exit)) ⌝ }
@@ -172,17 +138,6 @@ impl State {
         if k != 0 {
             return self.refused(k);
         }
-        let stores = self.stores;
-        let loads = self.loads;
-        let s = stores[0];
-        let ready = queue_checks::store_ready(stores, loads, self.committed);
-        let here = self.is_present(s.address / LINE_BYTES);
-        if ready {
-            if here {
-                return self.drain_oldest(cache, s);
-            }
-            return self.idle_request(ready, here, s);
-        }
-        self.idle_request(ready, here, s)
+        self.idle_formed(cache, memory)
     }
 }

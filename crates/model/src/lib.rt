@@ -11,7 +11,6 @@ use rules::TAG_RECORDS;
 use rules::Tag;
 
 mod abort;
-mod cache;
 mod checks;
 mod commit;
 mod flush;

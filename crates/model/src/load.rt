@@ -6,7 +6,7 @@ ghost use lib.ListN.{length};
 ghost use Rattle.rules.specs.Shape.{topNumber};
 ghost use Rattle.rules.specs.Calls.{loadRule};
 ghost use Rattle.rules.specs.Calls as rules;
-ghost use Rattle.model.specs.State.{queuesOf, hierarchyOf, outcomeOf, Shaped, InOneLine, Does, worldOf};
+ghost use Rattle.model.specs.State.{queuesOf, hierarchyOf, outcomeOf, Shaped, InOneLine, Does, worldOf, Formed};
 use crate::State;
 use crate::Step;
 use crate::read;
@@ -31,7 +31,7 @@ impl State {
             number: i,
             address: a.address,
             width: a.width,
-            waiting: read::is_lacking(r),
+            waiting: line_bytes::is_lacking(r),
         };
         let listed = load_queue::place_load(loads, entry);
         self.last = i;
@@ -39,14 +39,11 @@ impl State {
         Step { answer, next: self }
     }
 
-    // Load: the operation takes the next number, and answers its value or that it waits. Refused: 1, 10, 2, 3, 4, 13, 12.
-    pub fn load(self, cache: &[u8], memory: &[u8], address: u32, width: u32) -> Step
+    // A load on a well-formed state: checks 2, 3, 4, 13 and 12, then the load.
+    pub(crate) fn load_formed(self, cache: &[u8], memory: &[u8], address: u32, width: u32) -> Step
+        requires { ⌜ Formed self (now cache) (now memory) ⌝ }
         ensures { λ r. ⌜ Does (rules.load address width) (worldOf self (now (cache .entry)) (now (memory .entry))) r (now (cache .entry)) (now (memory .entry)) ⌝ }
     {
-        let k = self.state_refusal(cache, memory);
-        if k != 0 {
-            return self.refused(k);
-        }
         let checked = access::check_access(address, width, self.size);
         let Checked::Passed(a) = checked else {
             return self.refused(access::failure(checked));
@@ -60,5 +57,16 @@ impl State {
         } else {
             self.refused(LOAD_QUEUE_FULL)
         }
+    }
+
+    // Load: the operation takes the next number, and answers its value or that it waits. Refused: 1, 10, 2, 3, 4, 13, 12.
+    pub fn load(self, cache: &[u8], memory: &[u8], address: u32, width: u32) -> Step
+        ensures { λ r. ⌜ Does (rules.load address width) (worldOf self (now (cache .entry)) (now (memory .entry))) r (now (cache .entry)) (now (memory .entry)) ⌝ }
+    {
+        let k = self.state_refusal(cache, memory);
+        if k != 0 {
+            return self.refused(k);
+        }
+        self.load_formed(cache, memory, address, width)
     }
 }

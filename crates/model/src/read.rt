@@ -1,98 +1,16 @@
 // What a load reads: each byte from the held stores, else from the cached line.
 ghost use mathlib.Core.Path.{_≡_};
-ghost use mathlib.Core.Bool.{true};
 ghost use mathlib.Core.List.{List};
-ghost use Prim.Native.Nat.{ℕ, _+_, _≤_, _<_};
+ghost use Prim.Native.Nat.{ℕ};
 ghost use lib.ListN.{length};
-ghost use Rattle.lists.specs.Bytes.{gather};
 ghost use Rattle.rules.specs.Forward.{loadValue};
-ghost use Rattle.model.specs.State.{hierarchyOf, Shaped, InOneLine};
-ghost use Rattle.model.specs.Reads.{byteOrLine, joinedTo, byteFrom, readOf, isLacking, answerTo};
+ghost use Rattle.line_bytes.specs.Reads.{readOf};
+ghost use Rattle.model.specs.State.{hierarchyOf, answerTo, Shaped, InOneLine};
 use crate::Answer;
 use crate::State;
-use crate::cache;
+use line_bytes::Read;
 use rules::LINE_BYTES;
 use rules::LINE_LENGTH;
-use rules::STORE_PLACES;
-use rules::StoreEntry;
-use store_queue::Byte;
-
-// A value that is whole, or of which some byte is lacking.
-pub enum Read {
-    Whole(u32),
-    Lacking,
-}
-
-// The byte at address a for load i: from the held stores, else from place p of the cache, if its line is there.
-fn byte_at(
-    stores: [StoreEntry; STORE_PLACES],
-    i: u32,
-    a: u32,
-    cache: &[u8],
-    p: usize,
-    here: bool,
-) -> Byte
-    requires { ⌜ (here ≡ true → p < length (now cache)) ⌝ }
-    ensures { λ r. ⌜ r ≡ byteOrLine i a stores (now (cache .entry)) p here ⌝ }
-{
-    let b = store_queue::forward(stores, i, a);
-    match b {
-        Byte::Known(x) => Byte::Known(x),
-        Byte::Unknown => {
-            if here {
-                Byte::Known(cache[p])
-            } else {
-                Byte::Unknown
-            }
-        }
-    }
-}
-
-// A lowest byte below what stands above it.
-fn joined(b: Byte, r: Read) -> Read
-    ensures { λ q. ⌜ q ≡ joinedTo b r ⌝ }
-{
-    match r {
-        Read::Lacking => Read::Lacking,
-        Read::Whole(v) => match b {
-            Byte::Unknown => Read::Lacking,
-            Byte::Known(x) => Read::Whole((v % 16777216) * 256 + (x as u32)),
-        },
-    }
-}
-
-// The width bytes from address a on, lowest first; the first of them stands at place p of the cache, if the line is there.
-fn read_bytes(
-    stores: [StoreEntry; STORE_PLACES],
-    i: u32,
-    a: u32,
-    width: u32,
-    cache: &[u8],
-    p: usize,
-    here: bool,
-) -> Read
-    requires { ⌜ (width ≤ 4) × (a + width ≤ 65536) × (p ≤ 65536) × (here ≡ true → p + width ≤ length (now cache)) ⌝ }
-    ensures { λ r. ⌜ r ≡ readOf (gather (byteFrom i a stores (now (cache .entry)) p here) a width) ⌝ }
-{
-    let mut r = Read::Whole(0);
-    let mut k = width;
-    while 0 < k {
-        k -= 1;
-        let b = byte_at(stores, i, a + k, cache, p + (k as usize), here);
-        r = joined(b, r);
-    }
-    r
-}
-
-// Whether some byte is lacking.
-pub(crate) fn is_lacking(r: Read) -> bool
-    ensures { λ b. ⌜ b ≡ isLacking r ⌝ }
-{
-    match r {
-        Read::Whole(_) => false,
-        Read::Lacking => true,
-    }
-}
 
 // What load i answers.
 pub(crate) fn answer_to(i: u32, r: Read) -> Answer
@@ -115,9 +33,9 @@ impl State {
         let stores = self.stores;
         let figures = self.figures;
         let ways = figures.ways as usize;
-        let first = cache::first_slot(figures, line);
-        let slot = cache::find(tags, first, ways, line);
+        let first = records::first_slot(figures, line);
+        let slot = records::find(tags, first, ways, line);
         let place = LINE_LENGTH * slot + (address % LINE_BYTES) as usize;
-        read_bytes(stores, i, address, width, cache, place, slot < first + ways)
+        line_bytes::read_bytes(stores, i, address, width, cache, place, slot < first + ways)
     }
 }

@@ -1,70 +1,53 @@
 // Reply: a line comes from memory.
 ghost use mathlib.Core.Path.{_≡_};
-ghost use mathlib.Core.Bool.{true};
-ghost use Prim.Native.Nat.{_+_, _<_, _≤_};
 ghost use Rattle.rules.specs.Calls.{replyRule};
 ghost use Rattle.rules.specs.Calls as rules;
-ghost use Rattle.rules.specs.WellFormed.{wellFormed};
-ghost use Rattle.model.specs.Tables.{installedIn};
-ghost use Rattle.model.specs.State.{queuesOf, hierarchyOf, outcomeOf, Does, worldOf};
+ghost use Rattle.model.specs.State.{queuesOf, hierarchyOf, outcomeOf, Does, worldOf, Formed};
 use crate::Answer;
 use crate::State;
 use crate::Step;
-use crate::cache;
 use rules::LINE_BYTES;
 use rules::LINE_LENGTH;
 use rules::NOTHING_REQUESTED;
 use rules::Request;
-use rules::TAG_RECORDS;
-use rules::Tag;
-
-// "the record becomes valid and clean, is used": line in slot v, whose age stays until it is used.
-fn installed(
-    tags: [Tag; TAG_RECORDS],
-    first: usize,
-    ways: usize,
-    v: usize,
-    line: u32,
-) -> [Tag; TAG_RECORDS]
-    requires { ⌜ (first + ways ≤ 256) × (first ≤ v) × (v < first + ways) × (line < 4096) ⌝ }
-    ensures { λ r. ⌜ r ≡ installedIn first ways v line tags ⌝ }
-{
-    let mut out = tags;
-    let old = out[v];
-    out[v] = Tag {
-        valid: true,
-        dirty: false,
-        line: (line % 65536) as u16,
-        age: old.age,
-    };
-    cache::use_slot(out, first, ways, v)
-}
 
 impl State {
     // The requested line comes from memory; a dirty victim is first written to memory.
     fn fill_line(self, line: u32, cache: &mut [u8], memory: &mut [u8]) -> Step
-        requires { ⌜ (wellFormed (queuesOf self) (hierarchyOf self (now cache) (now memory)) ≡ true) × (self .request ≡ Request.Line line) ⌝ }
+        requires { ⌜ Formed self (now cache) (now memory) × (self .request ≡ Request.Line line) ⌝ }
         ensures { λ r. ⌜ outcomeOf r (now (cache .exit)) (now (memory .exit)) ≡ replyRule (queuesOf self) (hierarchyOf self (now (cache .entry)) (now (memory .entry))) ⌝ }
     {
         let tags = self.tags;
         let figures = self.figures;
         let ways = figures.ways as usize;
-        let first = cache::first_slot(figures, line);
-        let v = cache::victim(tags, first, ways);
+        let first = records::first_slot(figures, line);
+        let v = records::victim(tags, first, ways);
         let old = tags[v];
-        cache::write_back(old, v, cache, memory);
+        line_bytes::write_back(old, v, cache, memory);
         let l = line as usize;
-        cache::fill_slot(
+        line_bytes::fill_slot(
             cache,
             v,
             &memory[LINE_LENGTH * l..LINE_LENGTH * l + LINE_LENGTH],
         );
-        let table = installed(tags, first, ways, v, line);
+        let table = records::install(tags, first, ways, v, line);
         let mut next = self.with_request(Request::Free);
         next.tags = table;
         Step {
             answer: Answer::Filled(line * LINE_BYTES),
             next,
+        }
+    }
+
+    // A reply on a well-formed state: check 17, then the fill.
+    pub(crate) fn reply_formed(self, cache: &mut [u8], memory: &mut [u8]) -> Step
+        requires { ⌜ Formed self (now cache) (now memory) ⌝ }
+        ensures { λ r. ⌜ Does rules.reply (worldOf self (now (cache .entry)) (now (memory .entry))) r (now (cache .exit)) (now (memory .exit)) ⌝ }
+    {
+        let request = self.request;
+        match request {
+            Request::Free => self.refused(NOTHING_REQUESTED),
+            Request::Line(line) => self.fill_line(line, cache, memory),
         }
     }
 
@@ -76,10 +59,6 @@ impl State {
         if k != 0 {
             return self.refused(k);
         }
-        let request = self.request;
-        match request {
-            Request::Free => self.refused(NOTHING_REQUESTED),
-            Request::Line(line) => self.fill_line(line, cache, memory),
-        }
+        self.reply_formed(cache, memory)
     }
 }

@@ -7,12 +7,11 @@ ghost use Rattle.lists.specs.Padded.{first};
 ghost use Rattle.rules.specs.Shape.{noLoad};
 ghost use Rattle.rules.specs.Calls.{waitingAt, answerLoad, retryRule};
 ghost use Rattle.rules.specs.Calls as rules;
-ghost use Rattle.model.specs.State.{queuesOf, hierarchyOf, outcomeOf, Shaped, InOneLine, Does, worldOf};
+ghost use Rattle.model.specs.State.{queuesOf, hierarchyOf, outcomeOf, Shaped, InOneLine, Does, worldOf, Formed};
 use crate::Answer;
 use crate::State;
 use crate::Step;
-use crate::cache;
-use crate::read::Read;
+use line_bytes::Read;
 use rules::LINE_BYTES;
 use rules::LoadEntry;
 use rules::NO_WAITING_LOAD;
@@ -28,7 +27,7 @@ impl State {
         let figures = self.figures;
         if i <= self.committed {
             let rest = load_queue::remove_waiting(loads, i);
-            let used = cache::use_line(tags, figures, l.address / LINE_BYTES);
+            let used = records::use_line(tags, figures, l.address / LINE_BYTES);
             self.loads = rest;
             self.tags = used;
             return Step {
@@ -59,6 +58,20 @@ impl State {
         }
     }
 
+    // An inquiry on a well-formed state: check 14, then the inquiry.
+    pub(crate) fn retry_formed(self, cache: &[u8], memory: &[u8], i: u32) -> Step
+        requires { ⌜ Formed self (now cache) (now memory) ⌝ }
+        ensures { λ r. ⌜ Does (rules.retry i) (worldOf self (now (cache .entry)) (now (memory .entry))) r (now (cache .entry)) (now (memory .entry)) ⌝ }
+    {
+        let loads = self.loads;
+        if load_queue::has_waiting(loads, i) {
+            let l = load_queue::waiting_load(loads, i);
+            self.retry_accepted(cache, i, l)
+        } else {
+            self.refused(NO_WAITING_LOAD)
+        }
+    }
+
     // Inquiry about number i: a waiting load is tried again. Refused: 1, 10, 14.
     pub fn retry(self, cache: &[u8], memory: &[u8], i: u32) -> Step
         ensures { λ r. ⌜ Does (rules.retry i) (worldOf self (now (cache .entry)) (now (memory .entry))) r (now (cache .entry)) (now (memory .entry)) ⌝ }
@@ -67,12 +80,6 @@ impl State {
         if k != 0 {
             return self.refused(k);
         }
-        let loads = self.loads;
-        if load_queue::has_waiting(loads, i) {
-            let l = load_queue::waiting_load(loads, i);
-            self.retry_accepted(cache, i, l)
-        } else {
-            self.refused(NO_WAITING_LOAD)
-        }
+        self.retry_formed(cache, memory, i)
     }
 }

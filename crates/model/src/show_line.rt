@@ -3,12 +3,11 @@ ghost use mathlib.Core.Path.{_≡_};
 ghost use Prim.Native.Nat.{_+_, _*_, _≤_};
 ghost use lib.ListN.{length};
 ghost use Rattle.rules.specs.Calls as rules;
-ghost use Rattle.model.specs.State.{Does, worldOf};
+ghost use Rattle.model.specs.State.{Does, worldOf, Formed};
 ghost use Rattle.model.specs.Shows.{shownPart, PartOf};
 use crate::Answer;
 use crate::State;
 use crate::Step;
-use crate::cache;
 use rules::LINE_BYTES;
 use rules::LINE_LENGTH;
 
@@ -18,39 +17,43 @@ pub struct Part {
     pub length: usize,
 }
 
+const EMPTY_PART: Part = Part {
+    start: 0,
+    length: 0,
+};
+
 impl State {
-    // Where the present line's bytes stand.
-    pub(crate) fn show_part(self, cache: &[u8], memory: &[u8], address: u32) -> Part
+    // Where the present line's bytes stand, in a well-formed state.
+    fn part_formed(self, cache: &[u8], memory: &[u8], address: u32) -> Part
+        requires { ⌜ Formed self (now cache) (now memory) ⌝ }
         ensures { λ r. ⌜ (r ≡ shownPart address (worldOf self (now (cache .entry)) (now (memory .entry)))) × (r .start + r .length ≤ length (now (cache .entry))) ⌝ }
     {
-        if self.state_refusal(cache, memory) != 0 {
-            return Part {
-                start: 0,
-                length: 0,
-            };
-        }
         if self.size <= address {
-            return Part {
-                start: 0,
-                length: 0,
-            };
+            return EMPTY_PART;
         }
         let tags = self.tags;
         let figures = self.figures;
         let ways = figures.ways as usize;
         let line = address / LINE_BYTES;
-        let first = cache::first_slot(figures, line);
-        let slot = cache::find(tags, first, ways, line);
+        let first = records::first_slot(figures, line);
+        let slot = records::find(tags, first, ways, line);
         if slot < first + ways {
             return Part {
                 start: LINE_LENGTH * slot,
                 length: LINE_LENGTH,
             };
         }
-        Part {
-            start: 0,
-            length: 0,
+        EMPTY_PART
+    }
+
+    // The same in any state: the empty part where check 1 or 10 fails.
+    pub(crate) fn show_part(self, cache: &[u8], memory: &[u8], address: u32) -> Part
+        ensures { λ r. ⌜ (r ≡ shownPart address (worldOf self (now (cache .entry)) (now (memory .entry)))) × (r .start + r .length ≤ length (now (cache .entry))) ⌝ }
+    {
+        if self.state_refusal(cache, memory) != 0 {
+            return EMPTY_PART;
         }
+        self.part_formed(cache, memory, address)
     }
 
     // "gives the present line's bytes as a part of the lent cache", or an empty part.
@@ -61,6 +64,18 @@ impl State {
         let a = p.start;
         let e = a + p.length;
         &cache[a..e]
+    }
+
+    // Show line as a step on a well-formed state.
+    pub(crate) fn show_formed(self, cache: &[u8], memory: &[u8], address: u32) -> Step
+        requires { ⌜ Formed self (now cache) (now memory) ⌝ }
+        ensures { λ r. ⌜ Does (rules.show address) (worldOf self (now (cache .entry)) (now (memory .entry))) r (now (cache .entry)) (now (memory .entry)) ⌝ }
+    {
+        let part = self.part_formed(cache, memory, address);
+        Step {
+            answer: Answer::Shown(part.start, part.length),
+            next: self,
+        }
     }
 
     // Show line as a step: the place and the length of the part.

@@ -7,7 +7,6 @@ ghost use Rattle.model.specs.Starts.{Starts};
 use crate::StartAnswer;
 use crate::Started;
 use crate::State;
-use crate::cache;
 use rules::BAD_FIGURES;
 use rules::Figures;
 use rules::LINE_LENGTH;
@@ -66,7 +65,7 @@ impl State {
                 return State::not_started();
             }
             lists::zero_bytes(cache);
-            let tags = cache::start_tags(figures);
+            let tags = records::start_tags(figures);
             return Started {
                 answer: StartAnswer::Ready,
                 state: empty_state(figures, size as u32, tags),

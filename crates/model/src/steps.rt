@@ -1,24 +1,77 @@
 // One step over an enum of calls.
-ghost use Rattle.model.specs.State.{callOf, Does, worldOf};
+ghost use mathlib.Core.Path.{_≡_};
+ghost use mathlib.Core.Bool.{true};
+ghost use mathlib.Core.List.{List};
+ghost use Prim.Native.Nat.{ℕ};
+ghost use Rattle.rules.specs.Calls.{unchanged};
+ghost use Rattle.rules.specs.Runs.{refusal};
+ghost use Rattle.model.specs.State.{callOf, readsOnly, queuesOf, hierarchyOf, outcomeOf, Does, worldOf, Formed};
+use crate::Answer;
 use crate::Call;
 use crate::State;
 use crate::Step;
 
 impl State {
+    // A call that check 1 or 10 refuses with k; show line names no refusal.
+    fn refused_call(self, call: Call, k: u32) -> Step
+        ensures { λ r. ⌜ ((c m : List ℕ) → outcomeOf r c m ≡ unchanged (refusal (callOf call) k) (queuesOf self) (hierarchyOf self c m)) ⌝ }
+    {
+        if let Call::Show(_) = call {
+            return Step {
+                answer: Answer::Shown(0, 0),
+                next: self,
+            };
+        }
+        self.refused(k)
+    }
+
+    // A call that only reads the lent bytes, on a well-formed state. (Of the others nothing is promised.)
+    fn read_formed(self, call: Call, cache: &[u8], memory: &[u8]) -> Step
+        requires { ⌜ Formed self (now cache) (now memory) ⌝ }
+        ensures { λ r. ⌜ (readsOnly call ≡ true → Does (callOf call) (worldOf self (now (cache .entry)) (now (memory .entry))) r (now (cache .entry)) (now (memory .entry))) ⌝ }
+    {
+        match call {
+            Call::Load(address, width) => self.load_formed(cache, memory, address, width),
+            Call::Store(address, width, value) => self.store_formed(
+                cache,
+                memory,
+                address,
+                width,
+                value,
+            ),
+            Call::Retry(i) => self.retry_formed(cache, memory, i),
+            Call::Commit(k) => self.commit_formed(cache, memory, k),
+            Call::Abort(n) => self.abort_formed(cache, memory, n),
+            Call::Show(address) => self.show_formed(cache, memory, address),
+            _ => Step {
+                answer: Answer::Idled,
+                next: self,
+            },
+        }
+    }
+
+    // Any call of a run on a state that is known to be well formed: checks 1 and 10 are not made. Of all public routines this one alone
+    // asks something of its caller: to have tested the state once (`is_formed`), since when every call has kept it well formed.
+    pub fn step_formed(self, call: Call, cache: &mut [u8], memory: &mut [u8]) -> Step
+        requires { ⌜ Formed self (now cache) (now memory) ⌝ }
+        ensures { λ r. ⌜ Does (callOf call) (worldOf self (now (cache .entry)) (now (memory .entry))) r (now (cache .exit)) (now (memory .exit)) ⌝ }
+    {
+        match call {
+            Call::Idle => self.idle_formed(cache, memory),
+            Call::Reply => self.reply_formed(cache, memory),
+            Call::Flush => self.flush_formed(cache, memory),
+            _ => self.read_formed(call, cache, memory),
+        }
+    }
+
     // Any call of a run, by the enum: what the method of that call answers, hands back and leaves.
     pub fn step(self, call: Call, cache: &mut [u8], memory: &mut [u8]) -> Step
         ensures { λ r. ⌜ Does (callOf call) (worldOf self (now (cache .entry)) (now (memory .entry))) r (now (cache .exit)) (now (memory .exit)) ⌝ }
     {
-        match call {
-            Call::Load(address, width) => self.load(cache, memory, address, width),
-            Call::Store(address, width, value) => self.store(cache, memory, address, width, value),
-            Call::Retry(i) => self.retry(cache, memory, i),
-            Call::Commit(k) => self.commit(cache, memory, k),
-            Call::Abort(n) => self.abort(cache, memory, n),
-            Call::Idle => self.idle(cache, memory),
-            Call::Reply => self.reply(cache, memory),
-            Call::Flush => self.flush(cache, memory),
-            Call::Show(address) => self.show(cache, memory, address),
+        let k = self.state_refusal(cache, memory);
+        if k != 0 {
+            return self.refused_call(call, k);
         }
+        self.step_formed(call, cache, memory)
     }
 }

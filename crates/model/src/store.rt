@@ -5,7 +5,7 @@ ghost use Prim.Native.Nat.{ℕ, _<_};
 ghost use Rattle.rules.specs.Shape.{topNumber};
 ghost use Rattle.rules.specs.Calls.{storeRule};
 ghost use Rattle.rules.specs.Calls as rules;
-ghost use Rattle.model.specs.State.{queuesOf, hierarchyOf, outcomeOf, storeRest, Does, worldOf};
+ghost use Rattle.model.specs.State.{queuesOf, hierarchyOf, outcomeOf, storeRest, Does, worldOf, Formed};
 use crate::Answer;
 use crate::State;
 use crate::Step;
@@ -55,6 +55,25 @@ impl State {
         self.refused(VALUE_TOO_LARGE)
     }
 
+    // A store on a well-formed state: checks 2, 3 and 4, then the others and the store.
+    pub(crate) fn store_formed(
+        self,
+        cache: &[u8],
+        memory: &[u8],
+        address: u32,
+        width: u32,
+        value: u32,
+    ) -> Step
+        requires { ⌜ Formed self (now cache) (now memory) ⌝ }
+        ensures { λ r. ⌜ Does (rules.store address width value) (worldOf self (now (cache .entry)) (now (memory .entry))) r (now (cache .entry)) (now (memory .entry)) ⌝ }
+    {
+        let checked = access::check_access(address, width, self.size);
+        let Checked::Passed(a) = checked else {
+            return self.refused(access::failure(checked));
+        };
+        self.store_checked(a, value)
+    }
+
     // Store: the operation takes the next number and is held. Refused: 1, 10, 2, 3, 4, 5, 13, 11.
     pub fn store(self, cache: &[u8], memory: &[u8], address: u32, width: u32, value: u32) -> Step
         ensures { λ r. ⌜ Does (rules.store address width value) (worldOf self (now (cache .entry)) (now (memory .entry))) r (now (cache .entry)) (now (memory .entry)) ⌝ }
@@ -63,10 +82,6 @@ impl State {
         if k != 0 {
             return self.refused(k);
         }
-        let checked = access::check_access(address, width, self.size);
-        let Checked::Passed(a) = checked else {
-            return self.refused(access::failure(checked));
-        };
-        self.store_checked(a, value)
+        self.store_formed(cache, memory, address, width, value)
     }
 }

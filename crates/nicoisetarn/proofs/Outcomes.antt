@@ -1,11 +1,10 @@
 -- What the functions leave is what the definitions say; and a refusal leaves everything as it was.
-use Prim.Native.Nat.{ℕ, _<_, _≤_}
+use Prim.Native.Nat.{ℕ, _≤_}
 use mathlib.Core.Path.{_≡_, refl, sym, _∙_, ap}
 use mathlib.Core.Bool.{true, false}
 use mathlib.Core.List.{List, [], map}
 use mathlib.Core.Option.{Option, some, none}
 use native.Mathlib.Omega.{arith}
-use lib.ListN.{drop}
 use Rattle.lists.proofs.Cond.{cases, wrong}
 use Rattle.rules.specs.Shape.{Queues, Hierarchy, World}
 use Rattle.rules.specs.Calls as rules
@@ -18,18 +17,53 @@ use Rattle.model.specs.declared.State.{State}
 use Rattle.model.specs.declared.Step.{Step}
 use Rattle.model.specs.declared.Started.{Started}
 use Rattle.model.specs.declared.StartAnswer.the-variants.{Ready, NotAllowed}
-use Rattle.nicoisetarn.specs.declared.Image.{Image}
+use Rattle.images.specs.declared.Image.{Image}
+use Rattle.images.specs.declared.TagImage.{TagImage}
 use Rattle.nicoisetarn.specs.declared.AnswerImage.{AnswerImage}
 use Rattle.nicoisetarn.specs.declared.ImageStep.{ImageStep}
 use Rattle.nicoisetarn.specs.declared.answers.Numbered.{Numbered}
 use Rattle.nicoisetarn.specs.declared.answers.Numbered.the-variants.{Known, Unknown}
-use Rattle.nicoisetarn.specs.Images.{imagedTag, figuresWith, openedOf, imagedOf, standsFor}
+use Rattle.images.specs.Images.{imagedTag, figuresWith, openedOf, imagedWith, imagedOf, standsFor}
+use Rattle.images.proofs.Standing.{imaged-opened}
 use Rattle.nicoisetarn.specs.Answers.{callNumbered, numberedOf, coded, imagedAnswer, readyAnswer, noSuchCall}
-use Rattle.nicoisetarn.specs.Steps.{Left, leftOf, kept, leaves, startedBy, started, imageRefusal, outcomeFrom, called, stepped, lineShown, recordsChanged}
+use Rattle.nicoisetarn.specs.Steps.{Left, leftOf, kept, leaves, startedBy, started, imageRefusal, outcomeFrom, called, stepped, lineShown, changesRecords, nextImage}
 use Rattle.nicoisetarn.specs.Claims.{Keeps, RefusedImagesKept, UnknownCallsKept, LooksKept}
 use Rattle.nicoisetarn.proofs.CallNumbers.{no-number, some-number}
-use Rattle.nicoisetarn.proofs.Standing.{imaged-opened}
 use Rattle.nicoisetarn.proofs.ShownPart.{image-over}
+
+-- ---- the records that a call may change
+
+module _ (q : Queues) (b : Hierarchy) where
+  rule-keeps : (c : rules.Call) → changesRecords c ≡ false → rules.rule c q b .hierarchy .tags ≡ b .tags
+  unfolding rules.loadRule rules.storeRule rules.abortRule rules.showRule
+  rule-keeps (rules.load a w) e = refl
+  rule-keeps (rules.store a w v) e = refl
+  rule-keeps (rules.retry i) e = wrong refl e
+  rule-keeps (rules.commit k) e = wrong refl e
+  rule-keeps (rules.abort n) e = refl
+  rule-keeps rules.idle e = wrong refl e
+  rule-keeps rules.reply e = wrong refl e
+  rule-keeps rules.flush e = wrong refl e
+  rule-keeps (rules.show a) e = refl
+
+  outcome-keeps : (c : rules.Call) → changesRecords c ≡ false → outcome c q b .hierarchy .tags ≡ b .tags
+  outcome-keeps c e = outcome-by c q b (λ o. o .hierarchy .tags ≡ b .tags) (λ k. refl) (λ f g p. rule-keeps c e)
+
+-- records that do not change have their images in the image before the call
+module _ (c : rules.Call) (i : Image) (cache memory : List ℕ) (stands : standsFor i ≡ true) where
+  next-imaged :
+      (s : State) (r : Step) (cache′ memory′ : List ℕ) → s ≡ openedOf i → outcomeOf r cache′ memory′ ≡ outcome c (queuesOf s) (hierarchyOf s cache memory)
+      → nextImage c i (r .next) ≡ imagedOf (r .next)
+  unfolding imagedOf imagedWith
+  next-imaged s r cache′ memory′ o e = cases (changesRecords c)
+      (λ t. rw t)
+      (λ t. rw t (ap (λ (tags : List TagImage). imagedWith tags (r .next)) (sym (ap (map imagedTag) (tags-kept t) ∙ ap (λ (j : Image). j .tags) (imaged-opened i stands)))))
+    where
+      tags-kept : changesRecords c ≡ false → r .next .tags ≡ openedOf i .tags
+      tags-kept t =
+          ap (λ (o : rules.Outcome). o .hierarchy .tags) e
+          ∙ outcome-keeps (queuesOf s) (hierarchyOf s cache memory) c t
+          ∙ ap (λ (s : State). s .tags) o
 
 -- ---- a call
 
@@ -43,10 +77,15 @@ module _ (c : rules.Call) (i : Image) (cache memory : List ℕ) where
   -- the state that the image stands for is stepped
   pub state-stepped :
       (r : Step) (cache′ memory′ : List ℕ) (s : State) → outcomeOf r cache′ memory′ ≡ outcomeAt s → (t : ImageStep) → t .answer ≡ imagedAnswer (answerOf (r .answer) [])
-      → s ≡ openedOf i → standsFor i ≡ true → t .next ≡ imagedOf (r .next) → leftOf t cache′ memory′ ≡ called (some c) i cache memory
+      → s ≡ openedOf i → standsFor i ≡ true → t .next ≡ nextImage c i (r .next) → leftOf t cache′ memory′ ≡ called (some c) i cache memory
   unfolding called outcomeFrom
   state-stepped r cache′ memory′ s e t answer o stands next =
-      (λ j. record { answer = image-over (t .answer) (r .answer) cache′ answer j; image = next j; cache = cache′; memory = memory′ })
+      (λ j. record {
+        answer = image-over (t .answer) (r .answer) cache′ answer j;
+        image = (next ∙ next-imaged c i cache memory stands s r cache′ memory′ o e) j;
+        cache = cache′;
+        memory = memory′;
+      })
       ∙ ap Leaves (e ∙ ap outcomeAt o) ∙ rw stands
 
   -- the image stands for none: refused, and it stays
@@ -57,54 +96,6 @@ module _ (c : rules.Call) (i : Image) (cache memory : List ℕ) where
   image-refused stands k e t answer next =
       (λ j. record { answer = (answer ∙ ap (λ (k : ℕ). imagedAnswer (refusal c k)) e) j; image = next j; cache = cache; memory = memory })
       ∙ rw stands
-
--- ---- the records that a call may change
-
--- none or all
-none-or-all : (c : rules.Call) (P : ℕ → Type 0) → (recordsChanged c ≡ 0 → P 0) → P 256 → P (recordsChanged c)
-none-or-all (rules.load a w) P p q = p refl
-none-or-all (rules.store a w v) P p q = p refl
-none-or-all (rules.retry i) P p q = q
-none-or-all (rules.commit k) P p q = q
-none-or-all (rules.abort n) P p q = p refl
-none-or-all rules.idle P p q = q
-none-or-all rules.reply P p q = q
-none-or-all rules.flush P p q = q
-none-or-all (rules.show a) P p q = p refl
-
-module _ (q : Queues) (b : Hierarchy) where
-  rule-keeps : (c : rules.Call) → recordsChanged c ≡ 0 → rules.rule c q b .hierarchy .tags ≡ b .tags
-  unfolding rules.loadRule rules.storeRule rules.abortRule rules.showRule
-  rule-keeps (rules.load a w) e = refl
-  rule-keeps (rules.store a w v) e = refl
-  rule-keeps (rules.retry i) e = let no : ⊥ = omega arith in absurd no
-  rule-keeps (rules.commit k) e = let no : ⊥ = omega arith in absurd no
-  rule-keeps (rules.abort n) e = refl
-  rule-keeps rules.idle e = let no : ⊥ = omega arith in absurd no
-  rule-keeps rules.reply e = let no : ⊥ = omega arith in absurd no
-  rule-keeps rules.flush e = let no : ⊥ = omega arith in absurd no
-  rule-keeps (rules.show a) e = refl
-
-  outcome-keeps : (c : rules.Call) → recordsChanged c ≡ 0 → outcome c q b .hierarchy .tags ≡ b .tags
-  outcome-keeps c e = outcome-by c q b (λ o. o .hierarchy .tags ≡ b .tags) (λ k. refl) (λ f g p. rule-keeps c e)
-
--- the others have their images in the image before the call
-module _ (c : rules.Call) (i : Image) (cache memory : List ℕ) (stands : standsFor i ≡ true) where
-  pub image-rest :
-      (n : ℕ) (s : State) (r : Step) (cache′ memory′ : List ℕ) → n ≡ recordsChanged c → s ≡ openedOf i
-      → outcomeOf r cache′ memory′ ≡ outcome c (queuesOf s) (hierarchyOf s cache memory) → n < 256 → drop n (i .tags) ≡ map imagedTag (drop n (r .next .tags))
-  unfolding imagedOf
-  image-rest n s r cache′ memory′ m o e =
-      rw m
-      (none-or-all c (λ n. n < 256 → drop n (i .tags) ≡ map imagedTag (drop n (r .next .tags)))
-      (λ z h. sym (ap (map imagedTag) (tags-kept z) ∙ ap (λ (j : Image). j .tags) (imaged-opened i stands)))
-      (λ h. let no : ⊥ = omega arith in absurd no))
-    where
-      tags-kept : recordsChanged c ≡ 0 → r .next .tags ≡ openedOf i .tags
-      tags-kept z =
-          ap (λ (o : rules.Outcome). o .hierarchy .tags) e
-          ∙ outcome-keeps (queuesOf s) (hierarchyOf s cache memory) c z
-          ∙ ap (λ (s : State). s .tags) o
 
 -- ---- a call by its number
 

@@ -1,21 +1,10 @@
--- What is claimed of images, each closed.
+-- What is claimed of calls on images, each closed.
 use Prim.Native.Nat.{ℕ, _<_, _≤_}
 use mathlib.Core.Path.{_≡_}
-use mathlib.Core.Bool.{true}
 use mathlib.Core.List.{List}
-use Rattle.model.specs.declared.State.{State}
-use Rattle.nicoisetarn.specs.declared.Image.{Image}
-use Rattle.nicoisetarn.specs.Images.{openedOf, imagedOf, standsFor}
+use Rattle.images.specs.declared.Image.{Image}
 use Rattle.nicoisetarn.specs.Answers.{noSuchCall}
 use Rattle.nicoisetarn.specs.Steps.{Left, kept, started, stepped, lineShown}
-
-pub record ImagesStandForStates : Type 0 where
-  -- a state comes back from its image
-  pub opened : (s : State) → openedOf (imagedOf s) ≡ s
-  -- which stands for a state
-  pub stand : (s : State) → standsFor (imagedOf s) ≡ true
-  -- an image that stands for a state comes back from it
-  pub imaged : (i : Image) → standsFor i ≡ true → imagedOf (openedOf i) ≡ i
 
 -- refused, with the image, the cache and the memory as they were
 abbrev pub Keeps : Left → Image → List ℕ → List ℕ → Type 0

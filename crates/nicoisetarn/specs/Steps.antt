@@ -1,6 +1,6 @@
 -- What a start and a call on an image leave, and what show line answers, by the rules.
 use Prim.Native.Nat.{ℕ}
-use mathlib.Core.Bool.{cond}
+use mathlib.Core.Bool.{Bool, true, false, cond}
 use mathlib.Core.List.{List, []}
 use mathlib.Core.Option.{Option, some, none}
 use Rattle.rules.specs.Shape.{Queues, Hierarchy, World, fits}
@@ -9,10 +9,10 @@ use Rattle.rules.specs.Runs.{StartAnswer, ready, startRefused, startAnswer, sta
 use Rattle.line_checks.specs.Refusal.{hierarchy}
 use Rattle.model.specs.State.{queuesOf, hierarchyOf}
 use Rattle.model.specs.declared.State.{State}
-use Rattle.nicoisetarn.specs.declared.Image.{Image}
+use Rattle.images.specs.declared.Image.{Image}
 use Rattle.nicoisetarn.specs.declared.AnswerImage.{AnswerImage}
 use Rattle.nicoisetarn.specs.declared.ImageStep.{ImageStep}
-use Rattle.nicoisetarn.specs.Images.{figuresWith, figuresOf, openedOf, imagedOf, standsFor}
+use Rattle.images.specs.Images.{figuresWith, figuresOf, openedOf, imagedWith, imagedOf, standsFor}
 use Rattle.nicoisetarn.specs.Answers.{callNumbered, imagedAnswer, readyAnswer, noSuchCall}
 
 -- an answer, and what stands in the image, the cache and the memory after it
@@ -88,14 +88,18 @@ lineShown address i cache memory =
 
 -- ---- for the code
 
--- how many records a call may change: none or all
-abbrev pub recordsChanged : rules.Call → ℕ
-recordsChanged (rules.load a w) = 0
-recordsChanged (rules.store a w v) = 0
-recordsChanged (rules.retry i) = 256
-recordsChanged (rules.commit k) = 256
-recordsChanged (rules.abort n) = 0
-recordsChanged rules.idle = 256
-recordsChanged rules.reply = 256
-recordsChanged rules.flush = 256
-recordsChanged (rules.show a) = 0
+-- a call that may change records
+abbrev pub changesRecords : rules.Call → Bool
+changesRecords (rules.load a w) = false
+changesRecords (rules.store a w v) = false
+changesRecords (rules.retry i) = true
+changesRecords (rules.commit k) = true
+changesRecords (rules.abort n) = false
+changesRecords rules.idle = true
+changesRecords rules.reply = true
+changesRecords rules.flush = true
+changesRecords (rules.show a) = false
+
+-- the image of the state after a call, which keeps the images of records that do not change
+abbrev pub nextImage : rules.Call → Image → State → Image
+nextImage c i s = cond (changesRecords c) (imagedOf s) (imagedWith (i .tags) s)

@@ -1,70 +1,12 @@
 // The boundary for C and Rust: functions that start, step and look at an image of the state where the caller stores it.
-// The image is the state with numbers in place of its truth values and its miss register, so that any bytes are an image. One that
-// stands for no state is refused and never repaired. Calls and answers go by numbers.
+// An image that stands for no state is refused and never repaired. Calls and answers go by numbers.
 ghost use mathlib.Core.Path.{_≡_};
 ghost use Rattle.nicoisetarn.specs.Steps.{leftOf, started, stepped, lineShown};
-ghost use Rattle.nicoisetarn.specs.Claims.{ImagesStandForStates, RefusedImagesKept, UnknownCallsKept, LooksKept};
-use rules::LOAD_PLACES;
-use rules::STORE_PLACES;
-use rules::TAG_RECORDS;
+ghost use Rattle.nicoisetarn.specs.Claims.{RefusedImagesKept, UnknownCallsKept, LooksKept};
+use images::Image;
 
 mod answers;
-mod images;
 mod steps;
-
-// ---- the image
-
-// An entry of the store queue. No struct here has padding.
-#[repr(C)]
-pub struct StoreImage {
-    pub number: u32,
-    pub address: u32,
-    pub width: u32,
-    pub value: u32,
-}
-
-// An entry of the load queue.
-#[repr(C)]
-pub struct LoadImage {
-    pub number: u32,
-    pub address: u32,
-    pub width: u32,
-    // 0 or 1
-    pub waiting: u32,
-}
-
-// A tag record.
-#[repr(C)]
-pub struct TagImage {
-    // 0 or 1
-    pub valid: u8,
-    // 0 or 1
-    pub dirty: u8,
-    pub line: u16,
-    pub age: u8,
-    // 0
-    pub unused: u8,
-}
-
-// The image of a state.
-#[repr(C)]
-pub struct Image {
-    // the figures, one after the other
-    pub sets: u32,
-    pub ways: u32,
-    // the memory length
-    pub size: u32,
-    // the last number given, and the committed number
-    pub last: u32,
-    pub committed: u32,
-    // 0: the miss register is free; 1: it names a line
-    pub requested: u32,
-    // that line; 0 where the register is free
-    pub line: u32,
-    pub stores: [StoreImage; STORE_PLACES],
-    pub loads: [LoadImage; LOAD_PLACES],
-    pub tags: [TagImage; TAG_RECORDS],
-}
 
 // ---- calls by numbers, each with its operands (specs/Answers.antt)
 
@@ -182,11 +124,6 @@ pub extern "C" fn nicoisetarn_show_line_in(
 }
 
 // ---- what is claimed of images: functions that do nothing and promise it
-
-// The image of a state stands for that state, and an image that stands for a state is the image of that state.
-pub fn images_stand_for_states()
-    ensures { λ r. ⌜ ImagesStandForStates ⌝ }
-{}
 
 // A start or a call that is refused leaves the image, the cache and the memory as they were.
 pub fn refused_images_kept()

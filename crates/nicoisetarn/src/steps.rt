@@ -1,15 +1,13 @@
 // A start, a call and a look on an image, by value.
 ghost use mathlib.Core.Path.{_≡_};
-ghost use Prim.Native.Nat.{_≤_};
 ghost use mathlib.Core.Option.{some};
 ghost use mathlib.Core.Bool.{true};
 ghost use Rattle.rules.specs.Runs.{refusal};
 ghost use Rattle.model.specs.State.{callOf};
-ghost use Rattle.nicoisetarn.specs.Images.{standsFor, ZeroFrom};
+ghost use Rattle.images.specs.Images.{usedRecords, standsFor};
 ghost use Rattle.nicoisetarn.specs.Answers.{imagedAnswer};
-ghost use Rattle.nicoisetarn.specs.Steps.{leftOf, started, imageRefusal, called, stepped, lineShown, recordsChanged};
+ghost use Rattle.nicoisetarn.specs.Steps.{leftOf, started, imageRefusal, called, stepped, lineShown, changesRecords, nextImage};
 use crate::AnswerImage;
-use crate::Image;
 use crate::ImageStep;
 use crate::KIND_NO_SUCH_CALL;
 use crate::KIND_READY;
@@ -17,14 +15,13 @@ use crate::KIND_REFUSED;
 use crate::KIND_SHOWN;
 use crate::answers;
 use crate::answers::Numbered;
-use crate::images;
+use images::Image;
 use model::Call;
 use model::StartAnswer;
 use model::State;
 use rules::BAD_FIGURES;
 use rules::Figures;
 use rules::NOT_WELL_FORMED;
-use rules::TAG_RECORDS;
 
 // ---- start
 
@@ -45,7 +42,7 @@ pub(crate) fn start_image(
             let state = r.state;
             ImageStep {
                 answer: answers::coded(KIND_READY, 0, 0),
-                next: images::imaged(image, state, TAG_RECORDS),
+                next: images::imaged(state),
             }
         }
         StartAnswer::NotAllowed(k) => ImageStep {
@@ -57,21 +54,32 @@ pub(crate) fn start_image(
 
 // ---- a call
 
-// How many records a call may change: none or all.
-fn records_changed(call: Call) -> usize
-    ensures { λ r. ⌜ (r ≡ recordsChanged (callOf call)) × (r ≤ 256) ⌝ }
+// A call that may change records.
+fn changes_records(call: Call) -> bool
+    ensures { λ r. ⌜ r ≡ changesRecords (callOf call) ⌝ }
 {
     match call {
-        Call::Load(_, _) => 0,
-        Call::Store(_, _, _) => 0,
-        Call::Retry(_) => TAG_RECORDS,
-        Call::Commit(_) => TAG_RECORDS,
-        Call::Abort(_) => 0,
-        Call::Idle => TAG_RECORDS,
-        Call::Reply => TAG_RECORDS,
-        Call::Flush => TAG_RECORDS,
-        Call::Show(_) => 0,
+        Call::Load(_, _) => false,
+        Call::Store(_, _, _) => false,
+        Call::Retry(_) => true,
+        Call::Commit(_) => true,
+        Call::Abort(_) => false,
+        Call::Idle => true,
+        Call::Reply => true,
+        Call::Flush => true,
+        Call::Show(_) => false,
     }
+}
+
+// The image after a call. A call that changes no record keeps the images of the records.
+fn next_image(image: Image, call: Call, next: State) -> Image
+    ensures { λ r. ⌜ r ≡ nextImage (callOf call) image next ⌝ }
+{
+    if changes_records(call) {
+        return images::imaged(next);
+    }
+    let tags = image.tags;
+    images::imaged_with(tags, next)
 }
 
 // A call on an image that stands for a state.
@@ -82,17 +90,16 @@ fn step_state(
     cache: &mut [u8],
     memory: &mut [u8],
 ) -> ImageStep
-    requires { ⌜ (standsFor image ≡ true) × ZeroFrom used (image .tags) ⌝ }
+    requires { ⌜ (standsFor image ≡ true) × (used ≡ usedRecords image) ⌝ }
     ensures { λ r. ⌜ leftOf r (now (cache .exit)) (now (memory .exit)) ≡ called (some (callOf call)) image (now (cache .entry)) (now (memory .entry)) ⌝ }
 {
     let state = images::opened(image, used);
     let r = state.step(call, cache, memory);
     let answer = r.answer;
     let next = r.next;
-    let n = records_changed(call);
     ImageStep {
         answer: answers::answer_image(answer),
-        next: images::imaged(image, next, n),
+        next: next_image(image, call, next),
     }
 }
 

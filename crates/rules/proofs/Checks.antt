@@ -2,20 +2,21 @@
 -- exactly under its condition, when no earlier condition holds.
 use Prim.Native.Nat.{ℕ}
 use mathlib.Core.Path.{_≡_, refl, sym, _∙_, ap, subst}
-use mathlib.Core.Bool.{Bool, true, false, cond, _&&_, false≢true}
+use mathlib.Core.Bool.{Bool, true, false, cond, not, _&&_}
 use mathlib.Core.List.{List, [], _∷_, _++_}
 use mathlib.Core.Option.{Option, some, none}
 use lib.Dec.{leb, ltb}
 use Rattle.lists.specs.Padded.{every, first}
 use Rattle.lists.proofs.Cond.{either, cases, and-left, and-right, wrong}
+use Rattle.lists.proofs.Every.{every-split}
 use Rattle.rules.specs.declared.LoadEntry.{LoadEntry}
 use Rattle.rules.specs.Shape.{Queues, Hierarchy, World, fits, noLoad, lineOf}
 use Rattle.rules.specs.Lines.{present}
 use Rattle.rules.specs.Forward.{loadValue}
-use Rattle.rules.specs.Calls.{Call, Answer, Outcome, Check, load, store, retry, commit, abort, idle, reply, flush, show, refused, isAccepted, unchanged, guarded, passes, callChecks, rule, loadAnswer, loadRule, storeRule, answerLoad, retryWith, retryRule, commitRule, abortRule, canDrain, canRequestLoad, canRequestStore, idleRule, replyRule, flushRule, showRule, waitingAt, nextNumber}
+use Rattle.rules.specs.Calls.{Call, Answer, Outcome, Check, load, store, retry, commit, abort, idle, reply, flush, show, refused, isAccepted, unchanged, guarded, passes, earlyChecks, callChecks, rule, loadAnswer, loadRule, storeRule, answerLoad, retryWith, retryRule, commitRule, abortRule, canDrain, canRequestLoad, canRequestStore, idleRule, replyRule, flushRule, showRule, waitingAt, nextNumber}
 use Rattle.rules.specs.WellFormed.{wellFormed}
-use Rattle.rules.specs.Runs.{stateChecks, refusal, outcome, answer, next}
-use Rattle.rules.specs.Refusals.{namesRefusal, allChecks, FirstFailing, RefusedExactly, RefusedKeeps}
+use Rattle.rules.specs.Runs.{formedCheck, namesRefusal, refusal, outcome, answer, next}
+use Rattle.rules.specs.Refusals.{allChecks, FirstFailing, RefusedExactly, RefusedKeeps}
 
 -- ---- guarded
 
@@ -60,28 +61,60 @@ unfolding guarded
 guarded-map f refuse [] x = refl
 guarded-map f refuse (k ∷ ks) x = cases (k .applies) (λ e. rw e) (λ e. rw e (guarded-map f refuse ks x))
 
--- ---- checks 1 and 10, then the call's own
+-- ---- checks 1 and 10, and the call's own between them and after them
+
+-- none of the checks applies, one by one
+abbrev pub EachPasses : List Check → Type 0
+EachPasses [] = Unit {0}
+EachPasses (k ∷ ks) = (k .applies ≡ false) × EachPasses ks
+
+each-passes : (ks : List Check) → EachPasses ks → passes ks ≡ true
+unfolding every
+each-passes [] e = refl
+each-passes (k ∷ ks) e = rw (e .0) (each-passes ks (e .1))
 
 module _ (c : Call) (q : Queues) (b : Hierarchy) where
-  -- what the call's own checks let it do
+  abbrev refuse : ℕ → Outcome
+  refuse k = unchanged (refusal c k) q b
+
+  -- what the checks after 10 let the call do
   abbrev pub checked : Outcome
   checked = guarded (callChecks c q b) (λ k. unchanged (refusal c k) q b) (rule c q b)
 
-  outcome-is : outcome c q b ≡ guarded (stateChecks q b) (λ k. unchanged (refusal c k) q b) checked
-  unfolding outcome
-  outcome-is = guarded-append (λ k. unchanged (refusal c k) q b) (stateChecks q b) (callChecks c q b) (rule c q b)
+  -- what all of the call's own checks let it do
+  abbrev pub ownChecks : List Check
+  ownChecks = earlyChecks c b ++ callChecks c q b
+
+  abbrev pub decided : Outcome
+  decided = guarded ownChecks (λ k. unchanged (refusal c k) q b) (rule c q b)
 
   pub shut : fits b ≡ false → outcome c q b ≡ unchanged (refusal c 1) q b
-  unfolding guarded
-  shut e = outcome-is ∙ rw e
+  unfolding outcome guarded
+  shut e = rw e
 
-  pub malformed : fits b ≡ true → wellFormed q b ≡ false → outcome c q b ≡ unchanged (refusal c 10) q b
-  unfolding guarded
-  malformed e f = outcome-is ∙ rw (e, f)
+  after-fits : fits b ≡ true → outcome c q b ≡ guarded (earlyChecks c b) refuse (guarded (formedCheck q b ∷ callChecks c q b) refuse (rule c q b))
+  unfolding outcome guarded
+  after-fits e = rw e (guarded-append refuse (earlyChecks c b) (formedCheck q b ∷ callChecks c q b) (rule c q b))
 
-  pub opened : fits b ≡ true → wellFormed q b ≡ true → outcome c q b ≡ checked
+  malformed-by : fits b ≡ true → wellFormed q b ≡ false → outcome c q b ≡ guarded (earlyChecks c b) refuse (refuse 10)
   unfolding guarded
-  opened e f = outcome-is ∙ rw (e, f)
+  malformed-by e f = after-fits e ∙ rw f
+
+  pub opened-by : fits b ≡ true → wellFormed q b ≡ true → outcome c q b ≡ decided
+  unfolding guarded
+  opened-by e f = after-fits e ∙ rw f (sym (guarded-append refuse (earlyChecks c b) (callChecks c q b) (rule c q b)))
+
+  -- where the call's early checks pass
+  module _ (early : EachPasses (earlyChecks c b)) where
+    pub malformed : fits b ≡ true → wellFormed q b ≡ false → outcome c q b ≡ unchanged (refusal c 10) q b
+    malformed e f = malformed-by e f ∙ guarded-passes refuse (earlyChecks c b) (refuse 10) (each-passes (earlyChecks c b) early)
+
+    pub opened : fits b ≡ true → wellFormed q b ≡ true → outcome c q b ≡ checked
+    opened e f =
+        opened-by e f ∙ guarded-append refuse (earlyChecks c b) (callChecks c q b) (rule c q b) ∙ guarded-passes refuse (earlyChecks c b) checked (each-passes (earlyChecks c b) early)
+
+  pub own-passes : passes ownChecks ≡ true → passes (callChecks c q b) ≡ true
+  own-passes p = every-split (λ k. not (k .applies)) (earlyChecks c b) (callChecks c q b) p .1
 
   -- a fact of every refusal, and of the rule where every check passes
   pub outcome-by :
@@ -89,8 +122,8 @@ module _ (c : Call) (q : Queues) (b : Hierarchy) where
       → (fits b ≡ true → wellFormed q b ≡ true → passes (callChecks c q b) ≡ true → P (rule c q b)) → P (outcome c q b)
   outcome-by P r h = cases (fits b)
       (λ e. cases (wellFormed q b)
-      (λ f. subst P (sym (opened e f)) (guarded-by (λ k. unchanged (refusal c k) q b) P (callChecks c q b) (rule c q b) r (h e f)))
-      (λ f. subst P (sym (malformed e f)) (r 10)))
+      (λ f. subst P (sym (opened-by e f)) (guarded-by refuse P ownChecks (rule c q b) r (λ p. h e f (own-passes p))))
+      (λ f. subst P (sym (malformed-by e f)) (guarded-by refuse P (earlyChecks c b) (refuse 10) r (λ p. r 10))))
       (λ e. subst P (sym (shut e)) (r 1))
 
 -- ---- a rule refuses nothing
@@ -142,15 +175,7 @@ refused-keeps c w =
 -- ---- each refusal exactly under its condition
 
 refusal-names : (c : Call) (k : ℕ) → namesRefusal c ≡ true → refusal c k ≡ refused k
-refusal-names (load a w) k e = refl
-refusal-names (store a w v) k e = refl
-refusal-names (retry i) k e = refl
-refusal-names (commit n) k e = refl
-refusal-names (abort n) k e = refl
-refusal-names idle k e = refl
-refusal-names reply k e = refl
-refusal-names flush k e = refl
-refusal-names (show a) k e = absurd (false≢true e)
+refusal-names c k e = rw e
 
 -- the first that applies is what is given
 pub first-refuses : {A : Type 0} (refuse : ℕ → A) (done : A) (k : ℕ) (ks : List Check) → FirstFailing k ks → guarded ks refuse done ≡ refuse k
@@ -187,15 +212,8 @@ tried (k ∷ ks) = cases (k .applies)
 
 -- a refusal's answer names its number
 pub refusal-number : (c : Call) (j k : ℕ) → refusal c j ≡ refused k → j ≡ k
-refusal-number (load a w) j k e = cc
-refusal-number (store a w v) j k e = cc
-refusal-number (retry i) j k e = cc
-refusal-number (commit n) j k e = cc
-refusal-number (abort n) j k e = cc
-refusal-number idle j k e = cc
-refusal-number reply j k e = cc
-refusal-number flush j k e = cc
-refusal-number (show a) j k e = cc
+refusal-number c j k =
+    either (λ (r : Answer). r ≡ refused k → j ≡ k) (namesRefusal c) (λ e f. cc) (λ e f. cc)
 
 module _ (c : Call) (w : World) where
   answer-first : (k : ℕ) → FirstFailing k (allChecks c w) → answer c w ≡ refusal c k

@@ -9,16 +9,16 @@ use native.Mathlib.Omega.{arith}
 use lib.Dec.{T, ltb, leb}
 use borrow.Author.Tests.{ltb-false, leb-false, lt-leb, not-true}
 use Rattle.lists.specs.Padded.{every}
-use Rattle.lists.proofs.Cond.{cases, and-left, or-left, or-right, truth}
+use Rattle.lists.proofs.Cond.{cases, and-left, or-left, or-right, truth, wrong}
 use Rattle.lists.proofs.Sweep.{sweep-none}
 use Rattle.rules.specs.declared.Figures.{Figures}
-use Rattle.rules.specs.Shape.{Queues, Hierarchy, World, world, noStore, noLoad, fits}
+use Rattle.rules.specs.Shape.{Queues, Hierarchy, World, world, noStore, noLoad}
 use Rattle.rules.specs.Calls.{Call, Outcome, abort, isAccepted, nextNumber, youngStore, youngLoad, squash, abortRule}
 use Rattle.rules.specs.WellFormed.{wellFormed}
 use Rattle.rules.specs.Runs.{outcome, answer, next, after, startWorld}
 use Rattle.rules.specs.Kept.{Formed}
 use Rattle.rules.specs.Dropped.{struck, NoAbortBelow, Dropped, DroppedStretch, DroppedAfterStart}
-use Rattle.rules.proofs.Checks.{shut, malformed, outcome-by}
+use Rattle.rules.proofs.Checks.{outcome-by}
 use Rattle.rules.proofs.QueueView.{parts, goodStore, goodLoad, store-low, load-low}
 use Rattle.rules.proofs.Squash.{squashedOutcome}
 use Rattle.rules.proofs.SquashFormed.{squash-formed}
@@ -89,9 +89,7 @@ none-above n c cs w nb t = cases (isAccepted (answer c w)) (λ e. absurd (nb .0 
 stuck : (c : Call) (w : World) → wellFormed (w .queues) (w .hierarchy) ≡ false → next c w ≡ w
 unfolding next
 stuck c w e =
-    cases (fits (w .hierarchy))
-    (λ f. ap (λ (o : Outcome). world (o .queues) (o .hierarchy)) (malformed c (w .queues) (w .hierarchy) f e))
-    (λ f. ap (λ (o : Outcome). world (o .queues) (o .hierarchy)) (shut c (w .queues) (w .hierarchy) f))
+    outcome-by c (w .queues) (w .hierarchy) (λ o. world (o .queues) (o .hierarchy) ≡ w) (λ k. refl) (λ fit wf p. wrong wf e)
 
 all-stuck : (cs : List Call) (w : World) → wellFormed (w .queues) (w .hierarchy) ≡ false → after cs w ≡ w
 unfolding after

@@ -17,16 +17,18 @@ use Rattle.lists.proofs.Counting.{steps-keep, each-length, each-at, each-same}
 use Rattle.rules.specs.declared.Figures.{Figures}
 use Rattle.rules.specs.declared.Tag.{Tag}
 use Rattle.rules.specs.declared.StoreEntry.{StoreEntry}
-use Rattle.rules.specs.Shape.{Hierarchy, holding, noTag, tagAt, withDirty, slots, firstSlot, lineOf, fits}
-use Rattle.rules.specs.Lines.{slotOf, present, placeOf, cachedByte, useSlot, useLine, putStore, writeStore, writtenBackAt, writeBackSlot, writeBackAll, victim, install, fillLine}
+use Rattle.rules.specs.Shape.{Hierarchy, holding, noTag, tagAt, slots, setOf, firstSlot, lineOf, fits}
+use Rattle.rules.specs.Lines.{slotOf, present, placeOf, cachedByte, useSlot, useLine, dirtyAt, isDirty, cleaned, putStore, writeStore, writtenBackAt, writeBackSlot, writeBackAll, victim, install, fillLine}
 use Rattle.rules.specs.Forward.{storeByte}
 use Rattle.rules.specs.WellFormed.{linesFormed}
 use Rattle.rules.specs.Runs.{started}
 use Rattle.rules.specs.Flat.{flatByte}
-use Rattle.rules.proofs.LineFacts.{Fits, Lines, Good, At, fits-tells, present-tells, look, absent-tells, used-slot, dirty-valid, good-tells}
-use Rattle.rules.proofs.LineSteps.{SameLines, among-tells, slot-same, present-same, use-lines, put-lines, put-other, put-good, saved-else, save-lines, install-tag, install-here, install-other-tag, install-other, install-good}
+use Rattle.rules.proofs.Records.{SameLines}
+use Rattle.rules.proofs.Dirty.{clean-byte, cleaned-clean}
+use Rattle.rules.proofs.Recency.{use-lines, start-invalid}
+use Rattle.rules.proofs.LineFacts.{Fits, Lines, Good, At, fits-tells, present-tells, look, absent-tells, used-slot, byte-valid, good-tells}
+use Rattle.rules.proofs.LineSteps.{among-tells, slot-same, present-same, put-lines, put-other, put-good, saved-else, save-lines, install-tag, install-here, install-other-tag, install-other, install-good}
 use Rattle.rules.proofs.LineRules.{LinesKept, kept-refl, kept-then, kept-fits, shaped-slots, save-kept, victim-in}
-use Rattle.rules.proofs.LineStart.{start-invalid}
 
 -- ---- reading flat memory
 
@@ -50,10 +52,10 @@ flat-none b a h =
     (λ e. let p = present-tells b (lineOf a) e in absurd (h (slotOf b (lineOf a)) (p .valid) (p .line)))
     (flat-gone b a)
 
--- the byte of a clean line
+-- a clean byte of a valid line
 flat-clean :
     (b : Hierarchy) → Good b → (k a : ℕ) → tagAt (b .tags) k .valid ≡ true → tagAt (b .tags) k .line ≡ lineOf a
-    → tagAt (b .tags) k .dirty ≡ false → flatByte b a ≡ getD (b .memory) a 0
+    → dirtyAt (tagAt (b .tags) k) (a % 16) ≡ false → flatByte b a ≡ getD (b .memory) a 0
 unfolding lineOf
 flat-clean b g k a v e d =
     let place : 16 * tagAt (b .tags) k .line + a % 16 ≡ a = omega arith in
@@ -78,16 +80,16 @@ fits-memory b f = fits-tells b f .memory-long
 
 -- ---- use
 
-slot-flat : (f v : ℕ) (b : Hierarchy) (a : ℕ) → flatByte (useSlot f v b) a ≡ flatByte b a
+slot-flat : (s v : ℕ) (b : Hierarchy) (a : ℕ) → flatByte (useSlot s v b) a ≡ flatByte b a
 unfolding useSlot
-slot-flat f v b a = flat-lines b (useSlot f v b .tags) (use-lines f v b) a
+slot-flat s v b a = flat-lines b (useSlot s v b .tags) (use-lines s v b) a
 
 -- no byte changes
 pub use-flat : (l : ℕ) (b : Hierarchy) (a : ℕ) → flatByte (useLine l b) a ≡ flatByte b a
 unfolding useLine
 use-flat l b a =
     either (λ (c : Hierarchy). flatByte c a ≡ flatByte b a) (present b l)
-    (λ e. slot-flat (firstSlot b l) (slotOf b l) b a) (λ e. refl)
+    (λ e. slot-flat (setOf b l) (slotOf b l) b a) (λ e. refl)
 
 pub use-size : (l : ℕ) (b : Hierarchy) → useLine l b .size ≡ b .size
 unfolding useLine useSlot
@@ -162,7 +164,7 @@ module _ (s : StoreEntry) (b : Hierarchy) (fit : Fits b) (g : Good b) (here : pr
   stored-flat : flatByte (writeStore s b) a ≡ cond (among (s .address) (s .width) a) (storeByte s a) (flatByte b a)
   unfolding writeStore overlaid
   stored-flat =
-      slot-flat (firstSlot b (lineOf (s .address))) v put a
+      slot-flat (setOf b (lineOf (s .address))) v put a
       ∙ elim (ℕ-discrete (lineOf a) (lineOf (s .address))) [
         | yes e ↦ put-hit e
         | no d ↦ rw (not-among d) (put-miss d)
@@ -191,16 +193,17 @@ module _ (b : Hierarchy) (fit : Fits b) (g : Good b) (v : ℕ) (v-in : v < slots
     where
       -- memory under an absent line is not written
       unsaved : present b (lineOf a) ≡ false → (x : ℕ) → writtenBackAt (tagAt (b .tags) v) (b .cache) v a x ≡ x
-      unsaved e x = saved-else _ _ v a x (λ d q. absent-tells b (g .lines) (lineOf a) e v (dirty-valid b g v d) (sym q))
+      unsaved e x = saved-else _ _ v a x (λ d q. absent-tells b (g .lines) (lineOf a) e v (byte-valid b g v (a % 16) (omega arith) d) (sym q))
 
-  save-clean : tagAt (writeBackSlot v b .tags) v .dirty ≡ false
+  save-clean : isDirty (tagAt (writeBackSlot v b .tags) v) ≡ false
   unfolding writeBackSlot
   save-clean =
-      ap (λ (t : Tag). t .dirty) (getD-set-same (b .tags) v (withDirty false (tagAt (b .tags) v)) noTag (omega (arith, fit .room, g .table)))
+      ap isDirty (getD-set-same (b .tags) v (cleaned (tagAt (b .tags) v)) noTag (omega (arith, fit .room, g .table)))
+      ∙ cleaned-clean (tagAt (b .tags) v)
 
   save-other : (k : ℕ) → (k ≡ v → ⊥) → tagAt (writeBackSlot v b .tags) k ≡ tagAt (b .tags) k
   unfolding writeBackSlot
-  save-other k d = getD-set-other (b .tags) v k (withDirty false (tagAt (b .tags) v)) noTag d
+  save-other k d = getD-set-other (b .tags) v k (cleaned (tagAt (b .tags) v)) noTag d
 
 -- a fact of the steps so far
 steps-run :
@@ -216,7 +219,7 @@ steps-run P f (suc n) i h a x =
 record Backed (b : Hierarchy) (j : ℕ) (c : Hierarchy) : Type 0 where
   kept : LinesKept b c
   same-flat : (a : ℕ) → flatByte c a ≡ flatByte b a
-  washed : (k : ℕ) → k < j → tagAt (c .tags) k .dirty ≡ false
+  washed : (k : ℕ) → k < j → isDirty (tagAt (c .tags) k) ≡ false
 
 module _ (b : Hierarchy) (f : fits b ≡ true) (g : Good b) where
   backed-step : (j : ℕ) (c : Hierarchy) → j < slots b → Backed b j c → Backed b (suc j) (writeBackSlot j c)
@@ -229,8 +232,8 @@ module _ (b : Hierarchy) (f : fits b ≡ true) (g : Good b) where
         same-flat = λ a. save-flat c fit good j j-in a ∙ k .same-flat a;
         washed = λ i h.
             elim (ℕ-discrete i j) [
-              | yes e ↦ subst (λ (n : ℕ). tagAt (writeBackSlot j c .tags) n .dirty ≡ false) (sym e) (save-clean c fit good j j-in)
-              | no d ↦ ap (λ (t : Tag). t .dirty) (save-other c fit good j j-in i d) ∙ k .washed i (omega arith)
+              | yes e ↦ subst (λ (n : ℕ). isDirty (tagAt (writeBackSlot j c .tags) n) ≡ false) (sym e) (save-clean c fit good j j-in)
+              | no d ↦ ap isDirty (save-other c fit good j j-in i d) ∙ k .washed i (omega arith)
             ];
       }
 
@@ -243,19 +246,19 @@ module _ (b : Hierarchy) (f : fits b ≡ true) (g : Good b) where
 
 -- where no line is dirty, memory is flat memory
 washed-memory :
-    (c : Hierarchy) → Good c → ((k : ℕ) → k < slots c → tagAt (c .tags) k .dirty ≡ false) → (a : ℕ)
+    (c : Hierarchy) → Good c → ((k : ℕ) → k < slots c → isDirty (tagAt (c .tags) k) ≡ false) → (a : ℕ)
     → getD (c .memory) a 0 ≡ flatByte c a
 washed-memory c g h a =
     cases (present c (lineOf a))
     (λ e.
     let p = present-tells c (lineOf a) e in
     let k = slotOf c (lineOf a) in
-    sym (flat-clean c g k a (p .valid) (p .line) (h k (used-slot c g k (p .valid)))))
+    sym (flat-clean c g k a (p .valid) (p .line) (clean-byte _ (a % 16) (omega arith) (h k (used-slot c g k (p .valid))))))
     (λ e. sym (flat-gone c a e))
 
 -- every dirty line is written back: no record of a slot in use is dirty,
 pub back-clean :
-    (b : Hierarchy) → fits b ≡ true → linesFormed b ≡ true → (k : ℕ) → k < slots b → tagAt (writeBackAll b .tags) k .dirty ≡ false
+    (b : Hierarchy) → fits b ≡ true → linesFormed b ≡ true → (k : ℕ) → k < slots b → isDirty (tagAt (writeBackAll b .tags) k) ≡ false
 back-clean b f g k h = backed b f (good-tells b g) .washed k h
 
 -- no byte changes,
@@ -283,7 +286,7 @@ back-length b =
 
 module _ (c : Hierarchy) (fit : Fits c) (g : Good c) (v l : ℕ) (v-in : v < slots c) (low : firstSlot c l ≤ v)
     (high : v < firstSlot c l + c .figures .ways) (inside : 16 * l < c .size) (absent : present c l ≡ false)
-    (washed : tagAt (c .tags) v .dirty ≡ false) (a : ℕ) where
+    (washed : isDirty (tagAt (c .tags) v) ≡ false) (a : ℕ) where
   abbrev new : Hierarchy
   new = install v l c
 
@@ -331,7 +334,7 @@ module _ (c : Hierarchy) (fit : Fits c) (g : Good c) (v l : ℕ) (v-in : v < slo
       elim (ℕ-discrete k v) [
         | yes z ↦
             none-left d (λ j n q r. n (g .lines .once j k q (p .valid) (r ∙ sym (p .line)) ∙ z))
-            ∙ sym (flat-clean c g k a (p .valid) (p .line) (ap (λ (n : ℕ). tagAt (c .tags) n .dirty) z ∙ washed))
+            ∙ sym (flat-clean c g k a (p .valid) (p .line) (clean-byte _ (a % 16) (omega arith) (ap (λ (n : ℕ). isDirty (tagAt (c .tags) n)) z ∙ washed)))
         | no n ↦
             let t = tag-other k n in
             flat-here new (fine .lines) k a (ap (λ (t : Tag). t .valid) t ∙ p .valid) (ap (λ (t : Tag). t .line) t ∙ p .line)
@@ -355,7 +358,7 @@ fill-flat l b f formed absent inside a =
     let h = victim-in b l fit in
     let k = save-kept b fit g v (h .used) in
     let fit₁ = fits-tells (writeBackSlot v b) (kept-fits b _ f k) in
-    slot-flat (firstSlot b l) v (install v l (writeBackSlot v b)) a
+    slot-flat (setOf b l) v (install v l (writeBackSlot v b)) a
     ∙ (install-flat (writeBackSlot v b) fit₁ (k .good) v l (h .used) (h .low) (h .high) (omega arith) (k .lines l ∙ absent) (save-clean b fit g v (h .used)) a
     ∙ save-flat b fit g v (h .used) a)
 
@@ -368,4 +371,4 @@ fill-size l b = refl
 -- a start has no valid line
 pub start-flat : (f : Figures) (found : List ℕ) (a : ℕ) → flatByte (started f found .hierarchy) a ≡ getD found a 0
 unfolding started
-start-flat f found a = flat-none (started f found .hierarchy) a (λ k v e. wrong v (start-invalid (f .sets) (f .ways) k))
+start-flat f found a = flat-none (started f found .hierarchy) a (λ k v e. wrong v (start-invalid f k))

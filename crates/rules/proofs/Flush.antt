@@ -2,7 +2,7 @@
 -- of dirty records before, and no record is dirty after.
 use Prim.Native.Nat.{ℕ, _+_}
 use mathlib.Core.Path.{_≡_, refl, sym, _∙_, ap, ap₂}
-use mathlib.Core.Bool.{Bool, true, false, false≢true}
+use mathlib.Core.Bool.{true, false, false≢true}
 use mathlib.Core.List.{List, _++_, append-nil}
 use native.Mathlib.Omega.{arith}
 use native.Mathlib.Decide.{decLt}
@@ -15,13 +15,14 @@ use Rattle.rules.specs.declared.Figures.{Figures}
 use Rattle.rules.specs.declared.Tag.{Tag}
 use Rattle.rules.specs.declared.StoreEntry.{StoreEntry}
 use Rattle.rules.specs.Shape.{Queues, Hierarchy, World, noTag, slots, tagAt, fits}
-use Rattle.rules.specs.Lines.{writeBackAll, dirtyLines}
+use Rattle.rules.specs.Lines.{isDirty, writeBackAll, dirtyLines}
 use Rattle.rules.specs.Calls.{Call, Outcome, flush, flushed, isAccepted, committedStore, flushRule}
 use Rattle.rules.specs.WellFormed.{linesFormed}
 use Rattle.rules.specs.Runs.{outcome, answer, next, after}
 use Rattle.rules.specs.Flat.{History, upTo, historyOf, flatOf, appliedAll, heldStore, flatCommitted}
 use Rattle.rules.specs.Values.{AfterStart, FromState, dirtyInUse, FlushCounts, FlushesRight}
 use Rattle.rules.proofs.Checks.{outcome-by}
+use Rattle.rules.proofs.Dirty.{no-tag-clean}
 use Rattle.rules.proofs.LineFacts.{good-tells}
 use Rattle.rules.proofs.LineRules.{LinesKept, save-all, shaped-slots}
 use Rattle.rules.proofs.FlatLines.{back-clean}
@@ -32,9 +33,6 @@ use Rattle.rules.proofs.History.{Traced, TracedAt, run-traced}
 use Rattle.rules.proofs.Values.{after-start, from-state}
 
 -- ---- the dirty records
-
-abbrev isDirty : Tag → Bool
-isDirty t = t .dirty
 
 module _ (b : Hierarchy) (f : fits b ≡ true) (g : linesFormed b ≡ true) where
   -- the records that are not in use are clean
@@ -48,7 +46,7 @@ module _ (b : Hierarchy) (f : fits b ≡ true) (g : linesFormed b ≡ true) wher
     where
       rest : any isDirty (drop (slots b) (b .tags)) ≡ false
       rest = none-at isDirty noTag (drop (slots b) (b .tags)) (λ k lt.
-          ap isDirty (getD-drop (slots b) (b .tags) k noTag ∙ good-tells b g .unused (slots b + k) (omega arith)))
+          ap isDirty (getD-drop (slots b) (b .tags) k noTag ∙ good-tells b g .unused (slots b + k) (omega arith)) ∙ no-tag-clean)
 
   -- none is dirty after a write back of all
   back-none : dirtyLines (writeBackAll b) ≡ 0
@@ -58,11 +56,11 @@ module _ (b : Hierarchy) (f : fits b ≡ true) (g : linesFormed b ≡ true) wher
       kept : LinesKept b (writeBackAll b)
       kept = save-all b f (good-tells b g)
 
-      clean : (k : ℕ) → tagAt (writeBackAll b .tags) k .dirty ≡ false
+      clean : (k : ℕ) → isDirty (tagAt (writeBackAll b .tags) k) ≡ false
       clean k =
           elim (decLt k (slots b)) [
             | yes lt ↦ back-clean b f g k lt
-            | no ge ↦ ap isDirty (kept .good .unused k (omega (arith, shaped-slots b (writeBackAll b) (kept .shaped))))
+            | no ge ↦ ap isDirty (kept .good .unused k (omega (arith, shaped-slots b (writeBackAll b) (kept .shaped)))) ∙ no-tag-clean
           ]
 
 -- ---- one flush

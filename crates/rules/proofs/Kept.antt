@@ -23,7 +23,7 @@ use Rattle.rules.specs.Calls.{Call, Outcome, load, store, retry, commit,
 use Rattle.rules.specs.WellFormed.{freeStoreZero, freeLoadZero, storePasses, loadPasses, committedWaitAt, waitingUncoveredAt, alone, requestAbsent, requestInside, requestWanted, waitsFor, wellFormed}
 use Rattle.rules.specs.Runs.{refusal, outcome, answer, next, after, started, startAllowed, startAnswer, startWorld, ready, startRefused}
 use Rattle.rules.specs.Kept.{Formed, StartFormed, NextKept, RunKept, ownOutcome, Admitted, AdmittedAfterStart}
-use Rattle.rules.proofs.Checks.{guarded-numbered, opened, outcome-by, rule-accepts, refusal-number}
+use Rattle.rules.proofs.Checks.{guarded-numbered, ownChecks, opened-by, outcome-by, rule-accepts, refusal-number}
 use Rattle.rules.proofs.LineFacts.{Good, good-tells, good-is}
 use Rattle.rules.proofs.LineRules.{LinesKept, kept-refl, kept-then, kept-fits, use-line, write-store, save-all, fill-line}
 use Rattle.rules.proofs.LineStart.{start-fits, start-good}
@@ -232,7 +232,7 @@ start-formed f cache memory e =
 abbrev ownNumber : ℕ → Bool
 ownNumber k = not (eqb k 1) && not (eqb k 10)
 
-own-numbers : (c : Call) (q : Queues) (b : Hierarchy) → every (λ k. ownNumber (k .number)) (callChecks c q b) ≡ true
+own-numbers : (c : Call) (q : Queues) (b : Hierarchy) → every (λ k. ownNumber (k .number)) (ownChecks c q b) ≡ true
 unfolding every
 own-numbers (load a w) q b = refl
 own-numbers (store a w v) q b = refl
@@ -253,13 +253,13 @@ admitted c w f = record {
 }
   where
     is-own : outcome c (w .queues) (w .hierarchy) ≡ ownOutcome c w
-    is-own = opened c (w .queues) (w .hierarchy) (parts (w .queues) (w .hierarchy) f .fit) f
+    is-own = opened-by c (w .queues) (w .hierarchy) (parts (w .queues) (w .hierarchy) f .fit) f
 
     only : (j : ℕ) → outcome c (w .queues) (w .hierarchy) .answer ≡ refused j → ownNumber j ≡ true
     only j =
         subst (λ (o : Outcome). o .answer ≡ refused j → ownNumber j ≡ true) (sym is-own)
         (guarded-numbered (λ k. unchanged (refusal c k) (w .queues) (w .hierarchy)) (λ o. o .answer ≡ refused j → ownNumber j ≡ true) ownNumber
-        (callChecks c (w .queues) (w .hierarchy)) (rule c (w .queues) (w .hierarchy)) (own-numbers c (w .queues) (w .hierarchy))
+        (ownChecks c (w .queues) (w .hierarchy)) (rule c (w .queues) (w .hierarchy)) (own-numbers c (w .queues) (w .hierarchy))
         (λ k t e. subst (λ (i : ℕ). ownNumber i ≡ true) (refusal-number c k j e) t)
         (λ e. wrong (rule-accepts (w .queues) (w .hierarchy) c) (ap isAccepted e)))
 

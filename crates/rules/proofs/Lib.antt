@@ -1,6 +1,9 @@
 pub mod ByComputing
 pub mod Checks
 pub mod Numbers
+pub mod Records
+pub mod Dirty
+pub mod Recency
 pub mod LineFacts
 pub mod LineSteps
 pub mod LineRules

@@ -3,20 +3,23 @@ use mathlib.Core.Path.{_≡_, refl, sym, ap, subst, _∙_}
 use mathlib.Core.Bool.{Bool, true, false, not, _||_}
 use mathlib.Core.List.{List, [], _∷_}
 use Prim.Native.Nat.{ℕ, zero, suc, _+_, _*_, _-_, _%_, _<_, _≤_}
-use native.Mathlib.Nat.{suc-mul, mul-le-mul-right, mul-le-mul}
+use native.Mathlib.Nat.{mul-le-mul}
 use native.Mathlib.Omega.{arith}
 use native.Mathlib.Decide.{decLt}
-use lib.Dec.{ltb, leb, eqb}
+use lib.Dec.{leb, eqb}
 use lib.ListN.{length, getD, List·getD-eq-default}
-use borrow.Author.Tests.{ltb-true, leb-true, eqb-true, eqb-false, lt-ltb, le-leb, eq-eqb, ne-eqb, not-true, not-false}
+use borrow.Author.Tests.{ltb-true, leb-true, eqb-true, lt-ltb, le-leb, eq-eqb, not-true, not-false}
 use Rattle.lists.specs.Padded.{every}
 use Rattle.lists.specs.Counted.{firstFrom, allFrom}
 use Rattle.lists.proofs.Cond.{cases, and-left, and-right, and-both, or-then, or-by, wrong}
 use Rattle.lists.proofs.Counting.{first-low, first-hits, first-least, all-at, all-by, every-drop}
 use Rattle.rules.specs.declared.Tag.{Tag}
 use Rattle.rules.specs.Shape.{Hierarchy, noTag, tagAt, slots, firstSlot, setsAllowed, waysAllowed, memoryAllowed, figuresAllowed, fits}
-use Rattle.rules.specs.Lines.{holdsLine, slotOf, present}
-use Rattle.rules.specs.WellFormed.{zeroTag, ageGood, setAged, linesInsideAt, linesInSetAt, linesOnceAt, onlyValidDirtyAt, invalidZeroAt, invalidBytesAt, cleanEqualAt, tableLength, unusedZero, agesOnce, linesInside, linesInSet, linesOnce, onlyValidDirty, invalidZero, invalidBytes, cleanEqual, lineClauses, linesFormed}
+use Rattle.rules.specs.Lines.{holdsLine, slotOf, present, dirtyAt, isDirty}
+use Rattle.rules.specs.WellFormed.{zeroTag, linesInsideAt, linesInSetAt, linesOnceAt, onlyValidDirtyAt, invalidZeroAt, invalidBytesAt, cleanEqualAt, tableLength, unusedZero, recencyFormed, linesInside, linesInSet, linesOnce, onlyValidDirty, invalidZero, invalidBytes, cleanEqual, lineClauses, linesFormed}
+use Rattle.rules.proofs.Dirty.{dirty-byte, no-tag-clean}
+use Rattle.rules.proofs.Recency.{Recency, recency-tells, recency-are}
+pub use Rattle.rules.proofs.Records.{set-room}
 
 -- ---- the facts
 
@@ -27,11 +30,6 @@ pub record Fits (b : Hierarchy) : Type 0 where
   pub by-lines : b .size % 16 ≡ 0
   pub memory-long : length (b .memory) ≡ b .size
   pub cache-long : length (b .cache) ≡ slots b * 16
-
--- the ages of the set from slot f on
-pub record Ages (tags : List Tag) (ways f : ℕ) : Type 0 where
-  pub small : (k : ℕ) → f ≤ k → k < f + ways → tagAt tags k .age < ways
-  pub same : (j k : ℕ) → f ≤ j → j < f + ways → f ≤ k → k < f + ways → tagAt tags j .age ≡ tagAt tags k .age → j ≡ k
 
 -- the valid lines
 pub record Lines (b : Hierarchy) : Type 0 where
@@ -46,13 +44,13 @@ pub record Lines (b : Hierarchy) : Type 0 where
 pub record Good (b : Hierarchy) : Type 0 where
   pub table : length (b .tags) ≡ 256
   pub unused : (k : ℕ) → slots b ≤ k → tagAt (b .tags) k ≡ noTag
-  pub ages : (s : ℕ) → s < b .figures .sets → Ages (b .tags) (b .figures .ways) (s * b .figures .ways)
+  pub recency : Recency b
   pub lines : Lines b
   pub clean :
-      (k i : ℕ) → tagAt (b .tags) k .valid ≡ true → tagAt (b .tags) k .dirty ≡ false → i < 16
+      (k i : ℕ) → tagAt (b .tags) k .valid ≡ true → dirtyAt (tagAt (b .tags) k) i ≡ false → i < 16
       → getD (b .cache) (16 * k + i) 0 ≡ getD (b .memory) (16 * tagAt (b .tags) k .line + i) 0
   pub empty :
-      (k : ℕ) → tagAt (b .tags) k .valid ≡ false → (tagAt (b .tags) k .dirty ≡ false) × (tagAt (b .tags) k .line ≡ 0)
+      (k : ℕ) → tagAt (b .tags) k .valid ≡ false → (isDirty (tagAt (b .tags) k) ≡ false) × (tagAt (b .tags) k .line ≡ 0)
   pub zeroed :
       (k i : ℕ) → k < slots b → tagAt (b .tags) k .valid ≡ false → i < 16 → getD (b .cache) (16 * k + i) 0 ≡ 0
 
@@ -64,10 +62,6 @@ pub record At (b : Hierarchy) (l : ℕ) : Type 0 where
   pub line : tagAt (b .tags) (slotOf b l) .line ≡ l
 
 -- ---- check 1
-
--- the slots of a set end before those of a later one
-pub set-room : (s t w : ℕ) → s < t → s * w + w ≤ t * w
-set-room s t w h = rw (← suc-mul) (mul-le-mul-right w h)
 
 sets-bound : (n : ℕ) → setsAllowed n ≡ true → (0 < n) × (n ≤ 64)
 unfolding setsAllowed
@@ -148,8 +142,12 @@ pub used-slot : (b : Hierarchy) → Good b → (k : ℕ) → tagAt (b .tags) k .
 used-slot b g = valid-used b (g .unused)
 
 -- a dirty record is valid
-pub dirty-valid : (b : Hierarchy) → Good b → (k : ℕ) → tagAt (b .tags) k .dirty ≡ true → tagAt (b .tags) k .valid ≡ true
+pub dirty-valid : (b : Hierarchy) → Good b → (k : ℕ) → isDirty (tagAt (b .tags) k) ≡ true → tagAt (b .tags) k .valid ≡ true
 dirty-valid b g k d = cases (tagAt (b .tags) k .valid) (λ v. v) (λ v. wrong d (g .empty k v .0))
+
+pub byte-valid :
+    (b : Hierarchy) → Good b → (k i : ℕ) → i < 16 → dirtyAt (tagAt (b .tags) k) i ≡ true → tagAt (b .tags) k .valid ≡ true
+byte-valid b g k i h d = dirty-valid b g k (dirty-byte (tagAt (b .tags) k) i h d)
 
 -- ---- the clauses, one by one
 
@@ -162,7 +160,7 @@ every-at (t ∷ l) e (suc k) = every-at l (and-right t _ e) k
 record Clauses (b : Hierarchy) : Type 0 where
   table : tableLength b ≡ true
   unused : unusedZero b ≡ true
-  ages : agesOnce b ≡ true
+  recency : recencyFormed b ≡ true
   inside : linesInside b ≡ true
   own : linesInSet b ≡ true
   once : linesOnce b ≡ true
@@ -178,7 +176,7 @@ clauses-tell b e =
     record {
       table = at 0;
       unused = at 1;
-      ages = at 2;
+      recency = at 2;
       inside = at 3;
       own = at 4;
       once = at 5;
@@ -193,13 +191,13 @@ unfolding linesFormed every
 clauses-are b c =
     and-both _ _ (c .table)
     (and-both _ _ (c .unused)
-    (and-both _ _ (c .ages)
+    (and-both _ _ (c .recency)
     (and-both _ _ (c .inside)
     (and-both _ _ (c .own)
     (and-both _ _ (c .once)
     (and-both _ _ (c .dirty) (and-both _ _ (c .line) (and-both _ _ (c .bytes) (and-both _ _ (c .clean) refl)))))))))
 
--- ---- zero records and ages
+-- ---- zero records
 
 -- neither is the smaller
 level : (j k : ℕ) → (j < k → ⊥) → (k < j → ⊥) → j ≡ k
@@ -219,26 +217,6 @@ zero-tells t e =
 zero-is : (t : Tag) → t ≡ noTag → zeroTag t ≡ true
 unfolding zeroTag
 zero-is t e = rw e
-
-ages-tell : (tags : List Tag) (ways f : ℕ) → setAged tags ways f ≡ true → Ages tags ways f
-unfolding setAged ageGood
-ages-tell tags ways f e =
-    record {
-      small = λ k a b. ltb-true _ ways (and-left _ _ (all-at _ ways f e k a b));
-      same = λ j k a b c d q. level j k (λ l. apart j k a l c d q) (λ l. apart k j c l a b (sym q));
-    }
-  where
-    apart : (j k : ℕ) → f ≤ j → j < k → f ≤ k → k < f + ways → tagAt tags j .age ≡ tagAt tags k .age → ⊥
-    apart j k a l c d =
-        let h = and-right (ltb (tagAt tags k .age) ways) _ (all-at _ ways f e k c d) in
-        eqb-false _ _ (not-true _ (all-at _ (k - f) f h j a (omega arith)))
-
-ages-are : (tags : List Tag) (ways f : ℕ) → Ages tags ways f → setAged tags ways f ≡ true
-unfolding setAged ageGood
-ages-are tags ways f h =
-    all-by _ ways f (λ k a b.
-    and-both _ _ (lt-ltb _ ways (h .small k a b))
-    (all-by _ (k - f) f (λ j c d. ap not (ne-eqb _ _ (λ q. let z = h .same j k c (omega arith) a b q in omega arith)))))
 
 -- ---- well-formed, from the clauses and back
 
@@ -275,16 +253,16 @@ module _ (b : Hierarchy) where
         (not-true _ (all-at _ (k - firstSlot b (tag .line)) (firstSlot b (tag .line)) (if-valid e v) j a (omega arith)))
 
     clean-tells :
-        cleanEqualAt b k ≡ true → tag .valid ≡ true → tag .dirty ≡ false → (i : ℕ) → i < 16
+        cleanEqualAt b k ≡ true → tag .valid ≡ true → (i : ℕ) → dirtyAt tag i ≡ false → i < 16
         → getD (b .cache) (16 * k + i) 0 ≡ getD (b .memory) (16 * tag .line + i) 0
     unfolding cleanEqualAt
-    clean-tells e v d i h =
-        eqb-true _ _ (all-at _ 16 0 (or-then (tag .dirty) _ (if-valid e v) d) i (omega arith) (omega arith))
+    clean-tells e v i d h =
+        eqb-true _ _ (or-then (dirtyAt tag i) _ (all-at _ 16 0 (if-valid e v) i (omega arith) (omega arith)) d)
 
-    empty-tells : onlyValidDirtyAt b k ≡ true → invalidZeroAt b k ≡ true → tag .valid ≡ false → (tag .dirty ≡ false) × (tag .line ≡ 0)
+    empty-tells : onlyValidDirtyAt b k ≡ true → invalidZeroAt b k ≡ true → tag .valid ≡ false → (isDirty tag ≡ false) × (tag .line ≡ 0)
     unfolding onlyValidDirtyAt invalidZeroAt
     empty-tells e f v =
-        (cases (tag .dirty) (λ d. wrong (or-then (not (tag .dirty)) _ e (ap not d)) v) (λ d. d), eqb-true _ 0 (or-then (tag .valid) _ f v))
+        (cases (isDirty tag) (λ d. wrong (or-then (not (isDirty tag)) _ e (ap not d)) v) (λ d. d), eqb-true _ 0 (or-then (tag .valid) _ f v))
 
     zeroed-tells : invalidBytesAt b k ≡ true → tag .valid ≡ false → (i : ℕ) → i < 16 → getD (b .cache) (16 * k + i) 0 ≡ 0
     unfolding invalidBytesAt
@@ -295,17 +273,17 @@ good-tells b e =
     record {
       table = long;
       unused = past;
-      ages = λ s h. ages-tell (b .tags) (b .figures .ways) (s * b .figures .ways) (all-at _ (b .figures .sets) 0 (c .ages) s (omega arith) (omega arith));
+      recency = recency-tells b (c .recency);
       lines = record {
         inside = λ k v. inside-tells b k (at-slot b (linesInsideAt b) (c .inside) k (here k v)) v;
         own = own;
         once = λ j k u v q. level j k (twice j k u v q) (twice k j v u (sym q));
       };
-      clean = λ k i v d h. clean-tells b k (at-slot b (cleanEqualAt b) (c .clean) k (here k v)) v d i h;
+      clean = λ k i v d h. clean-tells b k (at-slot b (cleanEqualAt b) (c .clean) k (here k v)) v i d h;
       empty = λ k v.
           elim (decLt k (slots b)) [
             | yes h ↦ empty-tells b k (at-slot b (onlyValidDirtyAt b) (c .dirty) k h) (at-slot b (invalidZeroAt b) (c .line) k h) v
-            | no h ↦ let q = past k (omega arith) in (ap (λ (t : Tag). t .dirty) q, ap (λ (t : Tag). t .line) q)
+            | no h ↦ let q = past k (omega arith) in (ap isDirty q ∙ no-tag-clean, ap (λ (t : Tag). t .line) q)
           ];
       zeroed = λ k i h v l. zeroed-tells b k (at-slot b (invalidBytesAt b) (c .bytes) k h) v i l;
     }
@@ -376,7 +354,7 @@ module _ (b : Hierarchy) (g : Good b) (k : ℕ) where
   clean-is : cleanEqualAt b k ≡ true
   unfolding cleanEqualAt
   clean-is =
-      or-by _ _ (λ n. or-by _ _ (λ d. all-by _ 16 0 (λ i a l. eq-eqb _ _ (g .clean k i (not-false _ n) d (omega arith)))))
+      or-by _ _ (λ n. all-by _ 16 0 (λ i a l. or-by _ _ (λ d. eq-eqb _ _ (g .clean k i (not-false _ n) d (omega arith)))))
 
 pub good-is : (b : Hierarchy) → Good b → linesFormed b ≡ true
 good-is b g =
@@ -385,7 +363,7 @@ good-is b g =
       unused =
           every-drop zeroTag noTag (slots b) (b .tags)
           ∙ all-by _ (length (b .tags) - slots b) (slots b) (λ k a h. zero-is _ (g .unused k a));
-      ages = all-by _ (b .figures .sets) 0 (λ s a h. ages-are (b .tags) (b .figures .ways) (s * b .figures .ways) (g .ages s (omega arith)));
+      recency = recency-are b (g .recency);
       inside = all-by (linesInsideAt b) (slots b) 0 (λ k a h. inside-is b g k);
       own = all-by (linesInSetAt b) (slots b) 0 (λ k a h. own-is b g k);
       once = all-by (linesOnceAt b) (slots b) 0 (λ k a h. once-is b g k);

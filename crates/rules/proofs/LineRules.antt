@@ -1,22 +1,21 @@
 -- What the rules do to the lines (use, write a store, write back, fill) keeps them well formed, and which lines are present afterwards.
 use mathlib.Core.Path.{_≡_, refl, sym, ap, _∙_}
-use mathlib.Core.Bool.{Bool, true, false, not}
+use mathlib.Core.Bool.{true, false}
 use Prim.Native.Nat.{ℕ, _+_, _*_, _%_, _<_, _≤_}
 use native.Mathlib.Nat.{mod-lt}
 use native.Mathlib.Omega.{arith}
 use native.Mathlib.Decide.{ℕ-discrete}
-use lib.Dec.{ltb}
 use lib.ListN.{length}
-use borrow.Author.Tests.{ltb-true}
-use Rattle.lists.specs.Counted.{firstFrom}
 use Rattle.lists.proofs.Cond.{either, wrong}
-use Rattle.lists.proofs.Counting.{first-low, greatest-in, steps-keep, each-length}
+use Rattle.lists.proofs.Counting.{steps-keep, each-length}
 use Rattle.rules.specs.declared.Tag.{Tag}
 use Rattle.rules.specs.declared.StoreEntry.{StoreEntry}
 use Rattle.rules.specs.Shape.{Hierarchy, tagAt, slots, setOf, firstSlot, lineOf, fits}
 use Rattle.rules.specs.Lines.{slotOf, present, useSlot, useLine, putStore, writeStore, writeBackSlot, writeBackAll, victim, install, fillLine}
-use Rattle.rules.proofs.LineFacts.{Fits, Good, set-room, fits-tells, present-tells, look, absent-tells}
-use Rattle.rules.proofs.LineSteps.{present-same, use-lines, use-good, put-lines, put-good, save-lines, save-good, install-tag, install-other-tag, install-good}
+use Rattle.rules.proofs.Records.{set-room}
+use Rattle.rules.proofs.Recency.{use-lines, victim-range}
+use Rattle.rules.proofs.LineFacts.{Fits, Good, fits-tells, present-tells, look, absent-tells}
+use Rattle.rules.proofs.LineSteps.{present-same, use-good, put-lines, put-good, save-lines, save-good, install-tag, install-other-tag, install-good}
 
 -- ---- what stays
 
@@ -75,13 +74,13 @@ set-in b fit l = mod-lt l (fit .some-set)
 
 use-kept :
     (b : Hierarchy) → Fits b → Good b → (l v : ℕ) → firstSlot b l ≤ v → v < firstSlot b l + b .figures .ways
-    → LinesKept b (useSlot (firstSlot b l) v b)
+    → LinesKept b (useSlot (setOf b l) v b)
 unfolding useSlot
 use-kept b fit g l v p q =
     record {
       shaped = record { figures = refl; size = refl; memory = refl; cache = refl };
       good = use-good b fit g (setOf b l) v (set-in b fit l) p q;
-      lines = present-same b _ (b .cache) (b .memory) (use-lines (firstSlot b l) v b);
+      lines = present-same b _ (b .cache) (b .memory) (use-lines (setOf b l) v b);
     }
 
 pub use-line : (l : ℕ) (b : Hierarchy) → fits b ≡ true → Good b → LinesKept b (useLine l b)
@@ -139,15 +138,6 @@ pub record VictimIn (b : Hierarchy) (l : ℕ) : Type 0 where
   pub low : firstSlot b l ≤ victim b l
   pub high : victim b l < firstSlot b l + b .figures .ways
   pub used : victim b l < slots b
-
-victim-range : (b : Hierarchy) (l : ℕ) → 0 < b .figures .ways → (firstSlot b l ≤ victim b l) × (victim b l < firstSlot b l + b .figures .ways)
-unfolding victim
-victim-range b l h =
-    let f = firstSlot b l in
-    let p : ℕ → Bool = λ k. not (tagAt (b .tags) k .valid) in
-    either (λ k. (f ≤ k) × (k < f + b .figures .ways)) (ltb (firstFrom p f (b .figures .ways)) (f + b .figures .ways))
-    (λ e. (first-low p (b .figures .ways) f, ltb-true _ _ e))
-    (λ e. greatest-in (λ k. tagAt (b .tags) k .age) f (f + b .figures .ways) (b .figures .ways) f f (omega arith, omega arith) (omega arith) (omega arith))
 
 pub victim-in : (b : Hierarchy) (l : ℕ) → Fits b → VictimIn b l
 victim-in b l fit =

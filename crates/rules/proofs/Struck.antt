@@ -3,7 +3,7 @@
 use Prim.Native.Nat.{ℕ, _+_, _-_, _≤_, _<_}
 use mathlib.Core.Path.{_≡_, refl, sym, _∙_, ap, ap₂}
 use mathlib.Core.Bool.{Bool, true, false, not, _||_, true≢false, false≢true}
-use mathlib.Core.List.{List, [], _∷_}
+use mathlib.Core.List.{List, [], _∷_, _++_}
 use mathlib.Core.Option.{Option, some, none}
 use native.Mathlib.Omega.{arith}
 use lib.Dec.{ltb, leb}
@@ -15,11 +15,11 @@ use Rattle.rules.specs.declared.StoreEntry.{StoreEntry}
 use Rattle.rules.specs.declared.LoadEntry.{LoadEntry}
 use Rattle.rules.specs.Shape.{Queues, Hierarchy, noStore, noLoad, isFreeStore, isFreeLoad, fits}
 use Rattle.rules.specs.Forward.{loadValue}
-use Rattle.rules.specs.Calls.{Call, Answer, Outcome, Check, load, store, retry, commit, abort, idle, reply, flush, show, isAccepted, unchanged, check, guarded, passes, callChecks, waitingAt, youngStore, youngLoad, squash, answered, answerLoad, retryWith, retryRule, loadRule, storeRule, commitRule, abortRule, canDrain, canRequestLoad, canRequestStore, idleRule, replyRule, flushRule, showRule, rule}
+use Rattle.rules.specs.Calls.{Call, Answer, Outcome, Check, load, store, retry, commit, abort, idle, reply, flush, show, isAccepted, unchanged, check, guarded, passes, earlyChecks, callChecks, waitingAt, youngStore, youngLoad, squash, answered, answerLoad, retryWith, retryRule, loadRule, storeRule, commitRule, abortRule, canDrain, canRequestLoad, canRequestStore, idleRule, replyRule, flushRule, showRule, rule}
 use Rattle.rules.specs.WellFormed.{wellFormed}
 use Rattle.rules.specs.Runs.{refusal, outcome}
 use Rattle.rules.specs.Dropped.{struck, abortsBelow}
-use Rattle.rules.proofs.Checks.{guarded-same, guarded-map, shut, opened, checked, outcome-by, rule-accepts}
+use Rattle.rules.proofs.Checks.{guarded-same, guarded-map, shut, opened-by, ownChecks, decided, own-passes, outcome-by, rule-accepts}
 use Rattle.rules.proofs.QueueView.{parts, goodStore, goodLoad, free-store, free-load}
 use Rattle.rules.proofs.Squash.{squashedOutcome, n-positive, flush-check, flush-squash, reply-squash, show-squash, retry-check, retry-squash, commit-check, commit-squash, abort-check, idle-squash}
 
@@ -163,19 +163,19 @@ module _ (n : ℕ) (q : Queues) (b : Hierarchy) (low : n ≤ q .last + 1) where
 
   module _ (behind : q .committed < n) where
     -- an abort naming less than n is refused
-    refused-abort : (m : ℕ) → m < n → isAccepted (checked (abort m) q b .answer) ≡ false → m ≤ q .committed
+    refused-abort : (m : ℕ) → m < n → isAccepted (decided (abort m) q b .answer) ≡ false → m ≤ q .committed
     unfolding guarded abortRule
     refused-abort m k e =
         cases (leb m (q .committed)) (λ t. leb-true m (q .committed) t)
         (λ t. absurd (true≢false (rw (t, le-ltb (q .last + 1) m (omega arith)) at e)))
 
     -- a commit that is not refused names less than n
-    early-commit : (k : ℕ) → checked (commit k) q b .queues .committed < n → (ltb k (q .committed) || ltb (q .last) k) ≡ false → k < n
+    early-commit : (k : ℕ) → decided (commit k) q b .queues .committed < n → (ltb k (q .committed) || ltb (q .last) k) ≡ false → k < n
     unfolding guarded commitRule
     early-commit k h e = rw e at h
 
     checks-squash :
-        (c : Call) → struck n c ≡ false → Above n c (checked c q b .answer) → checked c q b .queues .committed < n
+        (c : Call) → struck n c ≡ false → Above n c (decided c q b .answer) → decided c q b .queues .committed < n
         → callChecks c (squash n q) b ≡ callChecks c q b
     checks-squash (load a w) s f k = absurd (true≢false s)
     checks-squash (store a w v) s f k = absurd (true≢false s)
@@ -192,7 +192,7 @@ module _ (n : ℕ) (q : Queues) (b : Hierarchy) (low : n ≤ q .last + 1) where
     checks-squash (show a) s f k = refl
 
     rule-squash :
-        (c : Call) → struck n c ≡ false → Above n c (checked c q b .answer) → checked c q b .queues .committed < n → passes (callChecks c q b) ≡ true
+        (c : Call) → struck n c ≡ false → Above n c (decided c q b .answer) → decided c q b .queues .committed < n → passes (callChecks c q b) ≡ true
         → rule c (squash n q) b ≡ squashedOutcome n (rule c q b)
     unfolding every
     rule-squash (load a w) s f k p = absurd (true≢false s)
@@ -207,13 +207,13 @@ module _ (n : ℕ) (q : Queues) (b : Hierarchy) (low : n ≤ q .last + 1) where
     rule-squash flush s f k p = flush-squash n q b behind
     rule-squash (show a) s f k p = show-squash n q b behind a
 
-    checked-squash :
-        (c : Call) → struck n c ≡ false → Above n c (checked c q b .answer) → checked c q b .queues .committed < n
-        → checked c (squash n q) b ≡ squashedOutcome n (checked c q b)
-    checked-squash c s f k =
-        ap (λ (ks : List Check). guarded ks (λ j. unchanged (refusal c j) (squash n q) b) (rule c (squash n q) b)) (checks-squash c s f k)
-        ∙ guarded-same (λ j. unchanged (refusal c j) (squash n q) b) (callChecks c q b) (rule c (squash n q) b) (squashedOutcome n (rule c q b)) (rule-squash c s f k)
-        ∙ sym (guarded-map (squashedOutcome n) (λ j. unchanged (refusal c j) q b) (callChecks c q b) (rule c q b))
+    decided-squash :
+        (c : Call) → struck n c ≡ false → Above n c (decided c q b .answer) → decided c q b .queues .committed < n
+        → decided c (squash n q) b ≡ squashedOutcome n (decided c q b)
+    decided-squash c s f k =
+        ap (λ (ks : List Check). guarded (earlyChecks c b ++ ks) (λ j. unchanged (refusal c j) (squash n q) b) (rule c (squash n q) b)) (checks-squash c s f k)
+        ∙ guarded-same (λ j. unchanged (refusal c j) (squash n q) b) (ownChecks c q b) (rule c (squash n q) b) (squashedOutcome n (rule c q b)) (λ p. rule-squash c s f k (own-passes c q b p))
+        ∙ sym (guarded-map (squashedOutcome n) (λ j. unchanged (refusal c j) q b) (ownChecks c q b) (rule c q b))
 
     pub outcome-squash :
         wellFormed q b ≡ true → wellFormed (squash n q) b ≡ true → (c : Call) → struck n c ≡ false → Above n c (outcome c q b .answer)
@@ -221,7 +221,7 @@ module _ (n : ℕ) (q : Queues) (b : Hierarchy) (low : n ≤ q .last + 1) where
     outcome-squash wf wf′ c s f k =
         cases (fits b)
         (λ e.
-        opened c (squash n q) b e wf′
-        ∙ checked-squash c s (rw (opened c q b e wf) at f) (rw (opened c q b e wf) at k)
-        ∙ ap (squashedOutcome n) (sym (opened c q b e wf)))
+        opened-by c (squash n q) b e wf′
+        ∙ decided-squash c s (rw (opened-by c q b e wf) at f) (rw (opened-by c q b e wf) at k)
+        ∙ ap (squashedOutcome n) (sym (opened-by c q b e wf)))
         (λ e. shut c (squash n q) b e ∙ ap (squashedOutcome n) (sym (shut c q b e)))

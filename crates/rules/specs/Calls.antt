@@ -129,6 +129,18 @@ committedStore h s = not (isFreeStore s) && leb (s .number) h
 unfoldable pub waitingAt : ℕ → LoadEntry → Bool
 waitingAt i l = not (isFreeLoad l) && (eqb (l .number) i && l .waiting)
 
+-- the refusals of each call that stand between 1 and 10, by the call and the hierarchy: there is none
+abbrev pub earlyChecks : Call → Hierarchy → List Check
+earlyChecks (load a w) b = []
+earlyChecks (store a w v) b = []
+earlyChecks (retry i) b = []
+earlyChecks (commit k) b = []
+earlyChecks (abort n) b = []
+earlyChecks idle b = []
+earlyChecks reply b = []
+earlyChecks flush b = []
+earlyChecks (show a) b = []
+
 -- the refusals of each call that follow 1 and 10, in order: 2, 3, 4, 5, 13, then 11 or 12; the others alone
 abbrev pub callChecks : Call → Queues → Hierarchy → List Check
 -- 12: "load: 8 are listed"

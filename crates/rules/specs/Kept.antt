@@ -6,7 +6,7 @@ use mathlib.Core.Bool.{true}
 use mathlib.Core.List.{List, _∷_, _++_}
 use Rattle.rules.specs.declared.Figures.{Figures}
 use Rattle.rules.specs.Shape.{World}
-use Rattle.rules.specs.Calls.{Call, Outcome, refused, unchanged, guarded, callChecks, rule}
+use Rattle.rules.specs.Calls.{Call, Outcome, refused, unchanged, guarded, earlyChecks, callChecks, rule}
 use Rattle.rules.specs.WellFormed.{wellFormed}
 use Rattle.rules.specs.Runs.{refusal, outcome, answer, next, after, startWorld, startAnswer, ready}
 
@@ -30,7 +30,7 @@ RunKept run w = Formed w → Formed (after run w)
 -- what a call's own refusals and its rule say, without 1 and 10
 abbrev pub ownOutcome : Call → World → Outcome
 ownOutcome c w =
-    guarded (callChecks c (w .queues) (w .hierarchy)) (λ k. unchanged (refusal c k) (w .queues) (w .hierarchy))
+    guarded (earlyChecks c (w .hierarchy) ++ callChecks c (w .queues) (w .hierarchy)) (λ k. unchanged (refusal c k) (w .queues) (w .hierarchy))
     (rule c (w .queues) (w .hierarchy))
 
 -- neither 1 nor 10 refuses the call

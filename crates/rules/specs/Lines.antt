@@ -11,7 +11,7 @@ use Rattle.lists.specs.Counted.{firstFrom, greatestFrom, stepsFrom, eachFrom}
 use Rattle.lists.specs.Bytes.{overlaid}
 use Rattle.rules.specs.declared.Tag.{Tag}
 use Rattle.rules.specs.declared.StoreEntry.{StoreEntry}
-use Rattle.rules.specs.Shape.{Hierarchy, holding, lineBytes, lineOf, slots, firstSlot, tagAt, withAge, withDirty}
+use Rattle.rules.specs.Shape.{Hierarchy, holding, lineBytes, lineOf, setOf, setStart, slots, firstSlot, tagAt, withAge, withDirty}
 
 -- ---- where a line stands
 
@@ -47,40 +47,58 @@ agedAt f ways v a k t =
     cond (eqb k v) (withAge 0 t)
     (cond (leb f k && (ltb k (f + ways) && ltb (t .age) a)) (withAge (t .age + 1) t) t)
 
--- slot v of the set that begins at slot f is used
+-- slot v of set s is used
 unfoldable pub useSlot : ℕ → ℕ → Hierarchy → Hierarchy
-useSlot f v b =
-    holding b (eachFrom (agedAt f (b .figures .ways) v (tagAt (b .tags) v .age)) 0 (b .tags)) (b .cache) (b .memory)
+useSlot s v b =
+    holding b (eachFrom (agedAt (setStart b s) (b .figures .ways) v (tagAt (b .tags) v .age)) 0 (b .tags)) (b .cache) (b .memory)
 
 -- "Use gives a line age 0 and adds 1 to each smaller age in its set.": the line is used, if it is present
 unfoldable pub useLine : ℕ → Hierarchy → Hierarchy
-useLine l b = cond (present b l) (useSlot (firstSlot b l) (slotOf b l) b) b
+useLine l b = cond (present b l) (useSlot (setOf b l) (slotOf b l) b) b
+
+-- ---- dirty
+
+-- byte i of the record's line is to be written back: of a dirty line every byte is
+unfoldable pub dirtyAt : Tag → ℕ → Bool
+dirtyAt t i = t .dirty
+
+-- some byte of it is
+abbrev pub isDirty : Tag → Bool
+isDirty t = t .dirty
+
+-- "mark the line dirty": the record, when the store was written to its line
+abbrev pub marked : StoreEntry → Tag → Tag
+marked s t = withDirty true t
+
+-- "marks it clean": the record, when its line was written back
+abbrev pub cleaned : Tag → Tag
+cleaned t = withDirty false t
 
 -- ---- a store is written
 
 -- the store's bytes go into slot v, whose line is now dirty
 unfoldable pub putStore : ℕ → StoreEntry → Hierarchy → Hierarchy
 putStore v s b =
-    holding b (set (b .tags) v (withDirty true (tagAt (b .tags) v)))
+    holding b (set (b .tags) v (marked s (tagAt (b .tags) v)))
     (eachFrom (overlaid (slotPlace v + s .address % lineBytes) (s .width) (s .value)) 0 (b .cache)) (b .memory)
 
 -- "write it, mark the line dirty, use the line": of a store whose line is present
 unfoldable pub writeStore : StoreEntry → Hierarchy → Hierarchy
 writeStore s b =
     let l = lineOf (s .address) in
-    useSlot (firstSlot b l) (slotOf b l) (putStore (slotOf b l) s b)
+    useSlot (setOf b l) (slotOf b l) (putStore (slotOf b l) s b)
 
 -- ---- write back: a line goes to memory
 
--- byte a of memory, when the line of record t, in slot v, is written if it is dirty
+-- byte a of memory, when the line of record t, in slot v, is written where it is dirty
 unfoldable pub writtenBackAt : Tag → List ℕ → ℕ → ℕ → ℕ → ℕ
 writtenBackAt t cache v a x =
-    cond (t .dirty && eqb (lineOf a) (t .line)) (getD cache (slotPlace v + a % lineBytes) 0) x
+    cond (dirtyAt t (a % lineBytes) && eqb (lineOf a) (t .line)) (getD cache (slotPlace v + a % lineBytes) 0) x
 
--- the line of slot v is written to memory if it is dirty, and is clean
+-- the line of slot v is written to memory where it is dirty, and is clean
 unfoldable pub writeBackSlot : ℕ → Hierarchy → Hierarchy
 writeBackSlot v b =
-    holding b (set (b .tags) v (withDirty false (tagAt (b .tags) v))) (b .cache)
+    holding b (set (b .tags) v (cleaned (tagAt (b .tags) v))) (b .cache)
     (eachFrom (writtenBackAt (tagAt (b .tags) v) (b .cache) v) 0 (b .memory))
 
 -- "writes every dirty line to memory, marks it clean": slot by slot
@@ -89,7 +107,7 @@ writeBackAll b = stepsFrom writeBackSlot 0 (slots b) b
 
 -- the number of dirty records
 unfoldable pub dirtyLines : Hierarchy → ℕ
-dirtyLines b = length (filter (λ t. t .dirty) (b .tags))
+dirtyLines b = length (filter isDirty (b .tags))
 
 -- ---- fill: a line comes from memory
 
@@ -113,4 +131,4 @@ install v l b =
 -- "A dirty victim is first written to memory. Then the reply copies the line's 16 bytes out of the middle of memory;
 -- the record becomes valid and clean, is used"
 unfoldable pub fillLine : ℕ → Hierarchy → Hierarchy
-fillLine l b = let v = victim b l in useSlot (firstSlot b l) v (install v l (writeBackSlot v b))
+fillLine l b = let v = victim b l in useSlot (setOf b l) v (install v l (writeBackSlot v b))

@@ -1,32 +1,20 @@
 -- Claims about refusals: a refused call changes nothing, and each refusal is given under its stated condition and under no other.
--- The refusals themselves are `accessChecks` to `callChecks` in Calls (2 to 18) and `stateChecks` in Runs (1 and 10).
+-- The refusals themselves are `accessChecks` to `callChecks` in Calls (2 to 18), `fitCheck` (1) and `formedCheck` (10) in Runs.
 use Prim.Native.Nat.{ℕ}
 use mathlib.Core.Path.{_≡_}
-use mathlib.Core.Bool.{Bool, true, false}
+use mathlib.Core.Bool.{true, false}
 use mathlib.Core.List.{List, _∷_, _++_}
 use Rattle.rules.specs.Shape.{World}
-use Rattle.rules.specs.Calls.{Call, Check, load, store, retry, commit, abort, idle, reply, flush, show, refused, isAccepted, passes, callChecks}
-use Rattle.rules.specs.Runs.{stateChecks, answer, next}
+use Rattle.rules.specs.Calls.{Call, Check, refused, isAccepted, passes}
+use Rattle.rules.specs.Runs.{orderedChecks, namesRefusal, answer, next}
 
 -- "It returns the number alone, and state, cache and memory keep their contents."
 abbrev pub RefusedKeeps : Call → World → Type 0
 RefusedKeeps c w = isAccepted (answer c w) ≡ false → next c w ≡ w
 
--- every call but show line names refusals
-abbrev pub namesRefusal : Call → Bool
-namesRefusal (load a w) = true
-namesRefusal (store a w v) = true
-namesRefusal (retry i) = true
-namesRefusal (commit k) = true
-namesRefusal (abort n) = true
-namesRefusal idle = true
-namesRefusal reply = true
-namesRefusal flush = true
-namesRefusal (show a) = false
-
 -- the conditions of a call, in 01's order
 abbrev pub allChecks : Call → World → List Check
-allChecks c w = stateChecks (w .queues) (w .hierarchy) ++ callChecks c (w .queues) (w .hierarchy)
+allChecks c w = orderedChecks c (w .queues) (w .hierarchy)
 
 -- k is the number of the first refusal that applies
 pub record FirstFailing (k : ℕ) (ks : List Check) : Type 0 where

@@ -1,6 +1,6 @@
 -- Start, a call with its checks, and a run.
 use Prim.Native.Nat.{ℕ, _*_, _%_}
-use mathlib.Core.Bool.{Bool, cond, not, _&&_}
+use mathlib.Core.Bool.{Bool, true, false, cond, not, _&&_}
 use mathlib.Core.List.{List, [], _∷_, _++_}
 use lib.Dec.{ltb, eqb}
 use lib.ListN.{length, replicate}
@@ -9,15 +9,15 @@ use Rattle.rules.specs.declared.Figures.{Figures}
 use Rattle.rules.specs.declared.Tag.{Tag}
 use Rattle.rules.specs.declared.Request.the-variants.{Free}
 use Rattle.rules.specs.Shape.{Queues, Hierarchy, World, world, lineBytes, tableSize, storePlaces, loadPlaces, noStore, noLoad, noTag, withAge, noFigures, figuresAllowed, fits}
-use Rattle.rules.specs.Calls.{Call, Answer, Outcome, Check, load, store, retry, commit, abort, idle, reply, flush, show, refused, check, guarded, callChecks, unchanged, emptyPart, rule}
+use Rattle.rules.specs.Calls.{Call, Answer, Outcome, Check, load, store, retry, commit, abort, idle, reply, flush, show, refused, check, guarded, earlyChecks, callChecks, unchanged, emptyPart, rule}
 use Rattle.rules.specs.WellFormed.{wellFormed}
 
 -- ---- start
 
 -- "gives way w age w, invalidates every record": slot s × ways + w has age w; the other records are zero
-unfoldable pub startTags : ℕ → ℕ → List Tag
-startTags sets ways =
-    eachFrom (λ k t. cond (ltb k (sets * ways)) (withAge (k % ways) t) t) 0 (replicate tableSize noTag)
+unfoldable pub startTags : Figures → List Tag
+startTags f =
+    eachFrom (λ k t. cond (ltb k (f .sets * f .ways)) (withAge (k % f .ways) t) t) 0 (replicate tableSize noTag)
 
 -- queues with every place free: "Start sets both to 0."
 abbrev pub emptyQueues : Queues
@@ -36,7 +36,7 @@ started f memory = record {
   hierarchy = record {
     figures = f;
     size = length memory;
-    tags = startTags (f .sets) (f .ways);
+    tags = startTags f;
     cache = replicate (f .sets * f .ways * lineBytes) 0;
     memory = memory;
   };
@@ -75,27 +75,41 @@ startWorld f cache memory =
 
 -- ---- a call
 
--- 1: "sets, ways, memory or cache length is not allowed, or a lent length disagrees with the state"; 10: "state not well formed"
+-- 1: "sets, ways, memory or cache length is not allowed, or a lent length disagrees with the state"
+abbrev pub fitCheck : Hierarchy → Check
+fitCheck b = check 1 (not (fits b))
+
+-- 10: "state not well formed"
+abbrev pub formedCheck : Queues → Hierarchy → Check
+formedCheck q b = check 10 (not (wellFormed q b))
+
+-- the two of them, which depend on no call
 abbrev pub stateChecks : Queues → Hierarchy → List Check
-stateChecks q b = check 1 (not (fits b)) ∷ check 10 (not (wellFormed q b)) ∷ []
+stateChecks q b = fitCheck b ∷ formedCheck q b ∷ []
+
+-- "Order: 6, 1, 10, 2, 3, 4, 5, 13, then 11 or 12; the others follow 10." (6 is the script player's)
+abbrev pub orderedChecks : Call → Queues → Hierarchy → List Check
+orderedChecks c q b = fitCheck b ∷ (earlyChecks c b ++ formedCheck q b ∷ callChecks c q b)
+
+-- every call but show line names refusals
+abbrev pub namesRefusal : Call → Bool
+namesRefusal (load a w) = true
+namesRefusal (store a w v) = true
+namesRefusal (retry i) = true
+namesRefusal (commit k) = true
+namesRefusal (abort n) = true
+namesRefusal idle = true
+namesRefusal reply = true
+namesRefusal flush = true
+namesRefusal (show a) = false
 
 -- what a refusal answers: show line "is the sole call that names no refusal"
 abbrev pub refusal : Call → ℕ → Answer
-refusal (load a w) k = refused k
-refusal (store a w v) k = refused k
-refusal (retry i) k = refused k
-refusal (commit n) k = refused k
-refusal (abort n) k = refused k
-refusal idle k = refused k
-refusal reply k = refused k
-refusal flush k = refused k
-refusal (show a) k = emptyPart
+refusal c k = cond (namesRefusal c) (refused k) emptyPart
 
--- "Order: 6, 1, 10, 2, 3, 4, 5, 13, then 11 or 12; the others follow 10. .. state, cache and memory keep their contents."
--- (6 is the script player's)
+-- "state, cache and memory keep their contents"
 unfoldable pub outcome : Call → Queues → Hierarchy → Outcome
-outcome c q b =
-    guarded (stateChecks q b ++ callChecks c q b) (λ k. unchanged (refusal c k) q b) (rule c q b)
+outcome c q b = guarded (orderedChecks c q b) (λ k. unchanged (refusal c k) q b) (rule c q b)
 
 unfoldable pub answer : Call → World → Answer
 answer c w = outcome c (w .queues) (w .hierarchy) .answer

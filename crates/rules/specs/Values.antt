@@ -11,7 +11,7 @@ use Rattle.lists.specs.Bytes.{valueAt}
 use Rattle.rules.specs.declared.Figures.{Figures}
 use Rattle.rules.specs.declared.LoadEntry.{LoadEntry}
 use Rattle.rules.specs.Shape.{Hierarchy, World, noLoad, slots}
-use Rattle.rules.specs.Lines.{dirtyLines}
+use Rattle.rules.specs.Lines.{isDirty, dirtyLines}
 use Rattle.rules.specs.Forward.{lacking}
 use Rattle.rules.specs.Calls.{Call, Answer, load, store, retry, commit, abort, idle, reply, flush, show, value, waits, flushed, isAccepted, waitingAt, nextNumber}
 use Rattle.rules.specs.Runs.{answer, next, after, startWorld, startAnswer, ready}
@@ -110,7 +110,7 @@ InquiriesRight found h w run =
 
 -- the number of dirty records among the slots in use
 abbrev pub dirtyInUse : Hierarchy → ℕ
-dirtyInUse b = length (filter (λ t. t .dirty) (take (slots b) (b .tags)))
+dirtyInUse b = length (filter isDirty (take (slots b) (b .tags)))
 
 -- an accepted flush of any state
 pub record FlushExact (w : World) (k : ℕ) : Type 0 where

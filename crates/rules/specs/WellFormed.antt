@@ -12,7 +12,7 @@ use Rattle.rules.specs.declared.LoadEntry.{LoadEntry}
 use Rattle.rules.specs.declared.Request.{Request}
 use Rattle.rules.specs.declared.Request.the-variants.{Free, Line}
 use Rattle.rules.specs.Shape.{Queues, Hierarchy, lineBytes, tableSize, storePlaces, loadPlaces, topNumber, isFreeStore, isFreeLoad, slots, setStart, firstSlot, tagAt, lineOf, lineInMemory, fits}
-use Rattle.rules.specs.Lines.{holdsLine, present, slotPlace}
+use Rattle.rules.specs.Lines.{holdsLine, present, slotPlace, dirtyAt, isDirty}
 use Rattle.rules.specs.Forward.{someUncovered}
 use Rattle.rules.specs.Calls.{passes, accessChecks, valueCheck, oldestStore, storeReady}
 
@@ -69,6 +69,10 @@ setAged tags ways f = allFrom (ageGood tags ways f) f ways
 abbrev pub agesOnce : Hierarchy → Bool
 agesOnce b = allFrom (λ s. setAged (b .tags) (b .figures .ways) (setStart b s)) 0 (b .figures .sets)
 
+-- all that is asked of what use and the choice of a victim go by
+abbrev pub recencyFormed : Hierarchy → Bool
+recencyFormed b = agesOnce b
+
 -- ---- "a valid line lies in memory, is in its own set and is there only once"
 
 unfoldable pub linesInsideAt : Hierarchy → ℕ → Bool
@@ -98,7 +102,7 @@ linesOnce b = allFrom (linesOnceAt b) 0 (slots b)
 -- ---- "only valid lines are dirty; an invalid record is zero but for its age, with zero cache bytes"
 
 unfoldable pub onlyValidDirtyAt : Hierarchy → ℕ → Bool
-onlyValidDirtyAt b k = let t = tagAt (b .tags) k in not (t .dirty) || t .valid
+onlyValidDirtyAt b k = let t = tagAt (b .tags) k in not (isDirty t) || t .valid
 
 abbrev pub onlyValidDirty : Hierarchy → Bool
 onlyValidDirty b = allFrom (onlyValidDirtyAt b) 0 (slots b)
@@ -123,8 +127,7 @@ unfoldable pub cleanEqualAt : Hierarchy → ℕ → Bool
 cleanEqualAt b k =
     let t = tagAt (b .tags) k in
     not (t .valid)
-    || (t .dirty
-    || allFrom (λ i. eqb (getD (b .cache) (slotPlace k + i) 0) (getD (b .memory) (lineBytes * t .line + i) 0)) 0 lineBytes)
+    || allFrom (λ i. dirtyAt t i || eqb (getD (b .cache) (slotPlace k + i) 0) (getD (b .memory) (lineBytes * t .line + i) 0)) 0 lineBytes
 
 abbrev pub cleanEqual : Hierarchy → Bool
 cleanEqual b = allFrom (cleanEqualAt b) 0 (slots b)
@@ -198,7 +201,7 @@ abbrev pub lineClauses : Hierarchy → List Bool
 lineClauses b =
     tableLength b
     ∷ unusedZero b
-    ∷ agesOnce b
+    ∷ recencyFormed b
     ∷ linesInside b
     ∷ linesInSet b
     ∷ linesOnce b

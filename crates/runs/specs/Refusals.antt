@@ -2,8 +2,8 @@
 use Prim.Native.Nat.{ℕ}
 use mathlib.Core.Path.{_≡_}
 use mathlib.Core.Bool.{true, false}
-use Rattle.rules.specs.Refusals.{namesRefusal, allChecks, FirstFailing}
-use Rattle.rules.specs.Runs.{startAllowed}
+use Rattle.rules.specs.Refusals.{allChecks, FirstFailing}
+use Rattle.rules.specs.Runs.{namesRefusal, startAllowed}
 use Rattle.model.specs.declared.Answer.the-variants.{Refused}
 use Rattle.model.specs.declared.StartAnswer.the-variants.{Ready, NotAllowed}
 use Rattle.runs.specs.Machines.{Machine, Made, StartMade, worldAt, left, callMade, acceptedCall, StartPromised, EveryCall}

@@ -4,10 +4,10 @@
 
 use compare::check;
 use compare::counts::{Counts, Needed};
-use compare::model::Right;
+use compare::model::{Machine, Right};
 use compare::random::{self, Rng, Run};
-use compare::types::{Answer, Call, LoadEntry, Part, Request, State, StoreEntry, Tag};
-use nicoisetarn::{Figures, Image, Refusal, LINE, LOADS, RECORDS, STORES};
+use compare::types::{Answer, Call, Figures, LoadEntry, Part, Request, State, StoreEntry, Tag};
+use nicoisetarn::{Image, Refusal, LINE, LOADS, RECORDS, STORES};
 
 /// Where the parts of an image stand.
 pub const REQUESTED: usize = 20;
@@ -59,13 +59,24 @@ pub fn stands(image: &Image) -> bool {
         && tags.all(|tag| tag[0] <= 1 && tag[1] <= 1 && tag[5] == 0)
 }
 
+/// Figures of the model as those of the library.
+pub fn library_figures(figures: Figures) -> nicoisetarn::Figures {
+    nicoisetarn::Figures { sets: figures.sets, ways: figures.ways }
+}
+
+/// The figures of an image as those of the model.
+fn figures_of(image: &Image) -> Figures {
+    let figures = image.figures();
+    Figures::new(figures.sets, figures.ways)
+}
+
 /// The state that an image stands for, as its accessors tell it.
 pub fn state_of(image: &Image) -> Option<State> {
     if !stands(image) {
         return None;
     }
     let mut state = State::zero();
-    Figures { sets: state.sets, ways: state.ways } = image.figures();
+    state.figures = figures_of(image);
     state.memory_length = image.memory_length();
     (state.last, state.committed) = (image.last(), image.committed());
     state.request = image.requested().map_or(Request::Free, Request::Line);
@@ -95,7 +106,8 @@ pub fn image_of(state: &State) -> Image {
         Request::Free => (0, 0),
         Request::Line(line) => (1, line),
     };
-    let figures = [state.sets, state.ways, state.memory_length, state.last, state.committed];
+    let Figures { sets, ways } = state.figures;
+    let figures = [sets, ways, state.memory_length, state.last, state.committed];
     let stores = state.stores.iter().flat_map(|s| [s.number, s.address, s.width, s.value]);
     let loads = state.loads.iter().flat_map(|load| {
         let waiting = load.answered == (load.number == 0);
@@ -162,8 +174,8 @@ impl Bench {
         let Bench { image, cache, memory } = self;
         answer_of(match (call, call_of(call)) {
             (_, Some(call)) => image.call(cache, memory, call),
-            (Call::Start { sets, ways }, None) => {
-                image.restart(Figures { sets, ways }, cache, memory)
+            (Call::Start { figures }, None) => {
+                image.restart(library_figures(figures), cache, memory)
             }
             (_, None) => panic!("{call:?} has no number"),
         })
@@ -172,7 +184,7 @@ impl Bench {
     /// What a run begins with: a start, on the library.
     pub fn begin(run: &Run) -> Bench {
         let (mut cache, memory) = (run.found_cache(), run.found.clone());
-        let figures = Figures { sets: run.sets, ways: run.ways };
+        let figures = library_figures(run.figures);
         let mut image = Image::start(figures, &mut cache, &memory).unwrap();
         if run.numbered != 0 {
             let mut bytes = image.to_bytes();
@@ -228,8 +240,8 @@ impl Beside {
     fn model(&mut self, call: Call) -> Answer {
         let Beside { library, state, cache, memory } = self;
         match (call, state) {
-            (Call::Start { sets, ways }, state) => {
-                let (started, answer) = Right::start(sets, ways, cache, memory);
+            (Call::Start { figures }, state) => {
+                let (started, answer) = Right::start(figures, cache, memory);
                 if answer.accepted() {
                     *state = Some(started);
                 }
@@ -282,10 +294,10 @@ impl Beside {
 
 /// The figures of an image are allowed and the lent lengths agree with them.
 pub fn figures_agree(bench: &Bench) -> bool {
-    let mut figures = State::zero();
-    Figures { sets: figures.sets, ways: figures.ways } = bench.image.figures();
-    figures.memory_length = bench.image.memory_length();
-    check::figures_agree(&figures, &bench.cache, &bench.memory)
+    let mut state = State::zero();
+    state.figures = figures_of(&bench.image);
+    state.memory_length = bench.image.memory_length();
+    check::figures_agree(&state, &bench.cache, &bench.memory)
 }
 
 /// A number that is likely to matter somewhere.
@@ -307,7 +319,7 @@ fn near_number(image: &Image, rng: &mut Rng) -> u32 {
 fn near_address(image: &Image, rng: &mut Rng) -> u32 {
     let store = image.stores()[rng.below(4) as usize].address;
     let load = image.loads()[rng.below(4) as usize].address;
-    let Figures { sets, ways } = image.figures();
+    let Figures { sets, ways } = figures_of(image);
     let used = sets.wrapping_mul(ways).clamp(1, RECORDS as u32);
     let line = image.tag(rng.below(u64::from(used)) as usize).map_or(0, |tag| tag.line);
     let inside = rng.below(u64::from(image.memory_length().max(1))) as u32;
@@ -341,6 +353,6 @@ pub fn each_call(image: &Image, rng: &mut Rng) -> [Call; 10] {
         Call::Idle,
         Call::Reply,
         Call::Flush,
-        Call::Start { sets, ways },
+        Call::Start { figures: Figures::new(sets, ways) },
     ]
 }

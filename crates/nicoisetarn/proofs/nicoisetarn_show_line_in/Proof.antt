@@ -39,10 +39,10 @@ use denote.Triple.Table.{entered, cited}
 use denote.Triple.Walked.{says, Stays, stay-none-ref, stay-none, goes-none, stay-none-slice, goes-none-slice, walkOf, AllGo, goes-none-ref, Walks, ends-at, walked, walk-meets}
 use denote.Exit.{yes}
 use Rattle.nicoisetarn.specs.Steps.{lineShown}
-use Rattle.nicoisetarn.specs.declared.Image.{Image as State}
+use Rattle.images.specs.declared.Image.{Image as State}
 use Rattle.nicoisetarn.specs.declared.AnswerImage.{AnswerImage as Answer}
-use Rattle.nicoisetarn.proofs.Image as T
-use Rattle.nicoisetarn.proofs.Image.Laws as T′
+use Rattle.images.proofs.Image as T
+use Rattle.images.proofs.Image.Laws as T′
 use Rattle.nicoisetarn.proofs.AnswerImage as E
 use Rattle.nicoisetarn.proofs.AnswerImage.Laws as E′
 use Rattle.nicoisetarn.proofs.steps.show_image as g

@@ -41,10 +41,10 @@ use denote.Triple.Table.{entered, cited}
 use denote.Triple.Walked.{says, Stays, stay-ref, stay-none, goes-none, gave-slice, goes-gave-slice, stay-none-slice, goes-none-slice, walkOf, AllGo, goes-ref, Walks, ends-at, walked, walk-meets}
 use denote.Exit.{yes}
 use Rattle.nicoisetarn.specs.Steps.{leftOf, started}
-use Rattle.nicoisetarn.specs.declared.Image.{Image as State}
+use Rattle.images.specs.declared.Image.{Image as State}
 use Rattle.nicoisetarn.specs.declared.ImageStep.{ImageStep as Step}
-use Rattle.nicoisetarn.proofs.Image as T
-use Rattle.nicoisetarn.proofs.Image.Laws as T′
+use Rattle.images.proofs.Image as T
+use Rattle.images.proofs.Image.Laws as T′
 use Rattle.nicoisetarn.proofs.ImageStep as S
 use Rattle.nicoisetarn.proofs.ImageStep.Laws as S′
 use Rattle.nicoisetarn.proofs.AnswerImage as E

@@ -1,6 +1,7 @@
 -- `State::answer_load` meets its contract.
 use borrow.Author.Needs.{needs}
 use Rattle.rules.specs.Shape.{lineOf}
+use Rattle.model.proofs.Facts.{shaped-room}
 use Rattle.model.proofs.Accepted.{answered-leaves, answered-stays}
 use Rattle.model.proofs.State.answer_load.Statement.{statement}
 use Rattle.model.proofs.State.answer_load.Tie as tie
@@ -14,9 +15,10 @@ use-line-requires c κs = search needs
 returns : tie.Need-returns
 unfolding lineOf
 returns c =
+    let pre = c .before .before .before .before .before .before .before .before .pre in
     let if1 = c .before .before .before .if1 in
     let remove-waiting = c .before .before .remove-waiting in
-    answered-leaves _ _ _ _ _ _ (if1 .taken) (remove-waiting .ensures) (c .use-line .ensures)
+    answered-leaves _ _ _ _ _ _ (shaped-room _ _ pre) (if1 .taken) (remove-waiting .ensures) (c .use-line .ensures)
 
 answer-waiting-requires : tie.Need-answer-waiting-requires
 answer-waiting-requires c κs = search needs

@@ -1,12 +1,15 @@
 -- `State::commit_accepted` meets its contract.
 use borrow.Author.Needs.{needs}
 use Rattle.rules.specs.Calls.{commitRule}
+use mathlib.Core.Path.{sym, _∙_}
+use Rattle.lists.proofs.Cond.{cond-then}
+use Rattle.model.proofs.Facts.{shaped-room}
 use Rattle.model.proofs.Moves.{used-each}
 use Rattle.model.proofs.State.commit_accepted.Statement.{statement}
 use Rattle.model.proofs.State.commit_accepted.Tie as tie
 
-use-all-answered-requires : tie.Need-use-all-answered-requires
-use-all-answered-requires c κs = search needs
+use-answered-requires : tie.Need-use-answered-requires
+use-answered-requires c κs = search needs
 
 remove-answered-requires : tie.Need-remove-answered-requires
 remove-answered-requires c κs = search needs
@@ -14,9 +17,10 @@ remove-answered-requires c κs = search needs
 returns : tie.Need-returns
 unfolding commitRule
 returns c =
-    let use-all-answered = c .before .use-all-answered in
-    λ k m. rw (use-all-answered .ensures, c .remove-answered .ensures, used-each)
+    let pre = c .before .before .before .before .before .pre in
+    let use-answered = c .before .use-answered in
+    λ k m. rw (use-answered .ensures ∙ sym (cond-then _ _ (shaped-room _ _ pre)), c .remove-answered .ensures, used-each)
 
 pub commit-accepted-spec : {M : Type 1} → statement M
 commit-accepted-spec =
-    tie.close (tie.spec use-all-answered-requires remove-answered-requires returns)
+    tie.close (tie.spec use-answered-requires remove-answered-requires returns)

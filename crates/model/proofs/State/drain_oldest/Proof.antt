@@ -10,6 +10,7 @@ write-store-requires c κs =
     let p = c .before .before .before .before .before .pre in
     record {
       some-set = p .0 .some-set;
+      some-way = p .0 .some-way;
       room = p .0 .room;
       cache-long = p .0 .cache-long;
       narrow = p .1 .narrow;

@@ -1,10 +1,12 @@
 -- `State::fill_line` meets its contract.
 use borrow.Author.Needs.{needs}
 use native.Mathlib.Omega.{arith}
+use Prim.Native.Nat.{_+_, _*_, _-_}
 use denote.Ref.{now}
-use Prim.Native.Nat.{_+_, _-_, _*_}
-use Rattle.lists.proofs.Counting.{each-length}
-use Rattle.model.proofs.Facts.{filling, slot-low, slot-bytes, line-low}
+use Rattle.line_bytes.proofs.Writing.{written-length}
+use Rattle.model.specs.State.{hierarchyOf}
+use Rattle.model.proofs.Leaves.{chosen}
+use Rattle.model.proofs.Facts.{filling}
 use Rattle.model.proofs.Moves.{filled-whole, filled-state}
 use Rattle.model.proofs.State.fill_line.Statement.{statement}
 use Rattle.model.proofs.State.fill_line.Tie as tie
@@ -13,36 +15,33 @@ cast-ways : tie.Need-cast-ways
 cast-ways c = search needs
 
 first-slot-requires : tie.Need-first-slot-requires
-first-slot-requires c κs =
-    let args = c .before .before .before .before .before .args in
-    let pre = c .before .before .before .before .before .pre in
-    let g = filling (args .self) (now (args .cache)) (now (args .memory)) (args .line) (pre .0) (pre .1) in
-    (g .some-set, g .room)
+first-slot-requires c κs = search needs
 
 victim-requires : tie.Need-victim-requires
-victim-requires c κs =
-    let args = c .before .before .before .before .before .before .args in
-    let pre = c .before .before .before .before .before .before .pre in
-    let g = filling (args .self) (now (args .cache)) (now (args .memory)) (args .line) (pre .0) (pre .1) in
-    let f = c .first-slot .ensures in
-    (g .some-way, slot-low _ _ _ (f .1) (g .room))
+victim-requires c κs = search needs
 
 mul-old : tie.Need-mul-old
-mul-old c = search needs
+mul-old c =
+    let a = c .before .before .before .before .before .before .before .args in
+    let pre = c .before .before .before .before .before .before .before .pre in
+    let first-slot = c .before .first-slot in
+    let b = hierarchyOf (a .self) (now (a .cache)) (now (a .memory)) in
+    let g = filling (a .self) (now (a .cache)) (now (a .memory)) (a .line) (pre .0) (pre .1) in
+    let h = chosen b (g .room) _ _ _ (first-slot .ensures) (c .victim .ensures) in
+    omega (arith, h .high, h .within, h .room)
 
 array-copy-out-old : tie.Need-array-copy-out-old
-array-copy-out-old c = search needs
+array-copy-out-old c =
+    let a = c .before .before .before .before .before .before .before .args in
+    let pre = c .before .before .before .before .before .before .before .pre in
+    let first-slot = c .before .first-slot in
+    let b = hierarchyOf (a .self) (now (a .cache)) (now (a .memory)) in
+    let g = filling (a .self) (now (a .cache)) (now (a .memory)) (a .line) (pre .0) (pre .1) in
+    let h = chosen b (g .room) _ _ _ (first-slot .ensures) (c .victim .ensures) in
+    omega (arith, h .high, h .within, h .room)
 
 write-back-requires : tie.Need-write-back-requires
-write-back-requires c κs =
-    let args = c .before .before .before .before .before .before .before .before .before .before .args in
-    let pre = c .before .before .before .before .before .before .before .before .before .before .pre in
-    let first-slot = c .before .before .before .before .first-slot in
-    let victim = c .before .before .before .victim in
-    let g = filling (args .self) (now (args .cache)) (now (args .memory)) (args .line) (pre .0) (pre .1) in
-    let f = first-slot .ensures in
-    let v = victim .ensures .2 in
-    (slot-bytes _ _ _ _ _ v (f .1) (g .cache-long), g .dirty-lines _ (omega arith))
+write-back-requires c κs = search needs
 
 mul-fill-slot : tie.Need-mul-fill-slot
 mul-fill-slot c = search needs
@@ -61,43 +60,29 @@ part-fill-slot-start c = search needs
 
 part-fill-slot-end : tie.Need-part-fill-slot-end
 part-fill-slot-end c =
-    let args = c .before .before .before .before .before .before .before .before .before .before .before .before .before .before .before .args in
+    let a = c .before .before .before .before .before .before .before .before .before .before .before .before .before .before .before .args in
     let pre = c .before .before .before .before .before .before .before .before .before .before .before .before .before .before .before .pre in
     let write-back = c .before .before .before .before .write-back in
-    let g = filling (args .self) (now (args .cache)) (now (args .memory)) (args .line) (pre .0) (pre .1) in
-    rw (write-back .ensures, each-length) (g .inside)
+    let b = hierarchyOf (a .self) (now (a .cache)) (now (a .memory)) in
+    let g = filling (a .self) (now (a .cache)) (now (a .memory)) (a .line) (pre .0) (pre .1) in
+    rw (write-back .ensures, written-length) (g .inside)
 
 fill-slot-requires : tie.Need-fill-slot-requires
-fill-slot-requires c κs =
-    let args = c .before .before .before .before .before .before .before .before .before .before .before .before .before .before .before .before .args in
-    let pre = c .before .before .before .before .before .before .before .before .before .before .before .before .before .before .before .before .pre in
-    let first-slot = c .before .before .before .before .before .before .before .before .before .before .first-slot in
-    let victim = c .before .before .before .before .before .before .before .before .before .victim in
-    let g = filling (args .self) (now (args .cache)) (now (args .memory)) (args .line) (pre .0) (pre .1) in
-    let f = first-slot .ensures in
-    let v = victim .ensures .2 in
-    (omega arith, slot-bytes _ _ _ _ _ v (f .1) (g .cache-long))
+fill-slot-requires c κs = search needs
 
-installed-requires : tie.Need-installed-requires
-installed-requires c κs =
-    let args = c .before .before .before .before .before .before .before .before .before .before .before .before .before .before .before .before .before .before .before .args in
-    let pre = c .before .before .before .before .before .before .before .before .before .before .before .before .before .before .before .before .before .before .before .pre in
-    let first-slot = c .before .before .before .before .before .before .before .before .before .before .before .before .before .first-slot in
-    let victim = c .before .before .before .before .before .before .before .before .before .before .before .before .victim in
-    let g = filling (args .self) (now (args .cache)) (now (args .memory)) (args .line) (pre .0) (pre .1) in
-    let f = first-slot .ensures in
-    let v = victim .ensures in
-    (slot-low _ _ _ (f .1) (g .room), v .1, v .2, line-low _ _ (g .inside) (g .small))
+install-requires : tie.Need-install-requires
+install-requires c κs = search needs
 
 with-request-requires : tie.Need-with-request-requires
 with-request-requires c κs = search needs
 
 mul-t33 : tie.Need-mul-t33
 mul-t33 c =
-    let args = c .before .before .before .before .before .before .before .before .before .before .before .before .before .before .before .before .before .before .before .before .before .args in
+    let a = c .before .before .before .before .before .before .before .before .before .before .before .before .before .before .before .before .before .before .before .before .before .args in
     let pre = c .before .before .before .before .before .before .before .before .before .before .before .before .before .before .before .before .before .before .before .before .before .pre in
-    let g = filling (args .self) (now (args .cache)) (now (args .memory)) (args .line) (pre .0) (pre .1) in
-    omega (arith, line-low _ _ (g .inside) (g .small))
+    let b = hierarchyOf (a .self) (now (a .cache)) (now (a .memory)) in
+    let g = filling (a .self) (now (a .cache)) (now (a .memory)) (a .line) (pre .0) (pre .1) in
+    omega (arith, g .low)
 
 same-length : tie.Need-same-length
 same-length c = search needs
@@ -113,14 +98,13 @@ returns c =
     let victim = c .before .before .before .before .before .before .before .before .before .before .before .before .before .before .victim in
     let write-back = c .before .before .before .before .before .before .before .before .before .before .write-back in
     let fill-slot = c .before .before .before .before .fill-slot in
-    let installed = c .before .installed in
-    let with-request = c .with-request in
-    rw (with-request .ensures)
+    let install = c .before .install in
+    let b = hierarchyOf (a .self) (now (a .cache)) (now (a .memory)) in
+    let g = filling (a .self) (now (a .cache)) (now (a .memory)) (a .line) (pre .0) (pre .1) in
+    let h = chosen b (g .room) _ _ _ (first-slot .ensures) (victim .ensures) in
+    rw (c .with-request .ensures)
     (filled-state (a .self) (now (a .cache)) (now (a .memory)) (a .line) _ _ _ (pre .1)
-    (filled-whole (a .self .figures) (a .self .tags) (now (a .cache)) (now (a .memory)) (a .line)
-    (first-slot .result) (victim .result) (16 * a .line + 16 - 16 * a .line) _ _ _
-    (first-slot .ensures .0) (victim .ensures .0) (write-back .ensures) (omega arith)
-    (fill-slot .ensures) (installed .ensures)))
+    (filled-whole b (a .line) _ _ (16 * a .line + 16 - 16 * a .line) _ _ _ g h (write-back .ensures) (omega arith) (fill-slot .ensures) (install .ensures)))
 
 pub fill-line-spec : {M : Type 1} → statement M
 fill-line-spec =
@@ -139,7 +123,7 @@ fill-line-spec =
     part-fill-slot-start
     part-fill-slot-end
     fill-slot-requires
-    installed-requires
+    install-requires
     with-request-requires
     mul-t33
     same-length

@@ -1,13 +1,7 @@
--- `State::load` meets its contract: each refusal by its check, else what an accepted load does.
+-- `State::load` meets its contract: checks 1 and 10, then the call on a well-formed state.
 use borrow.Author.Needs.{needs}
-use mathlib.Core.Path.{refl, sym, _∙_}
-use native.Mathlib.Omega.{arith}
-use Rattle.rules.specs.Calls as rules
-use denote.Ref.{now}
-use Rattle.access.specs.AccessChecks.{sized}
-use Rattle.model.proofs.Calls.{state-refuses, state-opens, access-refuses, load-numbers, load-full, load-does, passed-access}
-use Rattle.model.proofs.Facts.{access-fine, fit-shaped, fit-figures}
-use Rattle.rules.proofs.QueueView.{parts}
+use mathlib.Core.Path.{sym}
+use Rattle.model.proofs.Calls.{state-refuses, state-formed}
 use Rattle.model.proofs.State.load.Statement.{statement}
 use Rattle.model.proofs.State.load.Tie as tie
 
@@ -21,106 +15,15 @@ returns : tie.Need-returns
 returns c =
     let state-refusal = c .before .before .state-refusal in
     let if1 = c .before .if1 in
-    rw (c .refused .ensures) (sym (state-refuses _ _ _ _ (state-refusal .ensures) (if1 .taken)))
+    rw (c .refused .ensures) (sym (state-refuses _ _ _ _ (state-refusal .ensures) (if1 .taken) tt))
 
-check-access-requires : tie.Need-check-access-requires
-check-access-requires c κs = search needs
-
-enum-known-checked : tie.Need-enum-known-checked
-enum-known-checked c = search needs
-
-enum-told : tie.Need-enum-told
-enum-told c = search needs
-
-failure-requires : tie.Need-failure-requires
-failure-requires c κs = search needs
-
-refused-requires-2 : tie.Need-refused-requires-2
-refused-requires-2 c κs = search needs
+load-formed-requires : tie.Need-load-formed-requires
+load-formed-requires c κs =
+    let state-refusal = c .before .state-refusal in
+    state-formed _ _ _ (state-refusal .ensures) (c .if1 .left)
 
 returns-2 : tie.Need-returns-2
-returns-2 c =
-    let state-refusal = c .before .before .before .before .before .before .state-refusal in
-    let if1 = c .before .before .before .before .before .if1 in
-    let check-access = c .before .before .before .before .check-access in
-    let enum-told = c .before .before .enum-told in
-    let failure = c .before .failure in
-    rw (c .refused2 .ensures, failure .ensures, enum-told .given .1)
-    (sym (access-refuses _ _ _ _ _ _ refl (state-opens _ _ _ _ (state-refusal .ensures) (if1 .left)) _ (sym (check-access .ensures) ∙ enum-told .given .1)))
-
-refused-requires-3 : tie.Need-refused-requires-3
-refused-requires-3 c κs = search needs
-
-returns-3 : tie.Need-returns-3
-returns-3 c =
-    let state-refusal = c .before .before .before .before .before .before .before .before .state-refusal in
-    let if1 = c .before .before .before .before .before .before .before .if1 in
-    let check-access = c .before .before .before .before .before .before .check-access in
-    let checked = c .before .before .before .before .checked in
-    let if2 = c .before .if2 in
-    rw (c .refused3 .ensures)
-    (sym (load-numbers _ _ _ _ (state-opens _ _ _ _ (state-refusal .ensures) (if1 .left)) _ (sym (check-access .ensures) ∙ checked .given .1) (if2 .taken)))
-
-has-free-load-requires : tie.Need-has-free-load-requires
-has-free-load-requires c κs = search needs
-
-load-accepted-requires : tie.Need-load-accepted-requires
-load-accepted-requires c κs =
-    let args = c .before .before .before .before .before .before .before .before .before .before .before .before .before .args in
-    let state-refusal = c .before .before .before .before .before .before .before .before .before .before .state-refusal in
-    let if1 = c .before .before .before .before .before .before .before .before .before .if1 in
-    let check-access = c .before .before .before .before .before .before .before .before .check-access in
-    let checked = c .before .before .before .before .before .before .checked in
-    let if2 = c .before .before .before .if2 in
-    let o = state-opens rules.idle _ _ _ (state-refusal .ensures) (if1 .left) in
-    let p = passed-access _ _ _ _ (sym (check-access .ensures) ∙ checked .given .1) in
-    (fit-shaped (args .self) (now (args .cache)) (now (args .memory)) (o .fit), rw (p .1) (access-fine (sized (args .self .size)) _ _ (fit-figures (args .self) (now (args .cache)) (now (args .memory)) (o .fit) .most-size) (p .0)), omega (arith, parts _ _ (o .formed) .last-fits, if2 .left))
-
-refused-requires-4 : tie.Need-refused-requires-4
-refused-requires-4 c κs = search needs
-
-returns-4 : tie.Need-returns-4
-returns-4 c =
-    let state-refusal = c .before .before .before .before .before .before .before .before .before .before .before .state-refusal in
-    let if1 = c .before .before .before .before .before .before .before .before .before .before .if1 in
-    let check-access = c .before .before .before .before .before .before .before .before .before .check-access in
-    let checked = c .before .before .before .before .before .before .before .checked in
-    let if2 = c .before .before .before .before .if2 in
-    let has-free-load = c .before .before .has-free-load in
-    let if3 = c .before .if3 in
-    let o = state-opens _ _ _ _ (state-refusal .ensures) (if1 .left) in
-    let e = sym (check-access .ensures) ∙ checked .given .1 in
-    c .load-accepted .ensures _ ∙ rw (passed-access _ _ _ _ e .1) (sym (load-does _ _ _ _ o _ e (if2 .left) (sym (has-free-load .ensures) ∙ if3 .taken)))
-
-returns-5 : tie.Need-returns-5
-returns-5 c =
-    let state-refusal = c .before .before .before .before .before .before .before .before .before .before .before .state-refusal in
-    let if1 = c .before .before .before .before .before .before .before .before .before .before .if1 in
-    let check-access = c .before .before .before .before .before .before .before .before .before .check-access in
-    let checked = c .before .before .before .before .before .before .before .checked in
-    let if2 = c .before .before .before .before .if2 in
-    let has-free-load = c .before .before .has-free-load in
-    let if3 = c .before .if3 in
-    rw (c .refused4 .ensures)
-    (sym (load-full _ _ _ _ (state-opens _ _ _ _ (state-refusal .ensures) (if1 .left)) _ (sym (check-access .ensures) ∙ checked .given .1) (if2 .left) (sym (has-free-load .ensures) ∙ if3 .left)))
+returns-2 c = c .load-formed .ensures
 
 pub load-spec : {M : Type 1} → statement M
-load-spec =
-    tie.close
-    (tie.spec
-    state-refusal-requires
-    refused-requires
-    returns
-    check-access-requires
-    enum-known-checked
-    enum-told
-    failure-requires
-    refused-requires-2
-    returns-2
-    refused-requires-3
-    returns-3
-    has-free-load-requires
-    load-accepted-requires
-    refused-requires-4
-    returns-4
-    returns-5)
+load-spec = tie.close (tie.spec state-refusal-requires refused-requires returns load-formed-requires returns-2)

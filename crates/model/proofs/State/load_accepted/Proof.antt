@@ -1,7 +1,8 @@
 -- `State::load_accepted` meets its contract.
 use borrow.Author.Needs.{needs}
 use Rattle.rules.specs.Calls.{loadRule}
-use Rattle.model.proofs.Reading.{answer-read, lacking-read}
+use Rattle.line_bytes.proofs.Reading.{lacking-read}
+use Rattle.model.proofs.Reading.{answer-read}
 use Rattle.model.proofs.State.load_accepted.Statement.{statement}
 use Rattle.model.proofs.State.load_accepted.Tie as tie
 

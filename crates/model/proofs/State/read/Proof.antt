@@ -1,14 +1,14 @@
 -- `State::read` meets its contract.
 use borrow.Author.Needs.{needs}
-use mathlib.Core.Path.{_∙_, ap}
+use mathlib.Core.Path.{_∙_}
+use mathlib.Core.List.{[]}
 use native.Mathlib.Omega.{arith}
-use Prim.Native.Nat.{_+_}
-use borrow.Author.Tests.{ltb-true}
+use denote.Ref.{now}
 use Rattle.rules.specs.Shape.{lineOf}
-use Rattle.rules.specs.Lines.{slotOf}
-use Rattle.model.specs.Reads.{readOf}
-use Rattle.model.proofs.Facts.{found-low}
-use Rattle.model.proofs.Reading.{read-value}
+use Rattle.model.specs.State.{hierarchyOf}
+use Rattle.model.proofs.Leaves.{located}
+use Rattle.model.proofs.Facts.{shaped-room}
+use Rattle.model.proofs.Reading.{read-located}
 use Rattle.model.proofs.State.read.Statement.{statement}
 use Rattle.model.proofs.State.read.Tie as tie
 
@@ -22,31 +22,50 @@ find-requires : tie.Need-find-requires
 find-requires c κs = search needs
 
 mul-place : tie.Need-mul-place
-mul-place c = omega (arith, found-low _ _ _ _ (c .find .ensures) .1)
+mul-place c =
+    let args = c .before .before .before .before .before .before .before .args in
+    let pre = c .before .before .before .before .before .before .before .pre in
+    let first-slot = c .before .first-slot in
+    let s = args .self in
+    let h = located (hierarchyOf s (now (args .cache)) []) (shaped-room _ _ (pre .0)) _ _ _ (first-slot .ensures) (c .find .ensures) in
+    omega (arith, h .high, h .within, h .room)
 
 cast-place : tie.Need-cast-place
 cast-place c = search needs
 
 add-place : tie.Need-add-place
-add-place c = omega (arith, found-low _ _ _ _ (c .find .ensures) .1)
+add-place c =
+    let args = c .before .before .before .before .before .before .before .args in
+    let pre = c .before .before .before .before .before .before .before .pre in
+    let first-slot = c .before .first-slot in
+    let s = args .self in
+    let h = located (hierarchyOf s (now (args .cache)) []) (shaped-room _ _ (pre .0)) _ _ _ (first-slot .ensures) (c .find .ensures) in
+    omega (arith, h .high, h .within, h .room)
 
 add-read-bytes : tie.Need-add-read-bytes
-add-read-bytes c = search needs
+add-read-bytes c =
+    let args = c .before .before .before .before .before .before .before .args in
+    let pre = c .before .before .before .before .before .before .before .pre in
+    let first-slot = c .before .first-slot in
+    let s = args .self in
+    let h = located (hierarchyOf s (now (args .cache)) []) (shaped-room _ _ (pre .0)) _ _ _ (first-slot .ensures) (c .find .ensures) in
+    omega (arith, h .within, h .room)
 
 read-bytes-requires : tie.Need-read-bytes-requires
-read-bytes-requires c κs =
-    let pre = c .before .before .before .before .before .before .before .pre in
-    let args = c .before .before .before .before .before .before .before .args in
-    let first-slot = c .before .first-slot in
-    (pre .1 .narrow, pre .1 .inside, omega (arith, found-low _ _ _ _ (c .find .ensures) .1), λ h. omega (arith, ltb-true (c .find .result) (first-slot .result + args .self .figures .ways) h))
+read-bytes-requires c κs = search needs
 
 returns : tie.Need-returns
-unfolding slotOf lineOf
+unfolding lineOf
 returns c =
+    let args = c .before .before .before .before .before .before .before .before .args in
     let pre = c .before .before .before .before .before .before .before .before .pre in
     let first-slot = c .before .before .first-slot in
     let find = c .before .find in
-    λ m. c .read-bytes .ensures ∙ rw (find .ensures, first-slot .ensures .0) (ap readOf (read-value _ _ _ _ _ (pre .1)))
+    let s = args .self in
+    λ m.
+    let b = hierarchyOf s (now (args .cache)) m in
+    let h = located b (shaped-room _ _ (pre .0)) _ _ _ (first-slot .ensures) (find .ensures) in
+    c .read-bytes .ensures ∙ read-located (args .i) (args .address) (args .width) (s .stores) b (pre .1) _ _ h (pre .0 .cache-long)
 
 pub read-spec : {M : Type 1} → statement M
 read-spec =

@@ -1,9 +1,7 @@
--- `State::reply` meets its contract.
+-- `State::reply` meets its contract: checks 1 and 10, then the call on a well-formed state.
 use borrow.Author.Needs.{needs}
-use mathlib.Core.Path.{refl, sym, _∙_, ap}
-use Rattle.rules.specs.Calls as rules
-use Rattle.rules.specs.Shape.{isFree}
-use Rattle.model.proofs.Calls.{state-refuses, state-opens, one-refuses, one-does}
+use mathlib.Core.Path.{sym}
+use Rattle.model.proofs.Calls.{state-refuses, state-formed}
 use Rattle.model.proofs.State.reply.Statement.{statement}
 use Rattle.model.proofs.State.reply.Tie as tie
 
@@ -23,23 +21,13 @@ returns : tie.Need-returns
 returns c =
     let state-refusal = c .before .before .state-refusal in
     let if1 = c .before .if1 in
-    rw (c .refused .ensures) (sym (state-refuses _ _ _ _ (state-refusal .ensures) (if1 .taken)))
+    rw (c .refused .ensures) (sym (state-refuses _ _ _ _ (state-refusal .ensures) (if1 .taken) tt))
 
-enum-told : tie.Need-enum-told
-enum-told c = search needs
-
-refused-requires-2 : tie.Need-refused-requires-2
-refused-requires-2 c κs = search needs
-
-enum-known-request : tie.Need-enum-known-request
-enum-known-request c = search needs
-
-fill-line-requires : tie.Need-fill-line-requires
-fill-line-requires c κs =
-    let state-refusal = c .before .before .before .before .before .before .state-refusal in
-    let if1 = c .before .before .before .before .before .if1 in
-    let request = c .before .before .before .request in
-    ((state-opens rules.idle _ _ _ (state-refusal .ensures) (if1 .left)) .formed, request .given .1)
+reply-formed-requires : tie.Need-reply-formed-requires
+reply-formed-requires c κs =
+    let state-refusal = c .before .before .before .state-refusal in
+    let if1 = c .before .before .if1 in
+    state-formed _ _ _ (state-refusal .ensures) (if1 .left)
 
 same-length-3 : tie.Need-same-length-3
 same-length-3 c = search needs
@@ -49,41 +37,8 @@ same-length-4 c = search needs
 
 returns-2 : tie.Need-returns-2
 returns-2 c =
-    let state-refusal = c .before .before .before .before .state-refusal in
-    let if1 = c .before .before .before .if1 in
-    let enum-told = c .before .enum-told in
-    rw (c .refused2 .ensures) (sym (one-refuses _ _ _ (state-opens _ _ _ _ (state-refusal .ensures) (if1 .left)) _ _ refl (ap isFree (enum-told .given .1))))
-
-same-length-5 : tie.Need-same-length-5
-same-length-5 c = search needs
-
-same-length-6 : tie.Need-same-length-6
-same-length-6 c = search needs
-
-returns-3 : tie.Need-returns-3
-returns-3 c =
-    let state-refusal = c .before .before .before .before .before .before .before .before .before .before .before .state-refusal in
-    let if1 = c .before .before .before .before .before .before .before .before .before .before .if1 in
-    let request = c .before .before .before .before .before .before .before .before .request in
-    let fill-line = c .before .before .before .before .fill-line in
-    fill-line .ensures ∙ sym (one-does _ _ _ (state-opens _ _ _ _ (state-refusal .ensures) (if1 .left)) _ _ refl (ap isFree (request .given .1)))
+    let reply-formed = c .before .before .before .before .reply-formed in
+    reply-formed .ensures
 
 pub reply-spec : {M : Type 1} → statement M
-reply-spec =
-    tie.close
-    (tie.spec
-    state-refusal-requires
-    refused-requires
-    same-length
-    same-length-2
-    returns
-    enum-told
-    refused-requires-2
-    enum-known-request
-    fill-line-requires
-    same-length-3
-    same-length-4
-    returns-2
-    same-length-5
-    same-length-6
-    returns-3)
+reply-spec = tie.close (tie.spec state-refusal-requires refused-requires same-length same-length-2 returns reply-formed-requires same-length-3 same-length-4 returns-2)

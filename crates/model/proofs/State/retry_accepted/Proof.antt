@@ -5,7 +5,7 @@ use denote.Ref.{now}
 use Rattle.rules.specs.Forward.{loadValue}
 use Rattle.rules.specs.Calls.{retryRule, retryWith}
 use Rattle.model.specs.State.{hierarchyOf}
-use Rattle.model.proofs.Reading.{lacks, whole-of}
+use Rattle.line_bytes.proofs.Reading.{lacks, whole-of}
 use Rattle.model.proofs.State.retry_accepted.Statement.{statement}
 use Rattle.model.proofs.State.retry_accepted.Tie as tie
 

@@ -5,6 +5,8 @@ use native.Mathlib.Omega.{arith}
 use borrow.Author.Tests.{eq-eqb, ne-eqb}
 use Rattle.line_checks.proofs.Figures.{figures-tell}
 use Rattle.rules.specs.Runs.{startAllowed, startAnswer, startWorld, started, unstarted}
+use Rattle.records.proofs.Places.{has-room}
+use Rattle.lists.proofs.Cond.{cond-then}
 use Rattle.model.proofs.State.start.Statement.{statement}
 use Rattle.model.proofs.State.start.Tie as tie
 
@@ -44,11 +46,7 @@ zero-bytes-requires : tie.Need-zero-bytes-requires
 zero-bytes-requires c κs = search needs
 
 start-tags-requires : tie.Need-start-tags-requires
-start-tags-requires c κs =
-    let figures-allowed = c .before .before .before .before .before .before .before .figures-allowed in
-    let if1 = c .before .before .before .before .before .before .if1 in
-    let f = figures-tell _ _ (sym (figures-allowed .ensures) ∙ if1 .taken) in
-    (omega (arith, f .room), f .some-way)
+start-tags-requires c κs = search needs
 
 cast-empty-state : tie.Need-cast-empty-state
 cast-empty-state c =
@@ -71,7 +69,8 @@ returns-2 c =
     let if2 = c .before .before .before .before .before .before .if2 in
     let zero-bytes = c .before .before .before .before .zero-bytes in
     let start-tags = c .before .start-tags in
-    rw (sym (figures-allowed .ensures) ∙ if1 .taken, eq-eqb _ _ (if2 .left), c .empty-state .ensures, start-tags .ensures, zero-bytes .ensures, if2 .left) (refl, refl)
+    let f = figures-tell _ _ (sym (figures-allowed .ensures) ∙ if1 .taken) in
+    rw (sym (figures-allowed .ensures) ∙ if1 .taken, eq-eqb _ _ (if2 .left), c .empty-state .ensures, start-tags .ensures ∙ sym (cond-then _ _ (has-room _ (f .some-set) (f .some-way) (f .room))), zero-bytes .ensures, if2 .left) (refl, refl)
 
 not-started-requires-2 : tie.Need-not-started-requires-2
 not-started-requires-2 c κs = search needs

@@ -1,61 +1,34 @@
--- `State::step` meets its contract: each call by its own.
+-- `State::step` meets its contract: checks 1 and 10, then the call on a well-formed state.
 use borrow.Author.Needs.{needs}
+use mathlib.Core.Path.{sym, _∙_}
+use denote.Ref.{now}
+use Rattle.model.proofs.Calls.{state-refuses, state-formed}
+use Rattle.rules.specs.Shape.{Hierarchy}
+use Rattle.rules.specs.Calls.{earlyChecks}
+use Rattle.rules.proofs.Checks.{EachPasses}
+use Rattle.model.specs.State.{callOf, hierarchyOf}
+use Rattle.model.specs.declared.Call.{Call}
+use Rattle.model.specs.declared.Call.the-variants.{Load, Store, Retry, Commit, Abort, Idle, Reply, Flush, Show}
 use Rattle.model.proofs.State.step.Statement.{statement}
 use Rattle.model.proofs.State.step.Tie as tie
 
-enum-known-call : tie.Need-enum-known-call
-enum-known-call c = search needs
+-- no call has a check between 1 and 10
+early : (c : Call) (b : Hierarchy) → EachPasses (earlyChecks (callOf c) b)
+early (Load a w) b = tt
+early (Store a w v) b = tt
+early (Retry i) b = tt
+early (Commit k) b = tt
+early (Abort n) b = tt
+early Idle b = tt
+early Reply b = tt
+early Flush b = tt
+early (Show a) b = tt
 
-load-requires : tie.Need-load-requires
-load-requires c κs = search needs
+state-refusal-requires : tie.Need-state-refusal-requires
+state-refusal-requires c κs = search needs
 
-enum-known-call-2 : tie.Need-enum-known-call-2
-enum-known-call-2 c = search needs
-
-store-requires : tie.Need-store-requires
-store-requires c κs = search needs
-
-enum-known-call-3 : tie.Need-enum-known-call-3
-enum-known-call-3 c = search needs
-
-retry-requires : tie.Need-retry-requires
-retry-requires c κs = search needs
-
-enum-known-call-4 : tie.Need-enum-known-call-4
-enum-known-call-4 c = search needs
-
-commit-requires : tie.Need-commit-requires
-commit-requires c κs = search needs
-
-enum-known-call-5 : tie.Need-enum-known-call-5
-enum-known-call-5 c = search needs
-
-abort-requires : tie.Need-abort-requires
-abort-requires c κs = search needs
-
-enum-told : tie.Need-enum-told
-enum-told c = search needs
-
-idle-requires : tie.Need-idle-requires
-idle-requires c κs = search needs
-
-enum-told-2 : tie.Need-enum-told-2
-enum-told-2 c = search needs
-
-reply-requires : tie.Need-reply-requires
-reply-requires c κs = search needs
-
-enum-told-3 : tie.Need-enum-told-3
-enum-told-3 c = search needs
-
-flush-requires : tie.Need-flush-requires
-flush-requires c κs = search needs
-
-enum-known-call-6 : tie.Need-enum-known-call-6
-enum-known-call-6 c = search needs
-
-show-requires : tie.Need-show-requires
-show-requires c κs = search needs
+refused-call-requires : tie.Need-refused-call-requires
+refused-call-requires c κs = search needs
 
 same-length : tie.Need-same-length
 same-length c = search needs
@@ -65,8 +38,16 @@ same-length-2 c = search needs
 
 returns : tie.Need-returns
 returns c =
-    let call = c .before .before .before .before .call in
-    rw (call .given .1) (c .load .ensures)
+    let args = c .before .before .before .before .before .before .before .args in
+    let state-refusal = c .before .before .state-refusal in
+    let if1 = c .before .if1 in
+    c .refused-call .ensures _ _ ∙ sym (state-refuses _ _ _ _ (state-refusal .ensures) (if1 .taken) (early (args .call) (hierarchyOf (args .self) (now (args .cache)) (now (args .memory)))))
+
+step-formed-requires : tie.Need-step-formed-requires
+step-formed-requires c κs =
+    let state-refusal = c .before .before .before .state-refusal in
+    let if1 = c .before .before .if1 in
+    state-formed _ _ _ (state-refusal .ensures) (if1 .left)
 
 same-length-3 : tie.Need-same-length-3
 same-length-3 c = search needs
@@ -76,135 +57,8 @@ same-length-4 c = search needs
 
 returns-2 : tie.Need-returns-2
 returns-2 c =
-    let call2 = c .before .before .before .before .call2 in
-    rw (call2 .given .1) (c .store .ensures)
-
-same-length-5 : tie.Need-same-length-5
-same-length-5 c = search needs
-
-same-length-6 : tie.Need-same-length-6
-same-length-6 c = search needs
-
-returns-3 : tie.Need-returns-3
-returns-3 c =
-    let call3 = c .before .before .before .before .call3 in
-    rw (call3 .given .1) (c .retry .ensures)
-
-same-length-7 : tie.Need-same-length-7
-same-length-7 c = search needs
-
-same-length-8 : tie.Need-same-length-8
-same-length-8 c = search needs
-
-returns-4 : tie.Need-returns-4
-returns-4 c =
-    let call4 = c .before .before .before .before .call4 in
-    rw (call4 .given .1) (c .commit .ensures)
-
-same-length-9 : tie.Need-same-length-9
-same-length-9 c = search needs
-
-same-length-10 : tie.Need-same-length-10
-same-length-10 c = search needs
-
-returns-5 : tie.Need-returns-5
-returns-5 c =
-    let call5 = c .before .before .before .before .call5 in
-    rw (call5 .given .1) (c .abort .ensures)
-
-same-length-11 : tie.Need-same-length-11
-same-length-11 c = search needs
-
-same-length-12 : tie.Need-same-length-12
-same-length-12 c = search needs
-
-returns-6 : tie.Need-returns-6
-returns-6 c =
-    let enum-told = c .before .before .before .before .before .before .before .enum-told in
-    let idle = c .before .before .before .before .idle in
-    rw (enum-told .given .1) (idle .ensures)
-
-same-length-13 : tie.Need-same-length-13
-same-length-13 c = search needs
-
-same-length-14 : tie.Need-same-length-14
-same-length-14 c = search needs
-
-returns-7 : tie.Need-returns-7
-returns-7 c =
-    let enum-told2 = c .before .before .before .before .before .before .before .enum-told2 in
-    let reply = c .before .before .before .before .reply in
-    rw (enum-told2 .given .1) (reply .ensures)
-
-same-length-15 : tie.Need-same-length-15
-same-length-15 c = search needs
-
-same-length-16 : tie.Need-same-length-16
-same-length-16 c = search needs
-
-returns-8 : tie.Need-returns-8
-returns-8 c =
-    let enum-told3 = c .before .before .before .before .before .enum-told3 in
-    let flush = c .before .before .flush in
-    rw (enum-told3 .given .1) (flush .ensures)
-
-same-length-17 : tie.Need-same-length-17
-same-length-17 c = search needs
-
-same-length-18 : tie.Need-same-length-18
-same-length-18 c = search needs
-
-returns-9 : tie.Need-returns-9
-returns-9 c =
-    let call6 = c .before .before .before .before .call6 in
-    rw (call6 .given .1) (c .show .ensures)
+    let step-formed = c .before .before .before .before .step-formed in
+    step-formed .ensures
 
 pub step-spec : {M : Type 1} → statement M
-step-spec =
-    tie.close
-    (tie.spec
-    enum-known-call
-    load-requires
-    enum-known-call-2
-    store-requires
-    enum-known-call-3
-    retry-requires
-    enum-known-call-4
-    commit-requires
-    enum-known-call-5
-    abort-requires
-    enum-told
-    idle-requires
-    enum-told-2
-    reply-requires
-    enum-told-3
-    flush-requires
-    enum-known-call-6
-    show-requires
-    same-length
-    same-length-2
-    returns
-    same-length-3
-    same-length-4
-    returns-2
-    same-length-5
-    same-length-6
-    returns-3
-    same-length-7
-    same-length-8
-    returns-4
-    same-length-9
-    same-length-10
-    returns-5
-    same-length-11
-    same-length-12
-    returns-6
-    same-length-13
-    same-length-14
-    returns-7
-    same-length-15
-    same-length-16
-    returns-8
-    same-length-17
-    same-length-18
-    returns-9)
+step-spec = tie.close (tie.spec state-refusal-requires refused-call-requires same-length same-length-2 returns step-formed-requires same-length-3 same-length-4 returns-2)

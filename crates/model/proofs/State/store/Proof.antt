@@ -1,7 +1,7 @@
--- `State::store` meets its contract.
+-- `State::store` meets its contract: checks 1 and 10, then the call on a well-formed state.
 use borrow.Author.Needs.{needs}
-use mathlib.Core.Path.{refl, sym, _∙_}
-use Rattle.model.proofs.Calls.{state-refuses, state-opens, access-refuses, store-goes, passed-access}
+use mathlib.Core.Path.{sym}
+use Rattle.model.proofs.Calls.{state-refuses, state-formed}
 use Rattle.model.proofs.State.store.Statement.{statement}
 use Rattle.model.proofs.State.store.Tie as tie
 
@@ -15,57 +15,15 @@ returns : tie.Need-returns
 returns c =
     let state-refusal = c .before .before .state-refusal in
     let if1 = c .before .if1 in
-    rw (c .refused .ensures) (sym (state-refuses _ _ _ _ (state-refusal .ensures) (if1 .taken)))
+    rw (c .refused .ensures) (sym (state-refuses _ _ _ _ (state-refusal .ensures) (if1 .taken) tt))
 
-check-access-requires : tie.Need-check-access-requires
-check-access-requires c κs = search needs
-
-enum-known-checked : tie.Need-enum-known-checked
-enum-known-checked c = search needs
-
-enum-told : tie.Need-enum-told
-enum-told c = search needs
-
-failure-requires : tie.Need-failure-requires
-failure-requires c κs = search needs
-
-refused-requires-2 : tie.Need-refused-requires-2
-refused-requires-2 c κs = search needs
+store-formed-requires : tie.Need-store-formed-requires
+store-formed-requires c κs =
+    let state-refusal = c .before .state-refusal in
+    state-formed _ _ _ (state-refusal .ensures) (c .if1 .left)
 
 returns-2 : tie.Need-returns-2
-returns-2 c =
-    let state-refusal = c .before .before .before .before .before .before .state-refusal in
-    let if1 = c .before .before .before .before .before .if1 in
-    let check-access = c .before .before .before .before .check-access in
-    let enum-told = c .before .before .enum-told in
-    let failure = c .before .failure in
-    rw (c .refused2 .ensures, failure .ensures, enum-told .given .1)
-    (sym (access-refuses _ _ _ _ _ _ refl (state-opens _ _ _ _ (state-refusal .ensures) (if1 .left)) _ (sym (check-access .ensures) ∙ enum-told .given .1)))
-
-store-checked-requires : tie.Need-store-checked-requires
-store-checked-requires c κs = search needs
-
-returns-3 : tie.Need-returns-3
-returns-3 c =
-    let state-refusal = c .before .before .before .before .before .before .state-refusal in
-    let if1 = c .before .before .before .before .before .if1 in
-    let check-access = c .before .before .before .before .check-access in
-    let checked = c .before .before .checked in
-    let e = sym (check-access .ensures) ∙ checked .given .1 in
-    c .store-checked .ensures _ _ ∙ rw (passed-access _ _ _ _ e .1) (store-goes _ _ _ _ _ (state-opens _ _ _ _ (state-refusal .ensures) (if1 .left)) _ e)
+returns-2 c = c .store-formed .ensures
 
 pub store-spec : {M : Type 1} → statement M
-store-spec =
-    tie.close
-    (tie.spec
-    state-refusal-requires
-    refused-requires
-    returns
-    check-access-requires
-    enum-known-checked
-    enum-told
-    failure-requires
-    refused-requires-2
-    returns-2
-    store-checked-requires
-    returns-3)
+store-spec = tie.close (tie.spec state-refusal-requires refused-requires returns store-formed-requires returns-2)

@@ -1,10 +1,13 @@
 -- `write_store` meets its contract.
 use borrow.Author.Needs.{needs}
+use mathlib.Core.List.{[]}
 use native.Mathlib.Omega.{arith}
 use denote.Ref.{now}
 use Rattle.rules.specs.Shape.{lineOf}
-use Rattle.model.proofs.Facts.{found-low}
-use Rattle.model.proofs.CacheLoops.{found-inside}
+use Rattle.rules.specs.Lines.{present, slotOf}
+use Rattle.line_checks.specs.Refusal.{hierarchy}
+use Rattle.records.proofs.Places.{has-room}
+use Rattle.model.proofs.Leaves.{located}
 use Rattle.model.proofs.Moves.{written-whole}
 use Rattle.model.proofs.idle.write_store.Statement.{statement}
 use Rattle.model.proofs.idle.write_store.Tie as tie
@@ -19,56 +22,51 @@ find-requires : tie.Need-find-requires
 find-requires c κs = search needs
 
 mul-at : tie.Need-mul-at
-mul-at c = omega (arith, found-low _ _ _ _ (c .find .ensures) .1)
+mul-at c =
+    let a = c .before .before .before .before .before .args in
+    let p = c .before .before .before .before .before .pre in
+    let first-slot = c .before .first-slot in
+    let b = hierarchy (a .figures) 0 (a .tags) (now (a .cache)) [] in
+    let h = located b (has-room (a .figures) (p .some-set) (p .some-way) (p .room)) _ _ _ (first-slot .ensures) (c .find .ensures) in
+    omega (arith, h .high, h .within, h .room)
 
 cast-at : tie.Need-cast-at
 cast-at c = search needs
 
 add-at : tie.Need-add-at
 add-at c =
+    let a = c .before .before .before .before .before .before .args in
+    let p = c .before .before .before .before .before .before .pre in
+    let first-slot = c .before .before .first-slot in
     let find = c .before .find in
-    omega (arith, found-low _ _ _ _ (find .ensures) .1)
+    let b = hierarchy (a .figures) 0 (a .tags) (now (a .cache)) [] in
+    let h = located b (has-room (a .figures) (p .some-set) (p .some-way) (p .room)) _ _ _ (first-slot .ensures) (find .ensures) in
+    omega (arith, h .high, h .within, h .room)
 
 put-store-requires : tie.Need-put-store-requires
-unfolding lineOf
-put-store-requires c κs =
-    let p = c .before .before .before .before .before .before .before .pre in
-    let first-slot = c .before .before .before .first-slot in
-    let find = c .before .before .find in
-    let v = found-inside _ _ _ _ _ (first-slot .ensures .0) (find .ensures) (p .here) in
-    (p .narrow, omega (arith, p .one-line, p .cache-long, v))
+put-store-requires c κs = search needs
 
-marked-dirty-requires : tie.Need-marked-dirty-requires
-unfolding lineOf
-marked-dirty-requires c κs =
-    let pre = c .before .before .before .before .before .before .before .before .before .before .pre in
-    let first-slot = c .before .before .before .before .before .before .first-slot in
-    let find = c .before .before .before .before .before .find in
-    let v = found-inside _ _ _ _ _ (first-slot .ensures .0) (find .ensures) (pre .here) in
-    omega (arith, v)
+mark-dirty-requires : tie.Need-mark-dirty-requires
+mark-dirty-requires c κs = search needs
 
 use-slot-requires : tie.Need-use-slot-requires
-unfolding lineOf
-use-slot-requires c κs =
-    let pre = c .before .before .before .before .before .before .before .before .before .before .before .pre in
-    let first-slot = c .before .before .before .before .before .before .before .first-slot in
-    let find = c .before .before .before .before .before .before .find in
-    let v = found-inside _ _ _ _ _ (first-slot .ensures .0) (find .ensures) (pre .here) in
-    (omega arith, found-low _ _ _ _ (find .ensures) .0, v)
+use-slot-requires c κs = search needs
 
 same-length : tie.Need-same-length
 same-length c = search needs
 
 returns : tie.Need-returns
-unfolding lineOf
+unfolding lineOf present slotOf
 returns c =
     let a = c .before .before .before .before .before .before .before .before .before .before .before .before .args in
+    let p = c .before .before .before .before .before .before .before .before .before .before .before .before .pre in
     let first-slot = c .before .before .before .before .before .before .before .before .first-slot in
     let find = c .before .before .before .before .before .before .before .find in
     let put-store = c .before .before .before .before .put-store in
-    let marked-dirty = c .before .marked-dirty in
-    written-whole (a .figures) _ (now (a .cache)) (a .s) _ _ _ _ _
-    (first-slot .ensures .0) (find .ensures) (put-store .ensures) (marked-dirty .ensures) (c .use-slot .ensures)
+    let mark-dirty = c .before .mark-dirty in
+    let b = hierarchy (a .figures) 0 (a .tags) (now (a .cache)) [] in
+    let h = located b (has-room (a .figures) (p .some-set) (p .some-way) (p .room)) _ _ _ (first-slot .ensures) (find .ensures) in
+    written-whole b (a .s) _ _ _ _ _ h (p .here) (p .narrow) (p .one-line) (p .cache-long) (put-store .ensures) (mark-dirty .ensures) (c .use-slot .ensures)
 
 pub write-store-spec : {M : Type 1} → statement M
 write-store-spec =
@@ -81,7 +79,7 @@ write-store-spec =
     cast-at
     add-at
     put-store-requires
-    marked-dirty-requires
+    mark-dirty-requires
     use-slot-requires
     same-length
     returns)

@@ -6,8 +6,8 @@ use mathlib.Core.Bool.{Bool, true, false}
 use mathlib.Core.List.{List, []}
 use Rattle.rules.specs.Shape.{fits}
 use Rattle.line_checks.specs.Refusal.{hierarchy}
-use Rattle.nicoisetarn.specs.declared.Image.{Image}
-use Rattle.nicoisetarn.specs.Images.{figuresOf}
+use Rattle.images.specs.declared.Image.{Image}
+use Rattle.images.specs.Images.{figuresOf}
 use Rattle.nicoisetarn.specs.Steps.{imageRefusal}
 use Rattle.nicoisetarn.proofs.steps.image_refusal.Statement.{statement}
 use Rattle.nicoisetarn.proofs.steps.image_refusal.Tie as tie

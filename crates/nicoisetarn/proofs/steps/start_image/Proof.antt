@@ -1,7 +1,6 @@
 -- `steps::start_image` meets its contract: ready, or refused.
 use borrow.Author.Needs.{needs}
 use mathlib.Core.Path.{refl}
-use native.Mathlib.Omega.{arith}
 use Rattle.nicoisetarn.proofs.Outcomes.{start-ready, start-refused}
 use Rattle.nicoisetarn.proofs.steps.start_image.Statement.{statement}
 use Rattle.nicoisetarn.proofs.steps.start_image.Tie as tie
@@ -16,7 +15,7 @@ coded-requires : tie.Need-coded-requires
 coded-requires c κs = search needs
 
 imaged-requires : tie.Need-imaged-requires
-imaged-requires c κs = (omega arith, λ h. let no : ⊥ = omega arith in absurd no)
+imaged-requires c κs = search needs
 
 enum-known-answer : tie.Need-enum-known-answer
 enum-known-answer c = search needs

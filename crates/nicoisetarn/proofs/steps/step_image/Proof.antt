@@ -1,6 +1,7 @@
 -- `steps::step_image` meets its contract: the image stands for a state, or for none, or the number for no call.
 use borrow.Author.Needs.{needs}
 use mathlib.Core.Path.{refl, sym, _∙_}
+use Rattle.images.proofs.Standing.{used-stands}
 use Rattle.nicoisetarn.proofs.Outcomes.{image-refused, known-stepped, unknown-stepped}
 use Rattle.nicoisetarn.proofs.steps.step_image.Statement.{statement}
 use Rattle.nicoisetarn.proofs.steps.step_image.Tie as tie
@@ -15,14 +16,15 @@ used-records-requires : tie.Need-used-records-requires
 used-records-requires c κs = search needs
 
 stands-requires : tie.Need-stands-requires
-stands-requires c κs = c .used-records .ensures
+stands-requires c κs = search needs
 
 step-state-requires : tie.Need-step-state-requires
 step-state-requires c κs =
     let used-records = c .before .before .before .before .used-records in
     let stands = c .before .before .before .stands in
     let if1 = c .before .before .if1 in
-    (sym (stands .ensures) ∙ if1 .taken, used-records .ensures)
+    let used = used-stands _ _ (used-records .ensures) in
+    (sym used ∙ sym (stands .ensures) ∙ if1 .taken, used-records .ensures)
 
 same-length : tie.Need-same-length
 same-length c = search needs
@@ -59,11 +61,13 @@ returns-2 : tie.Need-returns-2
 returns-2 c =
     let call-numbered = c .before .before .before .before .before .before .before .before .before .before .call-numbered in
     let numbered = c .before .before .before .before .before .before .before .before .numbered in
+    let used-records = c .before .before .before .before .before .before .used-records in
     let stands = c .before .before .before .before .before .stands in
     let if1 = c .before .before .before .before .if1 in
     let image-refusal = c .before .image-refusal in
+    let used = used-stands _ _ (used-records .ensures) in
     known-stepped _ _ _ _ _ _ _ _ (call-numbered .ensures) _ (numbered .given .1) _
-    (image-refused _ _ _ _ (sym (stands .ensures) ∙ if1 .left) _ (image-refusal .ensures) _ (c .refused-with .ensures) refl)
+    (image-refused _ _ _ _ (sym used ∙ sym (stands .ensures) ∙ if1 .left) _ (image-refusal .ensures) _ (c .refused-with .ensures) refl)
 
 returns-3 : tie.Need-returns-3
 returns-3 c =

@@ -1,0 +1,499 @@
+//! The faulty machines: each is the right one with one step made wrong, and some
+//! do not know the clause of well-formedness that they would else stop at.
+//! `fault` says what each does.
+
+use std::ops::Range;
+
+use crate::check::{self, Clause};
+use crate::model::{
+    committed_store, leaves, line_bytes, line_of, record_bytes, remove_oldest_store, write_back,
+    write_value, Machine, Right,
+};
+use crate::types::{Answer, Call, Figures, Part, State, StoreEntry, LINE, LOADS, STORES};
+
+/// Checks 1 and 10 of a machine that does not know one of the clauses.
+fn without(unknown: Clause, state: &State, cache: &[u8], memory: &[u8]) -> Option<u32> {
+    let no = check::refusal(state, cache, memory)?;
+    let broken = |clause: Clause| !clause(state, cache, memory);
+    let all_broken = check::CLAUSES.iter().filter(|(_, clause)| broken(*clause));
+    if no == 10 && broken(unknown) && all_broken.count() == 1 {
+        return None;
+    }
+    Some(no)
+}
+
+/// A step after which all ages are what they were.
+fn without_use(state: &mut State, step: impl FnOnce(&mut State) -> Answer) -> Answer {
+    let old = state.tags;
+    let answer = step(state);
+    for (tag, old) in state.tags.iter_mut().zip(old) {
+        tag.age = old.age;
+    }
+    answer
+}
+
+// The shams.
+
+pub struct LoadAlwaysWaits;
+
+impl Machine for LoadAlwaysWaits {
+    fn refusal(state: &State, cache: &[u8], memory: &[u8]) -> Option<u32> {
+        without(check::waiting_loads_lack_a_byte, state, cache, memory)
+    }
+
+    fn list_load(state: &mut State, address: u32, width: u32, _: Option<u32>) -> Answer {
+        Right::list_load(state, address, width, None)
+    }
+}
+
+/// Pretends to fill and to drain.
+struct Pretends;
+
+impl Machine for Pretends {
+    fn refusal(state: &State, cache: &[u8], memory: &[u8]) -> Option<u32> {
+        without(check::clean_lines_equal_memory, state, cache, memory)
+    }
+
+    fn fill(_: &mut [u8], _: &[u8]) {}
+
+    fn drain(_: &mut State, _: &mut [u8], store: StoreEntry, _: usize) -> Answer {
+        Answer::Drained(store.number)
+    }
+}
+
+pub struct CopiesOnlyAtFlush;
+
+impl CopiesOnlyAtFlush {
+    fn copy_all(state: &mut State, cache: &mut [u8], memory: &mut [u8]) -> Answer {
+        if let Some(no) = Pretends::refusal(state, cache, memory) {
+            return Answer::Refused(no);
+        }
+        let mut written = 0;
+        while let Some(store) = committed_store(state) {
+            write_value(memory, store.address as usize, store);
+            remove_oldest_store(state);
+            written += 1;
+        }
+        for record in (0..cache.len() / LINE).filter(|record| state.tags[*record].valid) {
+            let line = state.tags[record].line;
+            cache[record_bytes(record)].copy_from_slice(&memory[line_bytes(line)]);
+        }
+        Answer::Flushed(written)
+    }
+}
+
+impl Machine for CopiesOnlyAtFlush {
+    fn step(state: &mut State, cache: &mut [u8], memory: &mut [u8], call: Call) -> Answer {
+        match call {
+            Call::Flush => Self::copy_all(state, cache, memory),
+            _ => Pretends::step(state, cache, memory, call),
+        }
+    }
+}
+
+pub struct AnswersAlike;
+
+impl Machine for AnswersAlike {
+    fn step(state: &mut State, cache: &mut [u8], memory: &mut [u8], call: Call) -> Answer {
+        let answer = Right::step(state, cache, memory, call);
+        match call {
+            Call::Start { .. } => answer,
+            _ => Answer::Idle,
+        }
+    }
+}
+
+pub struct RefusesAll;
+
+impl Machine for RefusesAll {
+    fn step(state: &mut State, cache: &mut [u8], memory: &mut [u8], call: Call) -> Answer {
+        match call {
+            Call::Start { .. } => Right::step(state, cache, memory, call),
+            _ => Answer::Refused(10),
+        }
+    }
+}
+
+pub struct ChangesNothing;
+
+impl Machine for ChangesNothing {
+    fn step(state: &mut State, cache: &mut [u8], memory: &mut [u8], call: Call) -> Answer {
+        match call {
+            Call::Start { .. } => Right::step(state, cache, memory, call),
+            _ => Right::step(&mut state.clone(), &mut cache.to_vec(), &mut memory.to_vec(), call),
+        }
+    }
+}
+
+pub struct InventsFlushCount;
+
+impl Machine for InventsFlushCount {
+    fn write_dirty(state: &mut State, cache: &[u8], memory: &mut [u8]) -> u32 {
+        Right::write_dirty(state, cache, memory);
+        1
+    }
+}
+
+// The falsehoods of the paper.
+
+pub struct BypassFromYounger;
+
+impl Machine for BypassFromYounger {
+    fn forwards(store: &StoreEntry, _: u32, address: u32) -> bool {
+        store.address / 4 == address / 4
+    }
+}
+
+pub struct LoadChangesAges;
+
+impl Machine for LoadChangesAges {
+    fn list_load(state: &mut State, address: u32, width: u32, found: Option<u32>) -> Answer {
+        if found.is_some() {
+            Right::use_line(state, line_of(address));
+        }
+        Right::list_load(state, address, width, found)
+    }
+}
+
+pub struct FlushRefusedForUncommitted;
+
+impl Machine for FlushRefusedForUncommitted {
+    fn flush_refusal(state: &State) -> Option<u32> {
+        (state.stores[0].number != 0).then_some(18)
+    }
+}
+
+pub struct EvictWithoutWriteBack;
+
+impl Machine for EvictWithoutWriteBack {
+    fn evict(_: &State, _: &[u8], _: &mut [u8], _: usize) {}
+}
+
+pub struct DroppedNumberOnly;
+
+impl Machine for DroppedNumberOnly {
+    fn refusal(state: &State, cache: &[u8], memory: &[u8]) -> Option<u32> {
+        without(check::free_places_zero, state, cache, memory)
+    }
+
+    fn remove_from(state: &mut State, n: u32) {
+        let stores = state.stores.iter_mut().map(|store| &mut store.number);
+        let loads = state.loads.iter_mut().map(|load| &mut load.number);
+        stores.chain(loads).filter(|number| **number >= n).for_each(|number| *number = 0);
+    }
+}
+
+pub struct DroppedKept;
+
+impl Machine for DroppedKept {
+    fn remove_from(_: &mut State, _: u32) {}
+}
+
+// Commit.
+
+pub struct CommitUsesReversed;
+
+impl Machine for CommitUsesReversed {
+    fn use_leaving(state: &mut State, k: u32) {
+        for place in (0..LOADS).rev() {
+            let load = state.loads[place];
+            if leaves(&load, k) {
+                Right::use_line(state, line_of(load.address));
+            }
+        }
+    }
+}
+
+pub struct CommitWithoutUse;
+
+impl Machine for CommitWithoutUse {
+    fn use_leaving(_: &mut State, _: u32) {}
+}
+
+pub struct CommitKeepsLoads;
+
+impl Machine for CommitKeepsLoads {
+    fn refusal(state: &State, cache: &[u8], memory: &[u8]) -> Option<u32> {
+        without(check::committed_loads_wait, state, cache, memory)
+    }
+
+    fn remove_leaving(_: &mut State, _: u32) {}
+}
+
+pub struct CommitFallsBack;
+
+impl Machine for CommitFallsBack {
+    fn commit_refusal(state: &State, k: u32) -> Option<u32> {
+        (k > state.last).then_some(15)
+    }
+}
+
+// Flush.
+
+pub struct FlushMissesWriteBack;
+
+impl Machine for FlushMissesWriteBack {
+    fn refusal(state: &State, cache: &[u8], memory: &[u8]) -> Option<u32> {
+        without(check::clean_lines_equal_memory, state, cache, memory)
+    }
+
+    fn write_dirty(state: &mut State, cache: &[u8], memory: &mut [u8]) -> u32 {
+        let first = state.tags.iter().position(|tag| tag.dirty);
+        let written = Right::write_dirty(state, cache, &mut memory.to_vec());
+        if let Some(record) = first {
+            write_back(state, cache, memory, record);
+        }
+        written
+    }
+}
+
+pub struct FlushLeavesDirty;
+
+impl Machine for FlushLeavesDirty {
+    fn write_dirty(state: &mut State, cache: &[u8], memory: &mut [u8]) -> u32 {
+        Right::write_dirty(&mut state.clone(), cache, memory)
+    }
+}
+
+// Idle.
+
+pub struct RequestForUncommitted;
+
+impl Machine for RequestForUncommitted {
+    fn refusal(state: &State, cache: &[u8], memory: &[u8]) -> Option<u32> {
+        without(check::request_wanted, state, cache, memory)
+    }
+
+    fn missing_line(state: &State) -> Option<u32> {
+        let waiting = check::listed(state).iter().filter(|load| !load.answered);
+        let mut lines = waiting.map(|load| line_of(load.address));
+        lines.find(|line| check::find(state, *line).is_none())
+    }
+}
+
+pub struct RequestHighest;
+
+impl Machine for RequestHighest {
+    fn missing_line(state: &State) -> Option<u32> {
+        let mut loads = check::listed(state).iter().rev();
+        loads.find(|load| Right::lacks_line(state, load)).map(|load| line_of(load.address))
+    }
+}
+
+pub struct DrainPassesLoad;
+
+impl Machine for DrainPassesLoad {
+    fn idle(state: &mut State, cache: &mut [u8], memory: &[u8]) -> Answer {
+        let record = |store: &StoreEntry| check::find(state, line_of(store.address));
+        let passing = committed_store(state).and_then(|store| Some((store, record(&store)?)));
+        match passing {
+            Some((store, record)) if Right::refusal(state, cache, memory).is_none() => {
+                Right::drain(state, cache, store, record)
+            }
+            _ => Right::idle(state, cache, memory),
+        }
+    }
+}
+
+pub struct DrainLeavesClean;
+
+impl Machine for DrainLeavesClean {
+    fn refusal(state: &State, cache: &[u8], memory: &[u8]) -> Option<u32> {
+        without(check::clean_lines_equal_memory, state, cache, memory)
+    }
+
+    fn drain(state: &mut State, cache: &mut [u8], store: StoreEntry, record: usize) -> Answer {
+        let answer = Right::drain(state, cache, store, record);
+        state.tags[record].dirty = false;
+        answer
+    }
+}
+
+pub struct DrainWithoutUse;
+
+impl Machine for DrainWithoutUse {
+    fn drain(state: &mut State, cache: &mut [u8], store: StoreEntry, record: usize) -> Answer {
+        without_use(state, |state| Right::drain(state, cache, store, record))
+    }
+}
+
+// Reply.
+
+pub struct ReplyRefuses;
+
+impl Machine for ReplyRefuses {
+    fn reply(state: &mut State, cache: &mut [u8], memory: &mut [u8]) -> Answer {
+        Answer::Refused(Right::refusal(state, cache, memory).unwrap_or(17))
+    }
+}
+
+pub struct ReplyKeepsRequest;
+
+impl Machine for ReplyKeepsRequest {
+    fn reply(state: &mut State, cache: &mut [u8], memory: &mut [u8]) -> Answer {
+        let request = state.request;
+        let answer = Right::reply(state, cache, memory);
+        state.request = request;
+        answer
+    }
+}
+
+pub struct VictimLeastAge;
+
+impl Machine for VictimLeastAge {
+    fn oldest_record(state: &State, mut set: Range<usize>) -> Option<usize> {
+        set.find(|record| state.tags[*record].age == 0)
+    }
+}
+
+pub struct VictimPassesInvalid;
+
+impl Machine for VictimPassesInvalid {
+    fn invalid_record(_: &State, _: Range<usize>) -> Option<usize> {
+        None
+    }
+}
+
+pub struct VictimHighestInvalid;
+
+impl Machine for VictimHighestInvalid {
+    fn invalid_record(state: &State, set: Range<usize>) -> Option<usize> {
+        set.rev().find(|record| !state.tags[*record].valid)
+    }
+}
+
+pub struct FillKeepsByte;
+
+impl Machine for FillKeepsByte {
+    fn refusal(state: &State, cache: &[u8], memory: &[u8]) -> Option<u32> {
+        without(check::clean_lines_equal_memory, state, cache, memory)
+    }
+
+    fn fill(into: &mut [u8], from: &[u8]) {
+        into[..LINE - 1].copy_from_slice(&from[..LINE - 1]);
+    }
+}
+
+pub struct FillWithoutUse;
+
+impl Machine for FillWithoutUse {
+    fn reply(state: &mut State, cache: &mut [u8], memory: &mut [u8]) -> Answer {
+        without_use(state, |state| Right::reply(state, cache, memory))
+    }
+}
+
+pub struct UseAgesAll;
+
+impl Machine for UseAgesAll {
+    fn use_record(state: &mut State, record: usize) {
+        let ways = state.figures.ways as usize;
+        let base = record / ways * ways;
+        state.tags[base..base + ways].iter_mut().for_each(|tag| tag.age += 1);
+        state.tags[record].age = 0;
+    }
+}
+
+// Inquiry.
+
+pub struct RetryFromYounger;
+
+impl Machine for RetryFromYounger {
+    // A load has the highest number, so this is seen by inquiries alone.
+    fn gather(state: &State, cache: &[u8], _: u32, address: u32, width: u32) -> Option<u32> {
+        Right::gather(state, cache, u32::MAX, address, width)
+    }
+}
+
+pub struct RetryUsesUncommitted;
+
+impl Machine for RetryUsesUncommitted {
+    fn answer_load(state: &mut State, place: usize) {
+        Right::use_line(state, line_of(state.loads[place].address));
+        Right::answer_load(state, place);
+    }
+}
+
+pub struct RetryKeepsCommitted;
+
+impl Machine for RetryKeepsCommitted {
+    fn refusal(state: &State, cache: &[u8], memory: &[u8]) -> Option<u32> {
+        without(check::committed_loads_wait, state, cache, memory)
+    }
+
+    fn answer_load(state: &mut State, place: usize) {
+        let load = state.loads[place];
+        if load.number <= state.committed {
+            Right::use_line(state, line_of(load.address));
+        }
+        state.loads[place].answered = true;
+    }
+}
+
+// Loads, stores and the rest.
+
+pub struct ForwardFromOldest;
+
+impl Machine for ForwardFromOldest {
+    fn forward(state: &State, number: u32, address: u32, width: u32) -> (u32, u32) {
+        Right::overlay(check::held(state).iter(), number, address, width)
+    }
+}
+
+pub struct ForwardWholeOnly;
+
+impl Machine for ForwardWholeOnly {
+    fn forward(state: &State, number: u32, address: u32, width: u32) -> (u32, u32) {
+        let wanted = check::word_mask(address, width);
+        let whole = |s: &&StoreEntry| wanted & !check::word_mask(s.address, s.width) == 0;
+        Right::overlay(check::held(state).iter().rev().filter(whole), number, address, width)
+    }
+}
+
+pub struct AddressWraps;
+
+impl Machine for AddressWraps {
+    fn access(state: &State, address: u32, width: u32) -> Option<u32> {
+        if address.wrapping_add(width) <= state.memory_length {
+            return check::access(u32::MAX, address, width).filter(|no| *no != 4);
+        }
+        Right::access(state, address, width)
+    }
+}
+
+pub struct FullBeforeInput;
+
+impl Machine for FullBeforeInput {
+    fn store_refusal(state: &State, address: u32, width: u32, value: u32) -> Option<u32> {
+        let full = state.stores[STORES - 1].number != 0;
+        full.then_some(11).or_else(|| Right::store_refusal(state, address, width, value))
+    }
+}
+
+pub struct AbortKeepsLast;
+
+impl Machine for AbortKeepsLast {
+    fn abort(state: &mut State, cache: &[u8], memory: &[u8], n: u32) -> Answer {
+        let last = state.last;
+        let answer = Right::abort(state, cache, memory, n);
+        state.last = last;
+        answer
+    }
+}
+
+pub struct StartKeepsCache;
+
+impl Machine for StartKeepsCache {
+    fn start(figures: Figures, cache: &mut [u8], memory: &[u8]) -> (State, Answer) {
+        Right::start(figures, &mut cache.to_vec(), memory)
+    }
+}
+
+pub struct ShowFirstWay;
+
+impl Machine for ShowFirstWay {
+    fn show_line(state: &State, cache: &[u8], memory: &[u8], address: u32) -> Part {
+        let part = Right::show_line(state, cache, memory, address);
+        let set = state.figures.ways.max(1) as usize * LINE;
+        Part { place: part.place / set * set, ..part }
+    }
+}

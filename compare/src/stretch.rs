@@ -1,0 +1,120 @@
+//! The kinds of dropped stretches: what opens and ends one, told by a run's calls
+//! and answers alone, and which of its calls are struck.
+
+use std::fmt;
+
+use crate::types::{Answer, Call};
+
+/// What one call gave: its answer and, for show line, the bytes shown.
+#[derive(Clone, Debug, PartialEq, Eq)]
+pub struct Given {
+    pub call: Call,
+    pub answer: Answer,
+    pub bytes: Vec<u8>,
+}
+
+/// A kind of stretch.
+pub struct Kind {
+    /// The names under which such a stretch is counted: any, one with a load and a
+    /// reply inside, one with a load and an eviction inside.
+    pub name: &'static str,
+    pub with_reply: &'static str,
+    pub with_eviction: &'static str,
+    /// Every stretch of this kind in a run whose first number is this.
+    pub find: fn(u64, &[Given]) -> Vec<Stretch>,
+    /// Is a call inside a stretch for n struck from it?
+    pub struck: fn(Call, u32) -> bool,
+}
+
+impl fmt::Debug for Kind {
+    fn fmt(&self, f: &mut fmt::Formatter) -> fmt::Result {
+        f.write_str(self.name)
+    }
+}
+
+/// A dropped stretch for n: the calls from `first` to `end`, that one included.
+#[derive(Clone, Copy, Debug)]
+pub struct Stretch {
+    pub kind: &'static Kind,
+    pub first: usize,
+    pub end: usize,
+    pub n: u32,
+}
+
+impl Stretch {
+    /// Is the call at a place of the run struck?
+    pub fn strikes(&self, place: usize, call: Call) -> bool {
+        (self.first..=self.end).contains(&place) && (self.kind.struck)(call, self.n)
+    }
+}
+
+/// From a place where the next number is n to an accepted abort naming n.
+pub const PLAIN: Kind = Kind {
+    name: "dropped stretch",
+    with_reply: "dropped stretch, load and reply inside",
+    with_eviction: "dropped stretch, load and eviction inside",
+    find: plain_stretches,
+    struck: struck_from_plain,
+};
+
+/// Every kind.
+pub const KINDS: &[&Kind] = &[&PLAIN];
+
+/// Every stretch of every kind in a run whose first number is this.
+pub fn stretches(first: u64, given: &[Given]) -> Vec<Stretch> {
+    KINDS.iter().flat_map(|kind| (kind.find)(first, given)).collect()
+}
+
+/// The next operation number before each call.
+fn next_numbers(first: u64, given: &[Given]) -> Vec<u64> {
+    let mut next = first;
+    let mut before = Vec::with_capacity(given.len());
+    for one in given {
+        before.push(next);
+        match one.call {
+            Call::Load { .. } | Call::Store { .. } if one.answer.accepted() => next += 1,
+            Call::Abort { number } if one.answer.accepted() => next = number as u64,
+            _ => {}
+        }
+    }
+    before
+}
+
+/// The number that an accepted abort names.
+fn aborted(one: &Given) -> Option<u32> {
+    match one.call {
+        Call::Abort { number } if one.answer.accepted() => Some(number),
+        _ => None,
+    }
+}
+
+/// For each accepted abort naming n, each place before it, back to an accepted abort
+/// that names less, where the next number is n. The abort alone is one of them when
+/// the next number is n already.
+fn plain_stretches(first: u64, given: &[Given]) -> Vec<Stretch> {
+    let next = next_numbers(first, given);
+    let mut found = Vec::new();
+    for end in 0..given.len() {
+        let Some(n) = aborted(&given[end]) else {
+            continue;
+        };
+        for first in (0..=end).rev() {
+            if aborted(&given[first]).is_some_and(|named| named < n) {
+                break;
+            }
+            if next[first] == n as u64 {
+                found.push(Stretch { kind: &PLAIN, first, end, n });
+            }
+        }
+    }
+    found
+}
+
+/// Loads, stores, and inquiries and aborts about n or more.
+fn struck_from_plain(call: Call, n: u32) -> bool {
+    match call {
+        Call::Load { .. } | Call::Store { .. } => true,
+        Call::Retry { number } | Call::Abort { number } => number >= n,
+        _ => false,
+    }
+}

@@ -1,0 +1,122 @@
+-- `State::step_formed` meets its contract: each call that writes by its own, the others together.
+use borrow.Author.Needs.{needs}
+use Prim.Native.Nat.{ℕ}
+use mathlib.Core.Path.{_≡_, refl}
+use mathlib.Core.Bool.{true}
+use mathlib.Core.List.{List, [], _∷_}
+use types.Run.{OneOf, miss}
+use denote.Enum.Declared.{tagOf}
+use Rattle.model.specs.State.{readsOnly}
+use Rattle.model.specs.declared.Call.{Call}
+use Rattle.model.specs.declared.Call.the-variants.{Load, Store, Retry, Commit, Abort, Idle, Reply, Flush, Show}
+use Rattle.model.proofs.Call as call
+use Rattle.model.proofs.State.step_formed.Statement.{statement}
+use Rattle.model.proofs.State.step_formed.Tie as tie
+
+-- the variants of the calls that only read
+abbrev reading : List ℕ
+reading = 0 ∷ 1 ∷ 2 ∷ 3 ∷ 4 ∷ 8 ∷ []
+
+all-read : (c : Call) → OneOf reading (tagOf call.the-type c) → readsOnly c ≡ true
+all-read (Load a w) h = refl
+all-read (Store a w v) h = refl
+all-read (Retry i) h = refl
+all-read (Commit k) h = refl
+all-read (Abort n) h = refl
+all-read Idle h = absurd (miss reading 5 tt h)
+all-read Reply h = absurd (miss reading 6 tt h)
+all-read Flush h = absurd (miss reading 7 tt h)
+all-read (Show a) h = refl
+
+enum-told : tie.Need-enum-told
+enum-told c = search needs
+
+idle-formed-requires : tie.Need-idle-formed-requires
+idle-formed-requires c κs = search needs
+
+enum-told-2 : tie.Need-enum-told-2
+enum-told-2 c = search needs
+
+reply-formed-requires : tie.Need-reply-formed-requires
+reply-formed-requires c κs = search needs
+
+enum-told-3 : tie.Need-enum-told-3
+enum-told-3 c = search needs
+
+flush-formed-requires : tie.Need-flush-formed-requires
+flush-formed-requires c κs = search needs
+
+read-formed-requires : tie.Need-read-formed-requires
+read-formed-requires c κs = search needs
+
+same-length : tie.Need-same-length
+same-length c = search needs
+
+same-length-2 : tie.Need-same-length-2
+same-length-2 c = search needs
+
+returns : tie.Need-returns
+returns c =
+    let enum-told = c .before .before .before .before .before .before .before .enum-told in
+    let idle-formed = c .before .before .before .before .idle-formed in
+    rw (enum-told .given .1) (idle-formed .ensures)
+
+same-length-3 : tie.Need-same-length-3
+same-length-3 c = search needs
+
+same-length-4 : tie.Need-same-length-4
+same-length-4 c = search needs
+
+returns-2 : tie.Need-returns-2
+returns-2 c =
+    let enum-told2 = c .before .before .before .before .before .before .before .enum-told2 in
+    let reply-formed = c .before .before .before .before .reply-formed in
+    rw (enum-told2 .given .1) (reply-formed .ensures)
+
+same-length-5 : tie.Need-same-length-5
+same-length-5 c = search needs
+
+same-length-6 : tie.Need-same-length-6
+same-length-6 c = search needs
+
+returns-3 : tie.Need-returns-3
+returns-3 c =
+    let enum-told3 = c .before .before .before .before .before .enum-told3 in
+    let flush-formed = c .before .before .flush-formed in
+    rw (enum-told3 .given .1) (flush-formed .ensures)
+
+same-length-7 : tie.Need-same-length-7
+same-length-7 c = search needs
+
+same-length-8 : tie.Need-same-length-8
+same-length-8 c = search needs
+
+returns-4 : tie.Need-returns-4
+returns-4 c =
+    let args = c .before .before .before .before .before .before .args in
+    let match = c .before .before .before .match in
+    c .read-formed .ensures (all-read (args .call) (match .keys4))
+
+pub step-formed-spec : {M : Type 1} → statement M
+step-formed-spec =
+    tie.close
+    (tie.spec
+    enum-told
+    idle-formed-requires
+    enum-told-2
+    reply-formed-requires
+    enum-told-3
+    flush-formed-requires
+    read-formed-requires
+    same-length
+    same-length-2
+    returns
+    same-length-3
+    same-length-4
+    returns-2
+    same-length-5
+    same-length-6
+    returns-3
+    same-length-7
+    same-length-8
+    returns-4)

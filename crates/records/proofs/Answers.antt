@@ -1,0 +1,154 @@
+-- What the answers are where the places lie in the table: the contracts without their tests, and the calls that are made one after the other.
+use mathlib.Core.Path.{_≡_, refl, sym, ap, ap₂, _∙_}
+use mathlib.Core.Bool.{Bool, true, false, cond, not, _&&_}
+use mathlib.Core.List.{List, _∷_}
+use Prim.Native.Nat.{ℕ, _+_, _*_, _%_, _<_, _≤_}
+use native.Mathlib.Nat.{mod-eq-of-lt}
+use native.Mathlib.Omega.{arith}
+use lib.Dec.{ltb}
+use lib.ListN.{set}
+use borrow.Author.Tests.{ltb-true, ltb-false, lt-ltb}
+use Rattle.lists.specs.Padded.{filter}
+use Rattle.lists.specs.Counted.{firstFrom, eachFrom}
+use Rattle.lists.proofs.Cond.{either, cases, cond-then, and-both}
+use Rattle.lists.proofs.Counting.{first-low, first-high, greatest-in}
+use Rattle.rules.specs.declared.Figures.{Figures}
+use Rattle.rules.specs.declared.Tag.{Tag}
+use Rattle.rules.specs.declared.LoadEntry.{LoadEntry}
+use Rattle.rules.specs.Shape.{Hierarchy, holding, lineOf, tagAt, setOf, firstSlot}
+use Rattle.rules.specs.Lines.{holdsLine, slotOf, present, agedAt, useSlot, useLine}
+use Rattle.rules.specs.Calls.{answeredBy, useEach}
+use Rattle.records.specs.Records.{hasRoom, inTable, inSet, tabled, usedTags, victimIn, installedIn}
+use Rattle.records.proofs.Places.{room-bounds, slots-room, in-table, in-set, past-set}
+
+-- the records of a choice
+tags-of : (t : Bool) (x y : Hierarchy) → cond t x y .tags ≡ cond t (x .tags) (y .tags)
+tags-of true x y = refl
+tags-of false x y = refl
+
+-- ---- first_slot and find, one after the other
+
+module _ (g : Figures) (l f : ℕ) (room : hasRoom g ≡ true) (first : f ≡ cond (hasRoom g) ((l % g .sets) * g .ways) 0) where
+  pub at-first : f ≡ (l % g .sets) * g .ways
+  at-first = first ∙ sym (cond-then _ _ room)
+
+  -- the slots of the set lie among the slots in use, and those in the table
+  pub set-in-use : f + g .ways ≤ g .sets * g .ways
+  set-in-use = omega (arith, at-first, slots-room g l (room-bounds g room .some-set))
+
+  pub set-in-table : inTable f (g .ways) ≡ true
+  set-in-table = in-table f (g .ways) (omega (arith, set-in-use, room-bounds g room .in-all))
+
+  -- the line's slot, and whether the line is present
+  module _ (tags : List Tag) (v : ℕ)
+      (search : v ≡ cond (inTable f (g .ways)) (firstFrom (λ k. holdsLine l (tagAt tags k)) f (g .ways)) 0) where
+    abbrev b : Hierarchy
+    b = tabled g tags
+
+    pub found-first : v ≡ firstFrom (λ k. holdsLine l (tagAt tags k)) f (g .ways)
+    found-first = search ∙ sym (cond-then _ _ set-in-table)
+
+    pub found-low : f ≤ v
+    found-low = omega (arith, found-first, first-low (λ k. holdsLine l (tagAt tags k)) (g .ways) f)
+
+    pub found-high : v ≤ f + g .ways
+    found-high = omega (arith, found-first, first-high (λ k. holdsLine l (tagAt tags k)) (g .ways) f)
+
+    pub found-slot : v ≡ slotOf b l
+    unfolding slotOf
+    found-slot = found-first ∙ ap (λ (f : ℕ). firstFrom (λ k. holdsLine l (tagAt tags k)) f (g .ways)) at-first
+
+    pub found-present : ltb v (f + g .ways) ≡ present b l
+    unfolding present
+    found-present = ap₂ (λ (v f : ℕ). ltb v (f + g .ways)) found-slot at-first
+
+    -- the slot is in the set exactly if the line is present
+    pub found-inside : inSet f (g .ways) v ≡ present b l
+    found-inside =
+        let h : f + g .ways ≤ 256 = omega (arith, set-in-use, room-bounds g room .in-all) in
+        cases (ltb v (f + g .ways))
+        (λ t. in-set f (g .ways) v h found-low (ltb-true v (f + g .ways) t) ∙ sym t ∙ found-present)
+        (λ t. past-set f (g .ways) v h found-low (ltb-false v (f + g .ways) t) ∙ sym t ∙ found-present)
+
+    -- ---- and use_slot: the line is used, if it is present
+
+    abbrev aging : ℕ → ℕ → List Tag
+    aging f v = eachFrom (agedAt f (g .ways) v (tagAt tags v .age)) 0 tags
+
+    used : usedTags g l tags ≡ cond (present b l) (aging (firstSlot b l) (slotOf b l)) tags
+    unfolding usedTags useLine useSlot
+    used = tags-of (present b l) _ _
+
+    pub found-used : (r : List Tag) → r ≡ cond (inSet f (g .ways) v) (aging f v) tags → r ≡ usedTags g l tags
+    found-used r e =
+        e ∙ ap (λ (t : Bool). cond t (aging f v) tags) found-inside
+        ∙ ap₂ (λ (f v : ℕ). cond (present b l) (aging f v) tags) at-first found-slot ∙ sym used
+
+-- ---- is_present
+
+module _ (g : Figures) (tags : List Tag) (l : ℕ) (r : Bool) (room : hasRoom g ≡ true) where
+  pub present-is : r ≡ present (tabled g tags) l → r ≡ (hasRoom g && present (tabled g tags) l)
+  present-is e = e ∙ rw room
+
+  pub present-known : r ≡ (hasRoom g && present (tabled g tags) l) → r ≡ present (tabled g tags) l
+  present-known e = e ∙ rw room
+
+-- ---- use_line
+
+-- the use of a line changes the records only, as the code has it
+pub used-line :
+    (l : ℕ) (b : Hierarchy) → useLine l b ≡ holding b (usedTags (b .figures) l (b .tags)) (b .cache) (b .memory)
+unfolding usedTags useLine present slotOf useSlot
+used-line l b = go (present b l)
+  where
+    go :
+        (t : Bool)
+        → cond t (useSlot (setOf b l) (slotOf b l) b) b
+        ≡ holding b (cond t (useSlot (setOf b l) (slotOf b l) (tabled (b .figures) (b .tags))) (tabled (b .figures) (b .tags)) .tags) (b .cache) (b .memory)
+    go true = refl
+    go false = refl
+
+-- the lines of the answered loads, one load further: it uses its line, or it is not answered
+module _ (g : Figures) (k : ℕ) (l : LoadEntry) (ls : List LoadEntry) (tags : List Tag) where
+  pub answered-step :
+      answeredBy k l ≡ true
+      → useEach (filter (answeredBy k) (l ∷ ls)) (tabled g tags) .tags
+      ≡ useEach (filter (answeredBy k) ls) (tabled g (usedTags g (lineOf (l .address)) tags)) .tags
+  unfolding filter useEach
+  answered-step t = rw t (ap (λ (b : Hierarchy). useEach (filter (answeredBy k) ls) b .tags) (used-line (lineOf (l .address)) (tabled g tags)))
+
+  pub other-step :
+      answeredBy k l ≡ false
+      → useEach (filter (answeredBy k) (l ∷ ls)) (tabled g tags) .tags ≡ useEach (filter (answeredBy k) ls) (tabled g tags) .tags
+  unfolding filter
+  other-step t = rw t
+
+-- ---- victim
+
+-- the victim is in the set
+pub victim-inside : (tags : List Tag) (f ways : ℕ) → 0 < ways → (f ≤ victimIn tags f ways) × (victimIn tags f ways < f + ways)
+unfolding victimIn
+victim-inside tags f ways some =
+    let p : ℕ → Bool = λ k. not (tagAt tags k .valid) in
+    let g = greatest-in (λ k. tagAt tags k .age) f (f + ways) ways f f (omega arith, omega arith) (omega arith) (omega arith) in
+    either (λ (r : ℕ). (f ≤ r) × (r < f + ways)) (ltb (firstFrom p f ways) (f + ways))
+    (λ e. (first-low p ways f, ltb-true _ _ e)) (λ e. (g .0, g .1))
+
+-- what `victim` answers
+pub victim-known :
+    (tags : List Tag) (f ways r : ℕ) → inTable f ways ≡ true → 0 < ways
+    → r ≡ cond (inTable f ways && ltb 0 ways) (victimIn tags f ways) 0 → r ≡ victimIn tags f ways
+victim-known tags f ways r t some e = e ∙ sym (cond-then _ _ (and-both (inTable f ways) (ltb 0 ways) t (lt-ltb 0 ways some)))
+
+-- ---- install
+
+-- what `use_slot` makes of the table with the line's record; the code has the line's number in 16 bits
+pub installed :
+    (f ways v l : ℕ) (tags r : List Tag) → inSet f ways v ≡ true → l < 65536
+    → (let out = set tags v (record { valid = true; dirty = false; line = l % 65536; age = tagAt tags v .age }) in
+    r ≡ cond (inSet f ways v) (eachFrom (agedAt f ways v (tagAt out v .age)) 0 out) out)
+    → r ≡ cond (inSet f ways v && ltb l 65536) (installedIn f ways v l tags) tags
+unfolding installedIn
+installed f ways v l tags r t h e =
+    let m : l % 65536 ≡ l = mod-eq-of-lt h in
+    e ∙ rw (t, m, lt-ltb l 65536 h)

@@ -1,0 +1,96 @@
+-- Laws for the loops over the records: what each turn does, and what the loop amounts to in the rules.
+use mathlib.Core.Path.{_≡_, refl}
+use mathlib.Core.Bool.{false, cond, not, _&&_}
+use mathlib.Core.List.{List}
+use Prim.Native.Nat.{ℕ, zero, suc, _+_, _*_, _%_, _<_, _≤_}
+use native.Mathlib.Nat.{mod-le}
+use native.Mathlib.Omega.{arith}
+use lib.Dec.{ltb, leb, eqb}
+use lib.ListN.{replicate}
+use mir.Val.{Fits}
+use mir.Syntax.{w8}
+use borrow.Author.Tests.{ltb-true, leb-true, eqb-true, lt-ltb, le-ltb, le-leb, eq-eqb, ne-eqb}
+use Rattle.lists.specs.Counted.{firstFrom, greatestFrom, stepsFrom, eachFrom}
+use Rattle.lists.proofs.Cond.{either, and-left, and-right}
+use Rattle.lists.proofs.CountedLoops.{change, changes-each}
+use Rattle.rules.specs.declared.Figures.{Figures}
+use Rattle.rules.specs.declared.Tag.{Tag}
+use Rattle.rules.specs.Shape.{Hierarchy, noTag, tagAt, withAge, withDirty}
+use Rattle.rules.specs.Lines.{agedAt, writeBackSlot}
+use Rattle.rules.specs.Runs.{startTags}
+use Rattle.records.specs.Records.{victimIn, flushedTags}
+
+-- ---- use
+
+module _ (f ways v a k : ℕ) (t : Tag) where
+  pub aged-hit : k ≡ v → withAge 0 t ≡ agedAt f ways v a k t
+  unfolding agedAt
+  aged-hit e = rw (eq-eqb k v e)
+
+  pub aged-grown : (k ≡ v → ⊥) → f ≤ k → k < f + ways → t .age < a → withAge (t .age + 1) t ≡ agedAt f ways v a k t
+  unfolding agedAt
+  aged-grown d p q l = rw (ne-eqb k v d, le-leb f k p, lt-ltb k (f + ways) q, lt-ltb (t .age) a l)
+
+  pub aged-kept : (k ≡ v → ⊥) → f ≤ k → k < f + ways → a ≤ t .age → t ≡ agedAt f ways v a k t
+  unfolding agedAt
+  aged-kept d p q l = rw (ne-eqb k v d, le-leb f k p, lt-ltb k (f + ways) q, le-ltb (t .age) a l)
+
+  aged-out : (f ≤ k → k < f + ways → ⊥) → f ≤ v → v < f + ways → agedAt f ways v a k t ≡ t
+  unfolding agedAt
+  aged-out o p q =
+      either (λ u. u ≡ t) (eqb k v) (λ e. let z = eqb-true k v e in absurd (o (omega arith) (omega arith)))
+      (λ e. either (λ u. u ≡ t) (leb f k && (ltb k (f + ways) && ltb (t .age) a))
+      (λ e. absurd (o (leb-true f k (and-left _ _ e)) (ltb-true k (f + ways) (and-left _ _ (and-right (leb f k) _ e)))))
+      (λ e. refl))
+
+pub use-each :
+    (f ways v a : ℕ) (tags : List Tag) → f ≤ v → v < f + ways
+    → stepsFrom (change (agedAt f ways v a) noTag) f ways tags ≡ eachFrom (agedAt f ways v a) 0 tags
+use-each f ways v a tags p q = changes-each (agedAt f ways v a) noTag f ways tags (λ k x o. aged-out f ways v a k x o p q)
+
+-- ---- the victim
+
+module _ (tags : List Tag) (f ways k : ℕ) (found : k ≡ firstFrom (λ k. not (tagAt tags k .valid)) f ways) where
+  pub victim-invalid : k < f + ways → k ≡ victimIn tags f ways
+  unfolding victimIn
+  victim-invalid h = rw (← found, lt-ltb k (f + ways) h)
+
+  pub victim-oldest : (r : ℕ) → r ≡ greatestFrom (λ k. tagAt tags k .age) f f ways → f + ways ≤ k → r ≡ victimIn tags f ways
+  unfolding victimIn
+  victim-oldest r e h = rw (← found, le-ltb k (f + ways) h) e
+
+-- ---- flush
+
+abbrev pub cleaned : ℕ → Tag → Tag
+cleaned k t = withDirty false t
+
+cleans : (n i : ℕ) (b : Hierarchy) → stepsFrom (change cleaned noTag) i n (b .tags) ≡ stepsFrom writeBackSlot i n b .tags
+unfolding stepsFrom writeBackSlot
+cleans zero i b = refl
+cleans (suc n) i b = cleans n (suc i) (writeBackSlot i b)
+
+pub flushed-tags : (n : ℕ) (tags : List Tag) → stepsFrom (change cleaned noTag) 0 n tags ≡ flushedTags n tags
+unfolding flushedTags
+flushed-tags n tags = cleans n 0 _
+
+-- ---- start
+
+-- an age has 8 bits
+pub age-fits : (k ways count : ℕ) → k < count → count ≤ 256 → Fits w8 (k % ways)
+age-fits k ways count h l = omega (arith, mod-le k ways)
+
+abbrev pub startAt : ℕ → ℕ → ℕ → Tag → Tag
+startAt count ways k t = cond (ltb k count) (withAge (k % ways) t) t
+
+pub start-each :
+    (g : Figures) → stepsFrom (change (startAt (g .sets * g .ways) (g .ways)) noTag) 0 (g .sets * g .ways) (replicate 256 noTag) ≡ startTags g
+unfolding startTags
+start-each g =
+    changes-each (startAt (g .sets * g .ways) (g .ways)) noTag 0 (g .sets * g .ways) (replicate 256 noTag)
+    (λ k x o. rw (le-ltb k (g .sets * g .ways) (not-below k (g .sets * g .ways) (λ l. o (omega arith) (omega arith)))))
+  where
+    not-below : (k n : ℕ) → (k < n → ⊥) → n ≤ k
+    not-below k n h = omega arith
+
+pub start-at : (count ways k : ℕ) (t : Tag) → k < count → startAt count ways k t ≡ withAge (k % ways) t
+start-at count ways k t h = rw (lt-ltb k count h)

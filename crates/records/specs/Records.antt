@@ -1,0 +1,55 @@
+-- Tables of tag records by themselves, as the code has them: which places a call may name, and what the rules make of the records.
+use Prim.Native.Nat.{ℕ, _+_, _*_, _-_}
+use mathlib.Core.Bool.{Bool, true, false, cond, not, _&&_}
+use mathlib.Core.List.{List, []}
+use lib.Dec.{ltb, leb}
+use lib.ListN.{set}
+use Rattle.lists.specs.Counted.{firstFrom, greatestFrom, stepsFrom, eachFrom}
+use Rattle.rules.specs.declared.Figures.{Figures}
+use Rattle.rules.specs.declared.Tag.{Tag}
+use Rattle.rules.specs.Shape.{Hierarchy, noFigures, tableSize, tagAt}
+use Rattle.rules.specs.Lines.{agedAt, useLine, writeBackSlot}
+
+-- ---- places in the table
+
+-- there are sets and ways, and the table has a record for each way of each set
+unfoldable pub hasRoom : Figures → Bool
+hasRoom g = ltb 0 (g .sets) && (ltb 0 (g .ways) && leb (g .sets * g .ways) tableSize)
+
+-- so many slots from slot f on lie in the table
+unfoldable pub inTable : ℕ → ℕ → Bool
+inTable f ways = leb ways tableSize && leb f (tableSize - ways)
+
+-- slot v is one of them
+unfoldable pub inSet : ℕ → ℕ → ℕ → Bool
+inSet f ways v = inTable f ways && (leb f v && ltb v (f + ways))
+
+-- ---- use
+
+-- the hierarchy of these figures and records, with no bytes
+abbrev pub tabled : Figures → List Tag → Hierarchy
+tabled g tags = record { figures = g; size = 0; tags = tags; cache = []; memory = [] }
+
+-- the records once the line is used, if it is present
+unfoldable pub usedTags : Figures → ℕ → List Tag → List Tag
+usedTags g l tags = useLine l (tabled g tags) .tags
+
+-- ---- fill
+
+-- "the lowest invalid way of the set, else the way of greatest age", as a slot, of the set from slot f on
+unfoldable pub victimIn : List Tag → ℕ → ℕ → ℕ
+victimIn tags f ways =
+    let k = firstFrom (λ k. not (tagAt tags k .valid)) f ways in
+    cond (ltb k (f + ways)) k (greatestFrom (λ k. tagAt tags k .age) f f ways)
+
+-- the records once line l is in slot v, valid and clean, and is used
+unfoldable pub installedIn : ℕ → ℕ → ℕ → ℕ → List Tag → List Tag
+installedIn f ways v l tags =
+    let t : Tag = record { valid = true; dirty = false; line = l; age = tagAt tags v .age } in
+    eachFrom (agedAt f ways v (tagAt (set tags v t) v .age)) 0 (set tags v t)
+
+-- ---- flush
+
+-- the records once the first n slots are written back, slot by slot (a flush does not look at the figures)
+unfoldable pub flushedTags : ℕ → List Tag → List Tag
+flushedTags n tags = stepsFrom writeBackSlot 0 n (tabled noFigures tags) .tags

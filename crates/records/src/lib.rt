@@ -1,0 +1,416 @@
+// The table of tag records, by value: where a line stands, use, the victim, and the changes of a record.
+// A record is named by its slot, s × ways + w for way w of set s; a set's records stand from its first slot on.
+// A public function takes any table and any places. Where the places it is given do not lie in the table, it answers slot 0 or leaves
+// the records as they are; else its answer is a definition of the rules.
+ghost use mathlib.Core.Path.{_≡_};
+ghost use mathlib.Core.Bool.{cond, not, true, _&&_};
+ghost use Prim.Native.Nat.{_+_, _*_, _%_, _<_, _≤_};
+ghost use lib.Dec.{ltb, leb};
+ghost use lib.ListN.{length, set, replicate};
+ghost use Rattle.lists.specs.Padded.{first, filter};
+ghost use Rattle.lists.specs.Counted.{firstFrom, greatestFrom, eachFrom};
+ghost use Rattle.rules.specs.Shape.{noTag, noLoad, tagAt, withDirty};
+ghost use Rattle.rules.specs.Lines.{holdsLine, present, agedAt, isDirty};
+ghost use Rattle.rules.specs.Calls.{answeredBy, useEach, wantsLine};
+ghost use Rattle.rules.specs.Runs.{startTags};
+ghost use Rattle.records.specs.Records.{hasRoom, inTable, inSet, tabled, usedTags, victimIn, installedIn, flushedTags};
+use rules::Figures;
+use rules::LINE_BYTES;
+use rules::LOAD_PLACES;
+use rules::LoadEntry;
+use rules::NO_LOAD;
+use rules::NO_TAG;
+use rules::TAG_RECORDS;
+use rules::Tag;
+
+// ---- places in the table
+
+// There are sets and ways, and the table has a record for each way of each set.
+fn has_room(figures: Figures) -> bool
+    ensures { λ r. ⌜ r ≡ hasRoom figures ⌝ }
+{
+    if figures.sets == 0 {
+        return false;
+    }
+    if figures.ways == 0 {
+        return false;
+    }
+    (figures.sets as u64) * (figures.ways as u64) <= 256
+}
+
+// The slots of a set, ways of them from first on, lie in the table.
+fn in_table(first: usize, ways: usize) -> bool
+    ensures { λ r. ⌜ r ≡ inTable first ways ⌝ }
+{
+    if TAG_RECORDS < ways {
+        return false;
+    }
+    first <= TAG_RECORDS - ways
+}
+
+// Slot v is one of them.
+fn in_set(first: usize, ways: usize, v: usize) -> bool
+    ensures { λ r. ⌜ r ≡ inSet first ways v ⌝ }
+{
+    if !in_table(first, ways) {
+        return false;
+    }
+    if v < first {
+        return false;
+    }
+    v < first + ways
+}
+
+// ---- where a line stands
+
+// The first slot of the line's set: "Set = line number modulo sets."
+pub fn first_slot(figures: Figures, line: u32) -> usize
+    ensures { λ r. ⌜ r ≡ cond (hasRoom figures) ((line % figures .sets) * figures .ways) 0 ⌝ }
+{
+    if !has_room(figures) {
+        return 0;
+    }
+    ((line % figures.sets) * figures.ways) as usize
+}
+
+// A valid record that names the line.
+fn holds_line(t: Tag, line: u32) -> bool
+    ensures { λ r. ⌜ r ≡ holdsLine line t ⌝ }
+{
+    if t.valid {
+        (t.line as u32) == line
+    } else {
+        false
+    }
+}
+
+// The slot of the set that has the line; where none has it, the first slot after the set.
+pub fn find(tags: [Tag; TAG_RECORDS], first: usize, ways: usize, line: u32) -> usize
+    ensures { λ r. ⌜ r ≡ cond (inTable first ways) (firstFrom (λ k. holdsLine line (tagAt tags k)) first ways) 0 ⌝ }
+{
+    if !in_table(first, ways) {
+        return 0;
+    }
+    let end = first + ways;
+    let mut k = first;
+    while k < end {
+        let t = tags[k];
+        if holds_line(t, line) {
+            return k;
+        }
+        k += 1;
+    }
+    k
+}
+
+// Whether the line is present: some way of its set has it.
+pub fn is_present(tags: [Tag; TAG_RECORDS], figures: Figures, line: u32) -> bool
+    ensures { λ r. ⌜ r ≡ (hasRoom figures && present (tabled figures tags) line) ⌝ }
+{
+    if !has_room(figures) {
+        return false;
+    }
+    let first = first_slot(figures, line);
+    let n = figures.ways as usize;
+    find(tags, first, n, line) < first + n
+}
+
+// ---- use
+
+// The record of slot k, when slot v of the set is used, whose age was age.
+fn aged(t: Tag, first: usize, ways: usize, v: usize, age: u8, k: usize) -> Tag
+    requires { ⌜ (first ≤ k) × (k < first + ways) ⌝ }
+    ensures { λ r. ⌜ r ≡ agedAt first ways v age k t ⌝ }
+{
+    if k == v {
+        return Tag {
+            valid: t.valid,
+            dirty: t.dirty,
+            line: t.line,
+            age: 0,
+        };
+    }
+    if t.age < age {
+        return Tag {
+            valid: t.valid,
+            dirty: t.dirty,
+            line: t.line,
+            age: t.age + 1,
+        };
+    }
+    t
+}
+
+// "Use gives a line age 0 and adds 1 to each smaller age in its set": slot v is used.
+pub fn use_slot(tags: [Tag; TAG_RECORDS], first: usize, ways: usize, v: usize) -> [Tag; TAG_RECORDS]
+    ensures { λ r. ⌜ r ≡ cond (inSet first ways v) (eachFrom (agedAt first ways v (tagAt tags v .age)) 0 tags) tags ⌝ }
+{
+    if !in_set(first, ways, v) {
+        return tags;
+    }
+    let mut out = tags;
+    let used = tags[v];
+    let age = used.age;
+    let end = first + ways;
+    let mut k = first;
+    while k < end {
+        let t = out[k];
+        let a = aged(t, first, ways, v, age, k);
+        out[k] = a;
+        k += 1;
+    }
+    out
+}
+
+// "each using its line if the line is present": the line is used, if it is present.
+pub fn use_line(tags: [Tag; TAG_RECORDS], figures: Figures, line: u32) -> [Tag; TAG_RECORDS]
+    ensures { λ r. ⌜ r ≡ cond (hasRoom figures) (usedTags figures line tags) tags ⌝ }
+{
+    if !has_room(figures) {
+        return tags;
+    }
+    let first = first_slot(figures, line);
+    let n = figures.ways as usize;
+    let v = find(tags, first, n, line);
+    use_slot(tags, first, n, v)
+}
+
+// ---- the victim
+
+// The lowest invalid way of the set; where none is, the first slot after the set.
+fn first_invalid(tags: [Tag; TAG_RECORDS], first: usize, ways: usize) -> usize
+    requires { ⌜ first + ways ≤ 256 ⌝ }
+    ensures { λ r. ⌜ r ≡ firstFrom (λ k. not (tagAt tags k .valid)) first ways ⌝ }
+{
+    let end = first + ways;
+    let mut k = first;
+    while k < end {
+        let t = tags[k];
+        if t.valid {
+            k += 1;
+        } else {
+            return k;
+        }
+    }
+    k
+}
+
+// The way of greatest age, the lowest of several.
+fn oldest(tags: [Tag; TAG_RECORDS], first: usize, ways: usize) -> usize
+    requires { ⌜ (0 < ways) × (first + ways ≤ 256) ⌝ }
+    ensures { λ r. ⌜ r ≡ greatestFrom (λ k. tagAt tags k .age) first first ways ⌝ }
+{
+    let end = first + ways;
+    let mut best = first;
+    let mut k = first;
+    while k < end {
+        let t = tags[k];
+        let u = tags[best];
+        if u.age < t.age {
+            best = k;
+        }
+        k += 1;
+    }
+    best
+}
+
+// "the lowest invalid way of the set, else the way of greatest age"
+pub fn victim(tags: [Tag; TAG_RECORDS], first: usize, ways: usize) -> usize
+    ensures { λ r. ⌜ r ≡ cond (inTable first ways && ltb 0 ways) (victimIn tags first ways) 0 ⌝ }
+{
+    if !in_table(first, ways) {
+        return 0;
+    }
+    if ways == 0 {
+        return 0;
+    }
+    let k = first_invalid(tags, first, ways);
+    if k < first + ways {
+        return k;
+    }
+    oldest(tags, first, ways)
+}
+
+// ---- changes of records
+
+// "the record becomes valid and clean, is used": line in slot v, whose age stays until it is used.
+pub fn install(
+    tags: [Tag; TAG_RECORDS],
+    first: usize,
+    ways: usize,
+    v: usize,
+    line: u32,
+) -> [Tag; TAG_RECORDS]
+    ensures { λ r. ⌜ r ≡ cond (inSet first ways v && ltb line 65536) (installedIn first ways v line tags) tags ⌝ }
+{
+    if !in_set(first, ways, v) {
+        return tags;
+    }
+    if 65536 <= line {
+        return tags;
+    }
+    let mut out = tags;
+    let old = out[v];
+    out[v] = Tag {
+        valid: true,
+        dirty: false,
+        line: (line % 65536) as u16,
+        age: old.age,
+    };
+    use_slot(out, first, ways, v)
+}
+
+// "mark the line dirty": the record of slot v.
+pub fn mark_dirty(tags: [Tag; TAG_RECORDS], v: usize) -> [Tag; TAG_RECORDS]
+    ensures { λ r. ⌜ r ≡ set tags v (withDirty true (tagAt tags v)) ⌝ }
+{
+    if TAG_RECORDS <= v {
+        return tags;
+    }
+    let mut out = tags;
+    let t = out[v];
+    out[v] = Tag {
+        valid: t.valid,
+        dirty: true,
+        line: t.line,
+        age: t.age,
+    };
+    out
+}
+
+// ".. marks it clean": the records of the first count slots. "Ages stay."
+pub fn clean_all(tags: [Tag; TAG_RECORDS], count: usize) -> [Tag; TAG_RECORDS]
+    ensures { λ r. ⌜ r ≡ cond (leb count 256) (flushedTags count tags) tags ⌝ }
+{
+    let mut out = tags;
+    if TAG_RECORDS < count {
+        return out;
+    }
+    let mut k: usize = 0;
+    while k < count {
+        let t = out[k];
+        out[k] = Tag {
+            valid: t.valid,
+            dirty: false,
+            line: t.line,
+            age: t.age,
+        };
+        k += 1;
+    }
+    out
+}
+
+// 1 for a dirty record, else 0.
+fn dirty_one(t: Tag) -> u32
+    ensures { λ r. ⌜ (r ≡ cond (t .dirty) 1 0) × (r ≤ 1) ⌝ }
+{
+    if t.dirty { 1 } else { 0 }
+}
+
+// The number of dirty records: "the number of lines written" by a flush.
+pub fn dirty_count(tags: [Tag; TAG_RECORDS]) -> u32
+    ensures { λ r. ⌜ r ≡ length (filter isDirty tags) ⌝ }
+{
+    let mut n: u32 = 0;
+    let mut k: usize = 0;
+    while k < TAG_RECORDS {
+        let t = tags[k];
+        n += dirty_one(t);
+        k += 1;
+    }
+    n
+}
+
+// "gives way w age w, invalidates every record": slot s × ways + w has age w; the other records are zero.
+pub fn start_tags(figures: Figures) -> [Tag; TAG_RECORDS]
+    ensures { λ r. ⌜ r ≡ cond (hasRoom figures) (startTags figures) (replicate 256 noTag) ⌝ }
+{
+    let mut out = [NO_TAG; TAG_RECORDS];
+    if !has_room(figures) {
+        return out;
+    }
+    let count = (figures.sets * figures.ways) as usize;
+    let n = figures.ways as usize;
+    let mut k: usize = 0;
+    while k < count {
+        let t = out[k];
+        out[k] = Tag {
+            valid: t.valid,
+            dirty: t.dirty,
+            line: t.line,
+            age: (k % n) as u8,
+        };
+        k += 1;
+    }
+    out
+}
+
+// ---- loads of the load queue
+
+// A committed waiting load whose line is absent.
+fn wants_line(tags: [Tag; TAG_RECORDS], figures: Figures, h: u32, l: LoadEntry) -> bool
+    requires { ⌜ hasRoom figures ≡ true ⌝ }
+    ensures { λ r. ⌜ r ≡ wantsLine (tabled figures tags) h l ⌝ }
+{
+    if l.number == 0 {
+        return false;
+    }
+    if h < l.number {
+        return false;
+    }
+    if l.waiting {
+        if is_present(tags, figures, l.address / LINE_BYTES) {
+            return false;
+        }
+        return true;
+    }
+    false
+}
+
+// "some committed waiting load's line is absent: .. the lowest such number": that load, or a free place. h is the committed number.
+pub fn lowest_wanting(
+    tags: [Tag; TAG_RECORDS],
+    figures: Figures,
+    h: u32,
+    loads: [LoadEntry; LOAD_PLACES],
+) -> LoadEntry
+    ensures { λ r. ⌜ r ≡ cond (hasRoom figures) (first (wantsLine (tabled figures tags) h) noLoad loads) noLoad ⌝ }
+{
+    if !has_room(figures) {
+        return NO_LOAD;
+    }
+    let mut j: usize = 0;
+    while j < LOAD_PLACES {
+        let l = loads[j];
+        if wants_line(tags, figures, h, l) {
+            return l;
+        }
+        j += 1;
+    }
+    NO_LOAD
+}
+
+// "Answered loads numbered k or less leave the list in number order, each using its line if the line is present": the uses.
+pub fn use_answered(
+    tags: [Tag; TAG_RECORDS],
+    figures: Figures,
+    loads: [LoadEntry; LOAD_PLACES],
+    k: u32,
+) -> [Tag; TAG_RECORDS]
+    ensures { λ r. ⌜ r ≡ cond (hasRoom figures) (useEach (filter (answeredBy k) loads) (tabled figures tags) .tags) tags ⌝ }
+{
+    let mut out = tags;
+    if !has_room(figures) {
+        return out;
+    }
+    let mut j: usize = 0;
+    while j < LOAD_PLACES {
+        let load = loads[j];
+        j += 1;
+        if load_queue::is_answered_by(load, k) {
+            let used = use_line(out, figures, load.address / LINE_BYTES);
+            out = used;
+        }
+    }
+    out
+}
