@@ -118,6 +118,11 @@ abbrev pub playerAt : Player → List ℕ → List ℕ → List ℕ → ℕ → 
 playerAt p cache memory out at =
     record { player = playerOf p cache memory; lent = lentOf cache memory; out = out; at = at }
 
+-- what the lines of an input left, where these bytes are held
+abbrev pub afterLines : List ℕ → Ran → List ℕ → List ℕ → List ℕ → PlayerAt
+afterLines line r cache memory out =
+    playerAt (record { started = r .started; state = r .state; length = r .held; line = line }) cache memory out (r .at)
+
 -- ---- what the functions promise
 
 -- the end of a line
@@ -160,7 +165,7 @@ between from end input = take (end - from) (drop from input)
 pub record AllLines (input : List ℕ) (r : Ran) : Type 0 where
   pub inside : r .next ≤ length input
   pub no-feed : length input ≡ r .next + position isFeed (drop (r .next) input)
-  pub held : r .player .length ≤ heldBytes
+  pub held : r .held ≤ heldBytes
 
 -- ---- a chunk of the input
 

@@ -10,7 +10,7 @@ ghost use Rattle.script.specs.Commands.{heldBytes, commandOf};
 ghost use Rattle.script.specs.Play.{newPlayer, atEnd};
 ghost use Rattle.script_text.specs.Reader.{askedOf};
 ghost use Rattle.script_text.specs.Written.{Wrote, lineRoom, inRoom};
-ghost use Rattle.script_play.specs.Player.{largestCache, largestMemory, isFeed, runOf, runFormed, playerOf, playerAt, afterChunk, Plays, Holds, between, AllLines, PlaysChunk};
+ghost use Rattle.script_play.specs.Player.{largestCache, largestMemory, isFeed, runOf, runFormed, playerOf, playerAt, afterLines, afterChunk, Plays, Holds, between, AllLines, PlaysChunk};
 use crate::Played;
 use crate::Player;
 use crate::line;
@@ -95,14 +95,17 @@ fn line_command(
     reader::command(&bytes[..n])
 }
 
-// The player behind the lines that end in an input, the place there, and where the output ends.
+// The run behind the lines that end in an input, how much of the line before them is still held, the place there, and where the output
+// ends.
 pub struct Ran {
-    player: Player,
+    started: bool,
+    state: State,
+    held: usize,
     next: usize,
     at: usize,
 }
 
-// Plays each line that ends in the input.
+// Plays each line that ends in the input. The run is kept in locals: a line that does not change it copies nothing of it.
 fn run_lines(
     player: Player,
     formed: bool,
@@ -116,7 +119,7 @@ fn run_lines(
         × (formed ≡ true → runFormed (runOf (player .started) (player .state) (now cache) (now memory)) ≡ true) ⌝ }
     ensures { λ r. ⌜ AllLines (now (input .entry)) r × Plays (take (r .next) (now (input .entry)))
         (playerAt player (now (cache .entry)) (now (memory .entry)) (now (out .entry)) 0)
-        (playerAt (r .player) (now (cache .exit)) (now (memory .exit)) (now (out .exit)) (r .at)) ⌝ }
+        (afterLines (player .line) r (now (cache .exit)) (now (memory .exit)) (now (out .exit))) ⌝ }
 {
     let line = player.line;
     let mut started = player.started;
@@ -128,9 +131,7 @@ fn run_lines(
     while end < input.len() {
         let command = line_command(line, held, input, i, end);
         match command {
-            Command::Malformed => {
-                at = writer::write_answer(out, at, Answer::Refused(MALFORMED_LINE));
-            }
+            Command::Malformed => at = line::refuse_line(MALFORMED_LINE, out, at),
             Command::Start(figures, size) => {
                 let r = line::play_start(started, state, figures, size, cache, memory, out, at);
                 let after = r.state;
@@ -146,7 +147,7 @@ fn run_lines(
                     state = next;
                     at = writer::write_answer(out, at, answer);
                 } else {
-                    at = writer::write_answer(out, at, Answer::Refused(MALFORMED_LINE));
+                    at = line::refuse_line(MALFORMED_LINE, out, at);
                 }
             }
         }
@@ -155,12 +156,9 @@ fn run_lines(
         end = line_end(input, i);
     }
     Ran {
-        player: Player {
-            started,
-            state,
-            length: held,
-            line,
-        },
+        started,
+        state,
+        held,
         next: i,
         at,
     }
@@ -183,14 +181,13 @@ fn play_lines(
     let before = player.state;
     let formed = line::run_formed(player.started, before, cache, memory);
     let r = run_lines(player, formed, input, cache, memory, out);
-    let p = r.player;
-    let line = p.line;
-    let state = p.state;
-    let h = hold(line, p.length, input, r.next, input.len());
+    let line = player.line;
+    let state = r.state;
+    let h = hold(line, r.held, input, r.next, input.len());
     let bytes = h.line;
     Played {
         player: Player {
-            started: p.started,
+            started: r.started,
             state,
             length: h.length,
             line: bytes,

@@ -88,13 +88,21 @@ pub(crate) fn make_call(
     state.step(call, &mut cache[..c], &mut memory[..m])
 }
 
+// Writes the line that answers a refused line.
+pub(crate) fn refuse_line(k: u32, out: &mut [u8], at: usize) -> usize
+    requires { ⌜ at + lineRoom ≤ length (now out) ⌝ }
+    ensures { λ r. ⌜ Wrote at (refusedLine k) (now (out .entry)) (now (out .exit)) r ⌝ }
+{
+    writer::write_answer(out, at, Answer::Refused(k))
+}
+
 // A line that is refused, and leaves the run as it was.
 fn play_refused(started: bool, state: State, k: u32, out: &mut [u8], at: usize) -> AfterLine
     requires { ⌜ at + lineRoom ≤ length (now out) ⌝ }
     ensures { λ r. ⌜ (r ≡ record { started = started; state = state; at = r .at })
         × Wrote at (refusedLine k) (now (out .entry)) (now (out .exit)) (r .at) ⌝ }
 {
-    let to = writer::write_answer(out, at, Answer::Refused(k));
+    let to = refuse_line(k, out, at);
     AfterLine {
         started,
         state,

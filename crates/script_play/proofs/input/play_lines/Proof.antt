@@ -1,6 +1,7 @@
 -- `play_lines` meets its contract.
 use lib.ListN.{length}
 use mathlib.Core.Path.{refl, sym, _∙_}
+use Rattle.script_play.specs.declared.Player.{Player}
 use Rattle.script_play.proofs.InputPlays.{last-piece}
 use borrow.Author.Needs.{needs}
 use Rattle.script_play.proofs.input.play_lines.Statement.{statement}
@@ -29,13 +30,15 @@ same-length-3 c = search needs
 
 returns : tie.Need-returns
 returns c =
-    let args = c .before .before .before .before .before .before .before .before .before .before .before .before .before .before .before .before .before .before .before .before .before .before .before .args in
-    let run-lines = c .before .before .before .before .before .before .before .before .before .before .before .run-lines in
+    let args = c .before .before .before .before .before .before .before .before .before .before .before .before .before .before .before .before .before .before .before .before .before .before .args in
+    let run-lines = c .before .before .before .before .before .before .before .before .before .before .run-lines in
     let hold = c .before .hold in
-    let lines = run-lines .ensures .0 in (
+    let lines = run-lines .ensures .0 in
+    let r = run-lines .result in
+    let player : Player = record { started = r .started; state = r .state; length = r .held; line = args .player .line } in (
       refl,
-      last-piece (args .input .now) (run-lines .result .next) (length (args .input .now)) (lines .no-feed) (lines .inside)
-          (run-lines .result .player) _ _ _ (run-lines .result .at) (hold .result) refl (run-lines .ensures .1) (hold .ensures),
+      last-piece (args .input .now) (r .next) (length (args .input .now)) (lines .no-feed) (lines .inside)
+          player _ _ _ (r .at) (hold .result) refl (run-lines .ensures .1) (hold .ensures),
     )
 
 pub play-lines-spec : {M : Type 1} → statement M

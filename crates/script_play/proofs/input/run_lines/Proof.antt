@@ -13,7 +13,7 @@ use native.Mathlib.Omega.{arith}
 use Rattle.script_play.specs.Player.{largestCache, largestMemory, runAt, playerAt, isFeed, PlaysCommand, Plays}
 use Rattle.script_play.specs.declared.Player.{Player}
 use Rattle.script.specs.Play.{malformedLine}
-use Rattle.script_play.proofs.LinePlays.{line-met, answered, refused-wrote, stays, malformed, not-begun}
+use Rattle.script_play.proofs.LinePlays.{line-met, answered, stays, malformed, not-begun}
 use Rattle.script_play.proofs.RunKept.{plays-kept}
 use Rattle.script_play.proofs.InputPlays.{plays-none, plays-on, end-bounds, line-played}
 use borrow.Author.Needs.{needs}
@@ -49,8 +49,15 @@ line-command-requires c κs =
 enum-told : tie.Need-enum-told Inv-loop μ-loop
 enum-told c = search needs
 
-write-answer-requires : tie.Need-write-answer-requires Inv-loop μ-loop
-write-answer-requires c κs = search needs
+refuse-line-requires : tie.Need-refuse-line-requires Inv-loop μ-loop
+refuse-line-requires c κs =
+    let args = c .before .before .before .before .before .before .before .before .before .before .before .before .before .args in
+    let pre = c .before .before .before .before .before .before .before .before .before .before .before .before .before .pre in
+    let loop = c .before .before .before .before .before .loop in
+    let loop-test = c .before .before .before .before .loop-test in
+    let inv = loop .inv in
+    let bounds = end-bounds (args .input .now) (loop .i) (loop .end) (inv .3) (inv .0) in
+    omega (arith, pre .3, inv .1, inv .6, bounds .0, loop-test .taken)
 
 enum-known-command : tie.Need-enum-known-command Inv-loop μ-loop
 enum-known-command c = search needs
@@ -77,11 +84,18 @@ make-call-requires c κs =
     let inv = loop .inv in
     (omega (arith, pre .1, inv .4), omega (arith, pre .2, inv .5), λ e. rw (if1 .taken) at (plays-kept (inv .7) (pre .4 e)))
 
-write-answer-requires-2 : tie.Need-write-answer-requires-2 Inv-loop μ-loop
-write-answer-requires-2 c κs = search needs
+write-answer-requires : tie.Need-write-answer-requires Inv-loop μ-loop
+write-answer-requires c κs = search needs
 
-write-answer-requires-3 : tie.Need-write-answer-requires-3 Inv-loop μ-loop
-write-answer-requires-3 c κs = search needs
+refuse-line-requires-2 : tie.Need-refuse-line-requires-2 Inv-loop μ-loop
+refuse-line-requires-2 c κs =
+    let args = c .before .before .before .before .before .before .before .before .before .before .before .before .before .before .before .args in
+    let pre = c .before .before .before .before .before .before .before .before .before .before .before .before .before .before .before .pre in
+    let loop = c .before .before .before .before .before .before .before .loop in
+    let loop-test = c .before .before .before .before .before .before .loop-test in
+    let inv = loop .inv in
+    let bounds = end-bounds (args .input .now) (loop .i) (loop .end) (inv .3) (inv .0) in
+    omega (arith, pre .3, inv .1, inv .6, bounds .0, loop-test .taken)
 
 add-i : tie.Need-add-i Inv-loop μ-loop
 add-i c =
@@ -127,11 +141,11 @@ loop-again c =
     (λ w. (
       ap length (w .6),
       ap length (w .7),
-      ap length (w .8) ∙ w .3 .kept .0,
+      ap length (w .8) ∙ w .3 .kept .1 .0,
       line-met before refl (w .6) (w .7) (w .8) (w .9) (w .10) (w .11)
           (stays asked (loop .started) (loop .state) (loop .cache) (loop .memory) (loop .out) (loop .at) cfit mfit malformedLine
           (malformed asked (loop .started) (loop .state) (loop .cache) (loop .memory) (loop .out) (loop .at) cfit mfit (ap askedOf (w .1 .given .1)))
-          (refused-wrote malformedLine room (w .3 .ensures))),
+          (w .3 .ensures)),
     ))
     (λ v. ⊎-elim
     (λ w. (
@@ -151,11 +165,11 @@ loop-again c =
     (λ w. (
       ap length (w .8),
       ap length (w .9),
-      ap length (w .10) ∙ w .5 .kept .0,
+      ap length (w .10) ∙ w .5 .kept .1 .0,
       line-met before refl (w .8) (w .9) (w .10) (w .11) (w .12) (w .13)
           (stays asked (loop .started) (loop .state) (loop .cache) (loop .memory) (loop .out) (loop .at) cfit mfit malformedLine
           (not-begun asked (loop .started) (loop .state) (loop .cache) (loop .memory) (loop .out) (loop .at) cfit mfit _ (ap askedOf (w .1 .given .1)) (w .3 .left))
-          (refused-wrote malformedLine room (w .5 .ensures))),
+          (w .5 .ensures)),
     )) u) v) (m .came) in
     let played = line-played input (loop .i) (loop .end) (inv .3) (inv .0) old (loop .cache) (loop .memory) (loop .out) (loop .at)
     (m .started) (m .state) (m .cache) (m .memory) (m .out) (m .at) asked (loop-test .taken) (line-command .ensures) (line .3) in (
@@ -196,13 +210,13 @@ run-lines-spec =
     loop-holds
     line-command-requires
     enum-told
-    write-answer-requires
+    refuse-line-requires
     enum-known-command
     play-start-requires
     enum-known-command-2
     make-call-requires
-    write-answer-requires-2
-    write-answer-requires-3
+    write-answer-requires
+    refuse-line-requires-2
     add-i
     line-end-requires-2
     loop-less
