@@ -109,7 +109,7 @@ fn same_bytes(cache: &[u8], at: usize, memory: &[u8], from: usize) -> bool
     same
 }
 
-// Eight bytes from place at on as one number, lowest first. (The compiler makes one read of it.)
+// Eight bytes from place at on as one number, lowest first.
 fn word(bytes: &[u8], at: usize) -> u64
     requires { ⌜ at + 8 ≤ length (now bytes) ⌝ }
     ensures { λ r. ⌜ r ≡ valueAt (now (bytes .entry)) at 8 ⌝ }
