@@ -96,7 +96,7 @@ pub(crate) fn refuse_line(k: u32, out: &mut [u8], at: usize) -> usize
     writer::write_answer(out, at, Answer::Refused(k))
 }
 
-// A line that is refused, and leaves the run as it was.
+// A start that is refused, and leaves the run as it was.
 fn play_refused(started: bool, state: State, k: u32, out: &mut [u8], at: usize) -> AfterLine
     requires { ⌜ at + lineRoom ≤ length (now out) ⌝ }
     ensures { λ r. ⌜ (r ≡ record { started = started; state = state; at = r .at })
