@@ -2,12 +2,12 @@
 -- the checks; and the limit of a value by its width.
 use Prim.Native.Nat.{ℕ, _+_, _%_, _^_, _<_, _≤_}
 use mathlib.Core.Path.{_≡_, refl, sym, ap, subst}
-use mathlib.Core.Bool.{true, false}
+use mathlib.Core.Bool.{Bool, true, false, _&&_}
 use mathlib.Core.List.{List, [], _∷_}
 use native.Mathlib.Nat.{pow-le-pow-right}
 use native.Mathlib.Omega.{arith}
 use lib.Dec.{eqb, ltb}
-use borrow.Author.Tests.{eqb-true, eq-eqb, ne-eqb, lt-ltb, le-ltb}
+use borrow.Author.Tests.{eqb-true, eqb-false, eq-eqb, ne-eqb, lt-ltb, le-ltb}
 use Rattle.lists.specs.Padded.{every}
 use Rattle.lists.proofs.Cond.{cases}
 use Rattle.rules.specs.Calls.{Check, widthAllowed, guarded, passes, accessChecks}
@@ -27,6 +27,29 @@ width-cases P one two four w e =
 
 pub width-some : (w : ℕ) → widthAllowed w ≡ true → 0 < w
 width-some w e = width-cases (λ w. 0 < w) (omega arith) (omega arith) (omega arith) w e
+
+-- ---- alignment
+
+module _ (a w : ℕ) where
+  abbrev aligned : Bool
+  aligned = widthAllowed w && eqb (a % w) 0
+
+  pub aligned-to : (k : ℕ) → w ≡ k → widthAllowed k ≡ true → eqb (a % k) 0 ≡ aligned
+  aligned-to k e t = rw (e, t)
+
+  pub aligned-one : w ≡ 1 → true ≡ aligned
+  aligned-one e = rw e (sym (eq-eqb (a % 1) 0 (omega arith)))
+
+  pub aligned-never : (w ≡ 1 → ⊥) → (w ≡ 2 → ⊥) → (w ≡ 4 → ⊥) → false ≡ aligned
+  aligned-never one two four = rw (ne-eqb w 1 one, ne-eqb w 2 two, ne-eqb w 4 four)
+
+  -- what it tells of an allowed width
+  module _ (e : widthAllowed w ≡ true) where
+    pub aligned-even : aligned ≡ true → a % w ≡ 0
+    aligned-even t = eqb-true (a % w) 0 (rw e at t)
+
+    pub aligned-uneven : aligned ≡ false → a % w ≡ 0 → ⊥
+    aligned-uneven t = eqb-false (a % w) 0 (rw e at t)
 
 -- ---- the checked access, check by check
 
@@ -73,13 +96,21 @@ checks-pass (c ∷ ks) x y e = cases (c .applies)
     (λ t. let z : Failed (c .number) ≡ Passed y = rw t at e in let n : _≡_ {A = ℕ} 0 1 = cc in let no : ⊥ = omega arith in absurd no)
     (λ t. rw t (checks-pass ks x y (rw t at e)))
 
-pub access-passes : (size a w : ℕ) (x : Access) → checkedAccess size a w ≡ Passed x → true ≡ passes (accessChecks (sized size) a w)
-unfolding checkedAccess
-access-passes size a w x e = sym (checks-pass _ _ x e .0)
+-- ---- whether the checks pass
 
-pub access-fails : (size a w k : ℕ) → checkedAccess size a w ≡ Failed k → false ≡ passes (accessChecks (sized size) a w)
-unfolding checkedAccess
-access-fails size a w k e = sym (checks-fail _ _ k e)
+module _ (size a w : ℕ) where
+  -- an access that ends in memory: by its width and its alignment
+  pub passes-inside : a + w ≤ size → aligned a w ≡ passes (accessChecks (sized size) a w)
+  unfolding every
+  passes-inside i =
+      rw (le-ltb size (a + w) i)
+      (cases (widthAllowed w) (λ t. cases (eqb (a % w) 0) (λ u. rw (t, u)) (λ u. rw (t, u))) (λ t. rw t))
+
+  pub passes-outside : size < a + w → false ≡ passes (accessChecks (sized size) a w)
+  unfolding every
+  passes-outside o =
+      rw (lt-ltb size (a + w) o)
+      (cases (widthAllowed w) (λ t. cases (eqb (a % w) 0) (λ u. rw (t, u)) (λ u. rw (t, u))) (λ t. rw t))
 
 -- ---- the number of a failed check
 

@@ -1,7 +1,8 @@
 // The access checks, 01's 2 to 5: a checked access, and whether a stored value fits its width.
 ghost use mathlib.Core.Path.{_≡_};
-ghost use Prim.Native.Nat.{_^_};
-ghost use lib.Dec.{ltb};
+ghost use mathlib.Core.Bool.{_&&_};
+ghost use Prim.Native.Nat.{_%_, _^_};
+ghost use lib.Dec.{ltb, eqb};
 ghost use Rattle.rules.specs.Calls.{widthAllowed, passes, accessChecks};
 ghost use Rattle.access.specs.AccessChecks.{sized, checkedAccess, failureOf};
 
@@ -30,12 +31,24 @@ pub fn width_allowed(width: u32) -> bool
     width == 4
 }
 
+// The width is allowed, and the address is a multiple of it. (A division by a number that is written out is a mask.)
+fn is_aligned(address: u32, width: u32) -> bool
+    ensures { λ r. ⌜ r ≡ (widthAllowed width && eqb (address % width) 0) ⌝ }
+{
+    match width {
+        1 => true,
+        2 => address % 2 == 0,
+        4 => address % 4 == 0,
+        _ => false,
+    }
+}
+
 // Checks 2, 3 and 4, in this order, of an access to a memory of so many bytes.
 pub fn check_access(address: u32, width: u32, size: u32) -> Checked
     ensures { λ r. ⌜ r ≡ checkedAccess size address width ⌝ }
 {
     if width_allowed(width) {
-        if address % width != 0 {
+        if !is_aligned(address, width) {
             return Checked::Failed(rules::MISALIGNED);
         }
         if size < width {
@@ -54,11 +67,12 @@ pub fn check_access(address: u32, width: u32, size: u32) -> Checked
 pub fn access_passes(address: u32, width: u32, size: u32) -> bool
     ensures { λ r. ⌜ r ≡ passes (accessChecks (sized size) address width) ⌝ }
 {
-    let checked = check_access(address, width, size);
-    match checked {
-        Checked::Passed(_) => true,
-        Checked::Failed(_) => false,
+    if width <= size {
+        if address <= size - width {
+            return is_aligned(address, width);
+        }
     }
+    false
 }
 
 // The number of a failed check, 0 where they passed.

@@ -6,6 +6,7 @@ ghost use mathlib.Core.Bool.{true, _||_};
 ghost use mathlib.Core.List.{[]};
 ghost use Prim.Native.Nat.{_+_, _*_, _%_, _<_, _≤_};
 ghost use lib.ListN.{length, drop};
+ghost use Rattle.lists.specs.Bytes.{valueAt};
 ghost use Rattle.lists.specs.Padded.{every};
 ghost use Rattle.rules.specs.Shape.{setsAllowed, figuresAllowed, fits};
 ghost use Rattle.rules.specs.WellFormed.{zeroTag, linesFormed};
@@ -108,20 +109,30 @@ fn same_bytes(cache: &[u8], at: usize, memory: &[u8], from: usize) -> bool
     same
 }
 
+// Eight bytes from place at on as one number, lowest first.
+fn word(bytes: &[u8], at: usize) -> u64
+    requires { ⌜ at + 8 ≤ length (now bytes) ⌝ }
+    ensures { λ r. ⌜ r ≡ valueAt (now (bytes .entry)) at 8 ⌝ }
+{
+    (bytes[at] as u64)
+        + (bytes[at + 1] as u64) * 256
+        + (bytes[at + 2] as u64) * 65536
+        + (bytes[at + 3] as u64) * 16777216
+        + (bytes[at + 4] as u64) * 4294967296
+        + (bytes[at + 5] as u64) * 1099511627776
+        + (bytes[at + 6] as u64) * 281474976710656
+        + (bytes[at + 7] as u64) * 72057594037927936
+}
+
 // The 16 bytes of the cache from place at on are zero.
 fn is_zero_line(cache: &[u8], at: usize) -> bool
     requires { ⌜ at + 16 ≤ length (now cache) ⌝ }
     ensures { λ r. ⌜ r ≡ zeroBytes (now (cache .entry)) at ⌝ }
 {
-    let mut zero = true;
-    let mut i: usize = 0;
-    while i < LINE_LENGTH {
-        if cache[at + i] != 0 {
-            zero = false;
-        }
-        i += 1;
+    if word(cache, at) == 0 {
+        return word(cache, at + 8) == 0;
     }
-    zero
+    false
 }
 
 // A valid record t, in slot k of set s: "a valid line lies in memory, is in its own set", "clean lines equal memory".

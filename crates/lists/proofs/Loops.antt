@@ -347,39 +347,30 @@ module _ {A : Type 0} (p : A → Bool) (free : A) where
   unfolding filter
   pack-none n l = let z : n - 0 ≡ n = omega arith in record { count = refl; made = rw z }
 
-  -- there is a place for the next
-  pub pack-room : {n : ℕ} {l : List A} {i c : ℕ} {out : List A} → Packing n l i c out → c ≤ i
-  pack-room {n} {l} {i} g = omega (arith, g .count, kept-most (take i l), length-take i l)
-
-  pub pack-step :
-      (d : A) {n : ℕ} {l : List A} {i c : ℕ} {out : List A} → length l ≡ n → i < n → Packing n l i c out
-      → (r : List A) (m : ℕ) → r ≡ cond (p (getD l i d)) out (set out c (getD l i d)) → m ≡ cond (p (getD l i d)) c (c + 1)
-      → Packing n l (i + 1) m r
-  pack-step d {n} {l} {i} {c} {out} len h g r m e f = cases (p y)
-      (λ t.
+  -- the next entry passes the test, and stays out
+  pub pack-out :
+      (d : A) {n : ℕ} {l : List A} {i c : ℕ} {out : List A} → length l ≡ n → i < n → Packing n l i c out → p (getD l i d) ≡ true
+      → (r : List A) (m : ℕ) → r ≡ out → m ≡ c → Packing n l (i + 1) m r
+  pack-out d {n} {l} {i} {c} {out} len h g t r m e f =
+      let h′ : i < length l = omega arith in
       let k : kept (i + 1) l ≡ kept i l = rw (add-one i, kept-next d i l h′, t) in
-      let e′ : r ≡ out = rw t at e in
-      let f′ : m ≡ c = rw t at f in
-      record { count = rw (k, f′) (g .count); made = rw (k, f′, e′) (g .made) })
-      (λ t.
+      record { count = rw (k, f) (g .count); made = rw (k, f, e) (g .made) }
+
+  -- the next entry fails it, and goes to the next place
+  pub pack-in :
+      (d : A) {n : ℕ} {l : List A} {i c : ℕ} {out : List A} → length l ≡ n → i < n → Packing n l i c out → p (getD l i d) ≡ false
+      → (r : List A) (m : ℕ) → r ≡ set out c (getD l i d) → m ≡ c + 1 → Packing n l (i + 1) m r
+  pack-in d {n} {l} {i} {c} {out} len h g t r m e f =
+      let y : A = getD l i d in
+      let h′ : i < length l = omega arith in
       let k : kept (i + 1) l ≡ kept i l ++ y ∷ [] = rw (add-one i, kept-next d i l h′, t) in
-      let e′ : r ≡ set out c y = rw t at e in
-      let f′ : m ≡ c + 1 = rw t at f in
+      let room : n - length (kept i l) ≡ suc (n - (length (kept i l) + 1)) = omega (arith, kept-most (take i l), length-take i l) in
       record {
-        count = rw (k, f′, length-append (kept i l) (y ∷ [])) (ap (λ (j : ℕ). j + 1) (g .count));
+        count = rw (k, f, length-append (kept i l) (y ∷ [])) (ap (λ (j : ℕ). j + 1) (g .count));
         made =
-            rw (k, f′, e′, g .made, g .count, room, set-append-seam (kept i l) free (replicate (n - (length (kept i l) + 1)) free) y)
+            rw (k, f, e, g .made, g .count, room, set-append-seam (kept i l) free (replicate (n - (length (kept i l) + 1)) free) y)
             (sym (append-assoc (kept i l) (y ∷ []) (replicate (n - (length (kept i l) + 1)) free)));
-      })
-    where
-      y : A
-      y = getD l i d
-
-      h′ : i < length l
-      h′ = omega arith
-
-      room : n - length (kept i l) ≡ suc (n - (length (kept i l) + 1))
-      room = omega (arith, kept-most (take i l), length-take i l)
+      }
 
   pub pack-all : {n : ℕ} {l : List A} {i c : ℕ} {out : List A} → length l ≡ n → n ≤ i → Packing n l i c out → out ≡ without p free l
   pack-all {n} {l} {i} {c} {out} len h g =

@@ -2,10 +2,8 @@
 // A public function takes any queue, well formed or not, and its answer is a definition of the rules.
 ghost use mathlib.Core.Path.{_≡_};
 ghost use mathlib.Core.Bool.{cond};
-ghost use Prim.Native.Nat.{_+_, _<_};
-ghost use lib.ListN.{set};
 ghost use Rattle.lists.specs.Padded.{any, first, position, without, placed, changed};
-ghost use Rattle.rules.specs.Shape.{loadPlaces, noLoad, isFreeLoad};
+ghost use Rattle.rules.specs.Shape.{noLoad, isFreeLoad};
 ghost use Rattle.rules.specs.Calls.{waitingAt, answered, answeredBy, youngLoad, waitsBelow};
 use rules::LOAD_PLACES;
 use rules::LoadEntry;
@@ -117,51 +115,22 @@ pub fn waiting_load(loads: [LoadEntry; LOAD_PLACES], i: u32) -> LoadEntry
     NO_LOAD
 }
 
-// Loads that were kept so far, and how many.
-struct Packed {
-    out: [LoadEntry; LOAD_PLACES],
-    count: usize,
-}
-
-// The load goes to the next place.
-fn packed_with(p: Packed, l: LoadEntry) -> Packed
-    requires { ⌜ p .count < loadPlaces ⌝ }
-    ensures { λ r. ⌜ (r .out ≡ set (p .out) (p .count) l) × (r .count ≡ p .count + 1) ⌝ }
-{
-    let mut next = p;
-    let at = p.count;
-    next.out[at] = l;
-    next.count = at + 1;
-    next
-}
-
-// The load is kept, unless it is the waiting load of number i.
-fn keep_unless_waiting(p: Packed, l: LoadEntry, i: u32) -> Packed
-    requires { ⌜ p .count < loadPlaces ⌝ }
-    ensures { λ r. ⌜ (r .out ≡ cond (waitingAt i l) (p .out) (set (p .out) (p .count) l))
-        × (r .count ≡ cond (waitingAt i l) (p .count) (p .count + 1)) ⌝ }
-{
-    if is_waiting_at(l, i) {
-        return p;
-    }
-    packed_with(p, l)
-}
-
 // The committed load that an inquiry about number i answered leaves the list.
 pub fn remove_waiting(loads: [LoadEntry; LOAD_PLACES], i: u32) -> [LoadEntry; LOAD_PLACES]
     ensures { λ r. ⌜ r ≡ without (waitingAt i) noLoad loads ⌝ }
 {
-    let mut kept = Packed {
-        out: [NO_LOAD; LOAD_PLACES],
-        count: 0,
-    };
+    let mut next = [NO_LOAD; LOAD_PLACES];
+    let mut to: usize = 0;
     let mut k: usize = 0;
     while k < LOAD_PLACES {
         let l = loads[k];
-        kept = keep_unless_waiting(kept, l, i);
+        if !is_waiting_at(l, i) {
+            next[to] = l;
+            to += 1;
+        }
         k += 1;
     }
-    kept.out
+    next
 }
 
 // The waiting load of number i, marked answered.
@@ -207,33 +176,22 @@ pub fn is_answered_by(l: LoadEntry, k: u32) -> bool
     !l.waiting
 }
 
-// The load is kept, unless it is answered and numbered k or less.
-fn keep_unless_answered(p: Packed, l: LoadEntry, k: u32) -> Packed
-    requires { ⌜ p .count < loadPlaces ⌝ }
-    ensures { λ r. ⌜ (r .out ≡ cond (answeredBy k l) (p .out) (set (p .out) (p .count) l))
-        × (r .count ≡ cond (answeredBy k l) (p .count) (p .count + 1)) ⌝ }
-{
-    if is_answered_by(l, k) {
-        return p;
-    }
-    packed_with(p, l)
-}
-
 // Commit k: the answered loads numbered k or less leave the list.
 pub fn remove_answered(loads: [LoadEntry; LOAD_PLACES], k: u32) -> [LoadEntry; LOAD_PLACES]
     ensures { λ r. ⌜ r ≡ without (answeredBy k) noLoad loads ⌝ }
 {
-    let mut left = Packed {
-        out: [NO_LOAD; LOAD_PLACES],
-        count: 0,
-    };
+    let mut next = [NO_LOAD; LOAD_PLACES];
+    let mut to: usize = 0;
     let mut at: usize = 0;
     while at < LOAD_PLACES {
         let l = loads[at];
-        left = keep_unless_answered(left, l, k);
+        if !is_answered_by(l, k) {
+            next[to] = l;
+            to += 1;
+        }
         at += 1;
     }
-    left.out
+    next
 }
 
 // A waiting load numbered below i.

@@ -18,7 +18,7 @@ use Rattle.rules.specs.Forward.{loadValue}
 use Rattle.rules.specs.Calls.{Call, Outcome, load, store, retry, commit, abort, idle, reply, flush, show, rule, loadAnswer, loadRule, storeRule, answerLoad, retryWith, retryRule, commitRule, abortRule, canDrain, canRequestLoad, canRequestStore, idleRule, replyRule, flushRule, showRule, waitingAt, nextNumber}
 use Rattle.rules.specs.Calls as rules
 use Rattle.rules.specs.Runs.{refusal, outcome}
-use Rattle.rules.proofs.Checks.{outcome-by}
+use Rattle.rules.proofs.Checks.{refusal-by, outcome-by}
 use Rattle.rules.proofs.LineFacts.{fits-tells}
 use Rattle.model.specs.State.{bytesFrom, answerOf, outcomeOf}
 use Rattle.model.specs.declared.Answer.{Answer}
@@ -85,15 +85,7 @@ module _ (q : Queues) (b : Hierarchy) where
   rule-small (show a) f = show-small a f
 
   refusal-small : (c : Call) (k : ℕ) → PartSmall (refusal c k)
-  refusal-small (load a w) k = no-part
-  refusal-small (store a w v) k = no-part
-  refusal-small (retry i) k = no-part
-  refusal-small (commit n) k = no-part
-  refusal-small (abort n) k = no-part
-  refusal-small idle k = no-part
-  refusal-small reply k = no-part
-  refusal-small flush k = no-part
-  refusal-small (show a) k = no-part
+  refusal-small = refusal-by (λ c r. PartSmall r) (λ c k. no-part) (λ a. no-part)
 
   pub outcome-small : (c : Call) → PartSmall (outcome c q b .answer)
   outcome-small c = outcome-by c q b Small (refusal-small c) (λ f g p. rule-small c f)

@@ -17,7 +17,7 @@ use Rattle.lists.proofs.Loops.{every-same, rise-free}
 use Rattle.rules.specs.declared.StoreEntry.{StoreEntry}
 use Rattle.rules.specs.declared.LoadEntry.{LoadEntry}
 use Rattle.rules.specs.Shape.{Queues, Hierarchy, noStore, noLoad}
-use Rattle.rules.specs.Forward.{someUncovered}
+use Rattle.rules.specs.Forward.{olderCovers, someUncovered}
 use Rattle.rules.specs.Calls.{widthAllowed, passes, accessChecks, valueCheck}
 use Rattle.rules.specs.WellFormed.{freeZero, freePlacesLast, committedUpToLast, numbersRise, numbersUpToLast, numbersApart, accessesPass, committedWait, waitingUncovered, freeStoreZero, freeLoadZero, storePasses, loadPasses, committedWaitAt, waitingUncoveredAt, alone}
 use Rattle.rules.proofs.QueueView.{goodStore, goodLoad, stores-join, loads-join, store-zero, store-given, store-passes, load-zero, load-given, load-passes, load-waits, load-exposed}
@@ -152,6 +152,11 @@ unfolding loadsGood
 loads-free last h size m ss ls i p e =
     rise-free (λ l. l .number) noLoad ls i (loadGood last h size ss) m p e
     ∙ every-same _ zeroLoad (zero-load last h size ss) (drop i ls)
+
+-- no free place covers a byte
+pub covered-none : (i a : ℕ) (r : List StoreEntry) → every (λ s. eqb (s .number) 0) r ≡ true → any (olderCovers i a) r ≡ false
+unfolding olderCovers
+covered-none i a r e = none-every (λ s. eqb (s .number) 0) (olderCovers i a) (λ s t. rw t) r e
 
 -- no free place has the number n
 pub listed-none : (n : ℕ) → 0 < n → (r : List LoadEntry) → every (λ l. eqb (l .number) 0) r ≡ true → any (λ l. eqb (l .number) n) r ≡ false

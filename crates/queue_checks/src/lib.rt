@@ -164,13 +164,17 @@ fn stores_good(stores: [StoreEntry; STORE_PLACES], last: u32, size: u32) -> bool
     true
 }
 
-// Whether a held store with a smaller number than i covers the byte at a.
+// Whether a held store with a smaller number than i covers the byte at a; behind a free place there is none.
 fn is_covered(stores: [StoreEntry; STORE_PLACES], i: u32, a: u32) -> bool
+    requires { ⌜ freeLast (λ s. s .number) stores ≡ true ⌝ }
     ensures { λ r. ⌜ r ≡ any (olderCovers i a) stores ⌝ }
 {
     let mut k: usize = 0;
     while k < STORE_PLACES {
         let s = stores[k];
+        if s.number == 0 {
+            return false;
+        }
         if store_queue::is_older_cover(s, i, a) {
             return true;
         }
@@ -183,6 +187,7 @@ fn is_covered(stores: [StoreEntry; STORE_PLACES], i: u32, a: u32) -> bool
 // smaller number than i.
 fn has_uncovered(stores: [StoreEntry; STORE_PLACES], i: u32, a: u32, width: u32) -> bool
     requires { ⌜ a + width ≤ topNumber ⌝ }
+    requires { ⌜ freeLast (λ s. s .number) stores ≡ true ⌝ }
     ensures { λ r. ⌜ r ≡ someUncovered i stores a width ⌝ }
 {
     let end = a + width;
@@ -206,6 +211,7 @@ fn is_good_load(
     size: u32,
     stores: [StoreEntry; STORE_PLACES],
 ) -> bool
+    requires { ⌜ freeLast (λ s. s .number) stores ≡ true ⌝ }
     ensures { λ r. ⌜ r ≡ (ltb m (l .number) && loadGood last committed size stores l) ⌝ }
 {
     if l.number <= m {
@@ -262,6 +268,7 @@ fn loads_good(
     size: u32,
     stores: [StoreEntry; STORE_PLACES],
 ) -> bool
+    requires { ⌜ freeLast (λ s. s .number) stores ≡ true ⌝ }
     ensures { λ r. ⌜ r ≡ loadsGood last committed size stores 0 loads ⌝ }
 {
     let mut m: u32 = 0;

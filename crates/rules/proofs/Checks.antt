@@ -13,7 +13,7 @@ use Rattle.rules.specs.declared.LoadEntry.{LoadEntry}
 use Rattle.rules.specs.Shape.{Queues, Hierarchy, World, fits, noLoad, lineOf}
 use Rattle.rules.specs.Lines.{present}
 use Rattle.rules.specs.Forward.{loadValue}
-use Rattle.rules.specs.Calls.{Call, Answer, Outcome, Check, load, store, retry, commit, abort, idle, reply, flush, show, refused, isAccepted, unchanged, guarded, passes, earlyChecks, callChecks, rule, loadAnswer, loadRule, storeRule, answerLoad, retryWith, retryRule, commitRule, abortRule, canDrain, canRequestLoad, canRequestStore, idleRule, replyRule, flushRule, showRule, waitingAt, nextNumber}
+use Rattle.rules.specs.Calls.{Call, Answer, Outcome, Check, load, store, retry, commit, abort, idle, reply, flush, show, refused, isAccepted, unchanged, emptyPart, guarded, passes, earlyChecks, callChecks, rule, loadAnswer, loadRule, storeRule, answerLoad, retryWith, retryRule, commitRule, abortRule, canDrain, canRequestLoad, canRequestStore, idleRule, replyRule, flushRule, showRule, waitingAt, nextNumber}
 use Rattle.rules.specs.WellFormed.{wellFormed}
 use Rattle.rules.specs.Runs.{formedCheck, namesRefusal, refusal, outcome, answer, next}
 use Rattle.rules.specs.Refusals.{allChecks, FirstFailing, RefusedExactly, RefusedKeeps}
@@ -125,6 +125,19 @@ module _ (c : Call) (q : Queues) (b : Hierarchy) where
       (λ f. subst P (sym (opened-by e f)) (guarded-by refuse P ownChecks (rule c q b) r (λ p. h e f (own-passes p))))
       (λ f. subst P (sym (malformed-by e f)) (guarded-by refuse P (earlyChecks c b) (refuse 10) r (λ p. r 10))))
       (λ e. subst P (sym (shut e)) (r 1))
+
+-- a fact of every refusal: of its number, and of show line, which names none
+pub refusal-by :
+    (P : Call → Answer → Type 0) → ((c : Call) (k : ℕ) → P c (refused k)) → ((a : ℕ) → P (show a) emptyPart) → (c : Call) (k : ℕ) → P c (refusal c k)
+refusal-by P r h (load a w) k = r (load a w) k
+refusal-by P r h (store a w v) k = r (store a w v) k
+refusal-by P r h (retry i) k = r (retry i) k
+refusal-by P r h (commit n) k = r (commit n) k
+refusal-by P r h (abort n) k = r (abort n) k
+refusal-by P r h idle k = r idle k
+refusal-by P r h reply k = r reply k
+refusal-by P r h flush k = r flush k
+refusal-by P r h (show a) k = h a
 
 -- ---- a rule refuses nothing
 

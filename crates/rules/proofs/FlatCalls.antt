@@ -25,7 +25,7 @@ use Rattle.rules.specs.WellFormed.{alone, wellFormed}
 use Rattle.rules.specs.Runs.{refusal, outcome, answer, next}
 use Rattle.rules.specs.Flat.{flatOf, appliedAll, heldStore, below, upTo}
 use Rattle.rules.specs.Values.{FlatCall}
-use Rattle.rules.proofs.Checks.{outcome-by}
+use Rattle.rules.proofs.Checks.{refusal-by, outcome-by}
 use Rattle.rules.proofs.QueueView.{Parts, parts, goodLoad, goodRequest, free-load}
 use Rattle.rules.proofs.Entries.{Ready, store-checked, reply-checked, fine, store-access, ready-tells, alone-tells}
 use Rattle.rules.proofs.QueuesKept.{oldest-good}
@@ -188,15 +188,7 @@ top-moved c q b o m =
 
 -- a refusal that answers as if it were accepted (show line's) leaves the stores
 pub refused-stores : (c : Call) (k i : ℕ) (ss : List StoreEntry) → isAccepted (refusal c k) ≡ true → storesAfter c i ss ≡ ss
-refused-stores (load a w) k i ss e = absurd (false≢true e)
-refused-stores (store a w v) k i ss e = absurd (false≢true e)
-refused-stores (retry j) k i ss e = absurd (false≢true e)
-refused-stores (commit j) k i ss e = absurd (false≢true e)
-refused-stores (abort n) k i ss e = absurd (false≢true e)
-refused-stores idle k i ss e = absurd (false≢true e)
-refused-stores reply k i ss e = absurd (false≢true e)
-refused-stores flush k i ss e = absurd (false≢true e)
-refused-stores (show a) k i ss e = refl
+refused-stores c k i ss = refusal-by (λ c r. isAccepted r ≡ true → storesAfter c i ss ≡ ss) (λ c k e. absurd (false≢true e)) (λ a e. refl) c k
 
 module _ (q : Queues) (b : Hierarchy) where
   abbrev Accepted : Outcome → Type 0

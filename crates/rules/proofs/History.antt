@@ -25,7 +25,7 @@ use Rattle.rules.specs.Numbers.{numberAfter}
 use Rattle.rules.specs.Flat.{History, noHistory, numberIn, below, upTo, added, noted, history, historyOf, loadOf, flatOf, appliedAll, heldStore}
 use Rattle.rules.specs.Kept.{Formed}
 use Rattle.rules.specs.Values.{historyAt}
-use Rattle.rules.proofs.Checks.{outcome-by, rule-accepts}
+use Rattle.rules.proofs.Checks.{refusal-by, outcome-by, rule-accepts}
 use Rattle.rules.proofs.Numbers.{rule-number}
 use Rattle.rules.proofs.QueueView.{Parts, parts, goodLoad, store-given, load-low}
 use Rattle.rules.proofs.Entries.{commit-checked, abort-checked}
@@ -290,15 +290,7 @@ module _ (found : List ℕ) (h : History) (q : Queues) (b : Hierarchy) (k : Trac
 
 refusal-noted : (c : Call) (n : ℕ) (h : History) → noted c (refusal c n) h ≡ h
 unfolding noted added
-refusal-noted (load a w) n h = refl
-refusal-noted (store a w v) n h = refl
-refusal-noted (retry i) n h = refl
-refusal-noted (commit k) n h = refl
-refusal-noted (abort m) n h = refl
-refusal-noted idle n h = refl
-refusal-noted reply n h = refl
-refusal-noted flush n h = refl
-refusal-noted (show a) n h = refl
+refusal-noted c n h = refusal-by (λ c r. noted c r h ≡ h) (λ c k. refl) (λ a. refl) c n
 
 -- an answer that is accepted is noted
 accepted-noted : (c : Call) (r : Answer) (h : History) → isAccepted r ≡ true → noted c r h ≡ added c r h

@@ -16,7 +16,7 @@ use Rattle.rules.specs.Forward.{loadValue}
 use Rattle.rules.specs.Calls.{Call, Outcome, load, store, retry, commit, abort, idle, reply, flush, show, isAccepted, passes, callChecks, rule, nextNumber, waitingAt, loadRule, storeRule, answerLoad, retryWith, retryRule, commitRule, squash, abortRule, canDrain, canRequestLoad, canRequestStore, idleRule, replyRule, flushRule, showRule}
 use Rattle.rules.specs.Runs.{started, unstarted, startAllowed, startWorld, refusal, answer, next}
 use Rattle.rules.specs.Numbers.{numberAfter, FirstNumber, NextNumber}
-use Rattle.rules.proofs.Checks.{outcome-by}
+use Rattle.rules.proofs.Checks.{refusal-by, outcome-by}
 
 pub first-number : (f : Figures) (cache memory : List ℕ) → FirstNumber f cache memory
 unfolding startWorld started unstarted
@@ -54,15 +54,7 @@ module _ (q : Queues) (b : Hierarchy) where
 
 -- the empty part is no refusal, and changes no number
 refusal-number : (c : Call) (k : ℕ) (q : Queues) → isAccepted (refusal c k) ≡ true → nextNumber q ≡ numberAfter c (nextNumber q)
-refusal-number (load a w) k q e = absurd (false≢true e)
-refusal-number (store a w v) k q e = absurd (false≢true e)
-refusal-number (retry i) k q e = absurd (false≢true e)
-refusal-number (commit n) k q e = absurd (false≢true e)
-refusal-number (abort n) k q e = absurd (false≢true e)
-refusal-number idle k q e = absurd (false≢true e)
-refusal-number reply k q e = absurd (false≢true e)
-refusal-number flush k q e = absurd (false≢true e)
-refusal-number (show a) k q e = refl
+refusal-number c k q = refusal-by (λ c r. isAccepted r ≡ true → nextNumber q ≡ numberAfter c (nextNumber q)) (λ c k e. absurd (false≢true e)) (λ a e. refl) c k
 
 pub next-number : (c : Call) (w : World) → NextNumber c w
 unfolding answer next

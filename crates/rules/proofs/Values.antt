@@ -23,7 +23,7 @@ use Rattle.rules.specs.WellFormed.{wellFormed}
 use Rattle.rules.specs.Runs.{refusal, answer, after, startWorld}
 use Rattle.rules.specs.Flat.{History, noHistory, below, added, noted, historyOf, loadOf, flatOf, appliedAll, heldStore, flatBefore}
 use Rattle.rules.specs.Values.{historyAt, Claim, AfterStart, FromState, RightValue, ValuesRight, InquiryAbout, InquiriesRight, FlatAfter}
-use Rattle.rules.proofs.Checks.{outcome-by}
+use Rattle.rules.proofs.Checks.{refusal-by, outcome-by}
 use Rattle.rules.proofs.QueueView.{parts}
 use Rattle.rules.proofs.Entries.{Waits, tried, tried-waits}
 use Rattle.rules.proofs.Kept.{start-leaves}
@@ -71,15 +71,7 @@ reads (flushed k) = false
 reads (shown p bs) = false
 
 refusal-reads : (c : Call) (k : ℕ) → reads (refusal c k) ≡ false
-refusal-reads (load a w) k = refl
-refusal-reads (store a w v) k = refl
-refusal-reads (retry i) k = refl
-refusal-reads (commit n) k = refl
-refusal-reads (abort n) k = refl
-refusal-reads idle k = refl
-refusal-reads reply k = refl
-refusal-reads flush k = refl
-refusal-reads (show a) k = refl
+refusal-reads = refusal-by (λ c r. reads r ≡ false) (λ c k. refl) (λ a. refl)
 
 -- a value, where the answer is "waits" or a value
 value-is : (m : List ℕ) (j : ℕ) (ss : List StoreEntry) (b : Hierarchy) (a n i v : ℕ) → answerFrom m j ss b a n ≡ value i v → (j ≡ i) × (v ≡ valueAt m a n)

@@ -4,8 +4,6 @@ use mathlib.Core.Path.{_≡_, refl, sym, _∙_, ap, ap₂, subst}
 use mathlib.Core.Bool.{Bool, true, false, cond, _&&_}
 use mathlib.Core.List.{List, [], _∷_, _++_, append-nil, append-assoc}
 use mathlib.Core.Option.{Option, some, none}
-use mathlib.Core.Logic.{⊎-elim}
-use native.Mathlib.Nat.{eq-or-lt-of-le}
 use native.Mathlib.Numerals.{add-one}
 use native.Mathlib.Omega.{arith}
 use lib.Dec.{eqb, ltb, leb}
@@ -18,6 +16,7 @@ use Rattle.lists.proofs.Loops.{position-high}
 use Rattle.rules.specs.Shape.{World}
 use Rattle.rules.specs.Calls.{Answer, stored, value, waits, committed, kept, drained, requested, idled, filled, flushed, shown, refused}
 use Rattle.rules.specs.Runs.{StartAnswer, ready, startRefused, startAnswer, startWorld, answer}
+use Rattle.model.specs.declared.State.{State}
 use Rattle.script.specs.Commands.{Command, start, make, lineFeed, space, heldBytes, commandOf}
 use Rattle.script.specs.Words.{printed, said, valueWord, readyWord, refusedWord, idleWord, answerLine, refusedLine}
 use Rattle.script.specs.Play.{malformedLine, zeros, zeroCache, startEffect, effect, byteOutput, afterByte, output, afterBytes, newPlayer, atEnd, played}
@@ -25,9 +24,8 @@ use Rattle.script.specs.Play as script
 use Rattle.script.proofs.Play.{cuts, held-short}
 use Rattle.script_text.specs.Written.{Wrote, longestWord, lineRoom, inRoom}
 use Rattle.script_text.proofs.Writing.{wrote-then, wrote-none, printed-short}
-use Rattle.script_play.specs.Player.{largestCache, largestMemory, playerOf, shortened, Lent, laidIn, lentAfter, RunAt, runAt, afterLine, PlayerAt, playerAt, isFeed, PlaysCommand, Plays, Holds, between, Steps, roomy, playable, PlaysChunk, withOutput, Joined, ChunksPlayed}
+use Rattle.script_play.specs.Player.{largestCache, largestMemory, playerOf, shortened, Lent, laidIn, lentAfter, RunAt, runAt, PlayerAt, playerAt, isFeed, PlaysCommand, Plays, Holds, between, roomy, playable, PlaysChunk, withOutput, Joined, ChunksPlayed}
 use Rattle.script_play.specs.declared.Player.{Player}
-use Rattle.script_play.specs.declared.line.AfterLine.{AfterLine}
 use Rattle.script_play.specs.declared.input.Held.{Held}
 
 -- ---- the lent bytes, wherever an input is cut
@@ -299,71 +297,62 @@ feed-at (b ∷ bs) h = cases (eqb b lineFeed)
     (λ e. let more : position isFeed (b ∷ bs) ≡ suc (position isFeed bs) = rw e in
     rw more (feed-at bs (let g : suc (position isFeed bs) < suc (length bs) = rw more at h in omega arith)))
 
-pub end-bounds : (input : List ℕ) (from end : ℕ) → end ≡ from + position isFeed (drop from input) → from < length input
-    → (from ≤ end) × (end ≤ length input)
-end-bounds input from end e h = (omega arith, omega (arith, position-high isFeed (drop from input), length-drop from input))
+module _ (input : List ℕ) (from end : ℕ) (ee : end ≡ from + position isFeed (drop from input)) (inside : from ≤ length input) where
+  pub end-bounds : (from ≤ end) × (end ≤ length input)
+  end-bounds = (omega arith, omega (arith, position-high isFeed (drop from input), length-drop from input))
 
-pub end-before : (input : List ℕ) (from end : ℕ) → end ≡ from + position isFeed (drop from input) → from < length input
-    → (end ≡ length input → ⊥) → end < length input
-end-before input from end e h d = ⊎-elim (λ q. absurd (d q)) (λ l. l) (eq-or-lt-of-le (end-bounds input from end e h .1))
-
-module _
-    (player : Player) (input cache memory out : List ℕ) (from at end : ℕ) (held : Held)
-    (ee : end ≡ from + position isFeed (drop from input)) (inside : from < length input)
-    (holds : Holds (player .line) (player .length) (between from end input) held) where
   abbrev rest : List ℕ
   rest = drop from input
-
-  abbrev s : PlayerAt
-  s = playerAt player cache memory out at
-
-  end-inside : (from ≤ end) × (end ≤ length input)
-  end-inside = end-bounds input from end ee inside
 
   up-to-feed : end - from ≡ position isFeed rest
   up-to-feed = omega arith
 
-  held-bytes : take (held .length) (held .line) ≡ take heldBytes (s .player .line ++ take (position isFeed rest) rest)
-  held-bytes = holds .bytes ∙ ap (λ (n : ℕ). take heldBytes (s .player .line ++ take n rest)) up-to-feed
+  module _ (player : Player) (cache memory out : List ℕ) (at : ℕ) where
+    abbrev s : PlayerAt
+    s = playerAt player cache memory out at
 
-  -- the player that holds the line so far
-  abbrev holding : Player
-  holding = record { started = player .started; state = player .state; length = held .length; line = held .line }
+    -- the player that holds the line so far
+    abbrev holding : Held → PlayerAt
+    holding held =
+        playerAt (record { started = player .started; state = player .state; length = held .length; line = held .line }) cache memory out at
 
-  pub piece-held :
-      end ≡ length input
-      → Steps from input at (record { player = holding; next = end; at = at })
-      × Plays (between from end input) s (playerAt holding cache memory out at)
-  piece-held e = (
-    record { onward = omega arith; inside = omega arith; one-line = omega arith; held = holds .short },
-    subst (λ (n : ℕ). Plays (take n rest) s (playerAt holding cache memory out at)) (sym up-to-feed)
-        (held-line rest s (take (held .length) (held .line)) held-bytes),
-  )
+    -- no LF: the line goes on
+    piece-held : (held : Held) → Holds (player .line) (player .length) (between from end input) held → Plays (between from end input) s (holding held)
+    piece-held held holds =
+        subst (λ (n : ℕ). Plays (take n rest) s (holding held)) (sym up-to-feed)
+        (held-line rest s (take (held .length) (held .line))
+        (holds .bytes ∙ ap (λ (n : ℕ). take heldBytes (s .player .line ++ take n rest)) up-to-feed))
 
-  -- the player behind the line
-  abbrev beyond : AfterLine → Player
-  beyond r = record { started = r .started; state = r .state; length = 0; line = held .line }
+    -- no LF up to the end of the input
+    pub last-piece :
+        (held : Held) {s₀ : PlayerAt} → end ≡ length input → Plays (take from input) s₀ s
+        → Holds (player .line) (player .length) (between from end input) held → Plays input s₀ (holding held)
+    last-piece held {s₀} e f holds =
+        subst (λ (xs : List ℕ). Plays xs s₀ (holding held)) (take-all end input (omega arith))
+        (plays-on input from end (end-bounds .0) f (piece-held held holds))
 
-  pub line-played :
-      (c : Option Command) (r : AfterLine) (cache′ memory′ out′ : List ℕ) → (end ≡ length input → ⊥) → c ≡ commandOf (take (held .length) (held .line))
-      → PlaysCommand c (runAt (player .started) (player .state) cache memory out at) (afterLine r cache′ memory′ out′)
-      → Steps from input at (record { player = beyond r; next = end + 1; at = r .at })
-      × Plays (between from (end + 1) input) s (playerAt (beyond r) cache′ memory′ out′ (r .at))
-  line-played c r cache′ memory′ out′ d ce plays =
-      let short : end < length input = end-before input from end ee inside d in
-      let before : position isFeed rest < length rest = omega (arith, length-drop from input) in
-      let line = s .player .line ++ take (position isFeed rest) rest in
-      let known : c ≡ commandOf line = ce ∙ ap commandOf held-bytes ∙ held-short line in (
-        record {
-          onward = omega (arith, end-inside .0);
-          inside = omega (arith, length-drop from input);
-          one-line = omega (arith, plays .wrote .next, effect-short c (s .player .run));
-          held = omega arith;
-        },
-        subst (λ (n : ℕ). Plays (take n rest) s (playerAt (beyond r) cache′ memory′ out′ (r .at)))
-            (let e : position isFeed rest + 1 ≡ end + 1 - from = omega arith in e)
-            (played-line rest s c (afterLine r cache′ memory′ out′) before (feed-at rest before) known plays),
-      )
+    module _ (begun : Bool) (state : State) (cache′ memory′ out′ : List ℕ) (to : ℕ) where
+      -- the player behind the line
+      abbrev beyond : PlayerAt
+      beyond = playerAt (record { started = begun; state = state; length = 0; line = player .line }) cache′ memory′ out′ to
+
+      -- an LF: the line is played, and prints one line at most
+      pub line-played :
+          (c : Option Command) → end < length input → c ≡ commandOf (take (player .length) (player .line) ++ between from end input)
+          → PlaysCommand c (runAt (player .started) (player .state) cache memory out at) (runAt begun state cache′ memory′ out′ to)
+          → (to ≤ at + lineRoom) × Plays (between from (end + 1) input) s beyond
+      line-played c short ce plays =
+          let before : position isFeed rest < length rest = omega (arith, length-drop from input) in
+          let known = ce ∙ ap (λ (n : ℕ). commandOf (s .player .line ++ take n rest)) up-to-feed in (
+            omega (arith, plays .wrote .next, effect-short c (s .player .run)),
+            subst (λ (n : ℕ). Plays (take n rest) s beyond) (let e : position isFeed rest + 1 ≡ end + 1 - from = omega arith in e)
+                (played-line rest s c (runAt begun state cache′ memory′ out′ to) before (feed-at rest before) known plays),
+          )
+
+-- what a line asks for that is held short
+pub held-command : (line : List ℕ) (n : ℕ) (more : List ℕ) (held : Held) → Holds line n more held
+    → commandOf (take (held .length) (held .line)) ≡ commandOf (take n line ++ more)
+held-command line n more held holds = ap commandOf (holds .bytes) ∙ held-short (take n line ++ more)
 
 -- ---- what the player promises
 

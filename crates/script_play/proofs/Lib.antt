@@ -1,3 +1,4 @@
 pub mod Figures
 pub mod LinePlays
+pub mod RunKept
 pub mod InputPlays

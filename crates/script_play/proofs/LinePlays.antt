@@ -15,6 +15,7 @@ use Rattle.rules.specs.declared.Figures.{Figures}
 use Rattle.rules.specs.Shape.{World, world, lineBytes, setsAllowed, waysAllowed, figuresAllowed}
 use Rattle.rules.specs.Calls.{Outcome}
 use Rattle.rules.specs.Calls as rules
+use Rattle.rules.specs.WellFormed.{wellFormed}
 use Rattle.rules.specs.Runs.{ready, startRefused, started, startAllowed, unstarted, startAnswer, startWorld, outcome, answer, next}
 use Rattle.model.specs.State.{queuesOf, hierarchyOf, worldOf, outcomeOf, answerOf, callOf}
 use Rattle.model.specs.declared.State.{State}
@@ -27,7 +28,7 @@ use Rattle.script.specs.Commands.{Command, start, make}
 use Rattle.script.specs.Play.{effect, refusedEffect, malformedLine, zeros, zeroCache}
 use Rattle.script.specs.Play as script
 use Rattle.script_text.specs.Written.{Wrote, lineRoom, inRoom}
-use Rattle.script_play.specs.Player.{mostSets, mostWays, largestMemory, largestCache, cacheUsed, memoryUsed, runOf, lentOf, laidIn, RunAt, runAt, afterLine, PlaysCommand}
+use Rattle.script_play.specs.Player.{mostSets, mostWays, largestMemory, largestCache, cacheUsed, memoryUsed, runOf, runFormed, lentOf, laidIn, RunAt, runAt, afterLine, PlaysCommand, MakesCall}
 use Rattle.script_play.specs.declared.line.AfterLine.{AfterLine}
 use Rattle.script_play.proofs.Figures.{SameFigures, figures-kept}
 
@@ -103,6 +104,11 @@ module _
       (front-laid cache′ cache c clen cfit ∙ ap (λ (w : World). sets cache 0 (w .hierarchy .cache)) is)
       (front-laid memory′ memory m mlen mfit ∙ ap (λ (w : World). sets memory 0 (w .hierarchy .memory)) is)
 
+-- the run is well formed if its state is, with the front of the buffers
+pub front-formed : (s : State) (cache memory : List ℕ) (c m : ℕ) → c ≡ cacheUsed (s .figures) → m ≡ memoryUsed (s .size)
+    → wellFormed (queuesOf s) (hierarchyOf s (take c cache) (take m memory)) ≡ runFormed (runOf true s cache memory)
+front-formed s cache memory c m ce me = ap₂ (λ (x y : ℕ). wellFormed (queuesOf s) (hierarchyOf s (take x cache) (take y memory))) ce me
+
 -- a line is played if the run, the lent bytes and the output after it are those of its effect
 effect-plays : (c : Option Command) (before after : RunAt) (e : script.Effect) → effect c (before .run) ≡ e
     → after .run ≡ e .run → after .lent ≡ laidIn (e .run) (before .lent) → Wrote (before .at) (e .says) (before .out) (after .out) (after .at)
@@ -113,6 +119,13 @@ effect-plays c before after e is run lent wrote =
       lent-after = lent ∙ ap (λ (x : script.Effect). laidIn (x .run) (before .lent)) (sym is);
       wrote = subst (λ (l : List ℕ). Wrote (before .at) l (before .out) (after .out) (after .at)) (ap (λ (x : script.Effect). x .says) (sym is)) wrote;
     }
+
+-- the same line, where what it leaves has other names
+pub line-met :
+    (before : RunAt) {c c′ : Option Command} {cache cache′ memory memory′ out out′ : List ℕ} {begun begun′ : Bool} {s s′ : State} {at at′ : ℕ}
+    → c ≡ c′ → cache ≡ cache′ → memory ≡ memory′ → out ≡ out′ → begun ≡ begun′ → s ≡ s′ → at ≡ at′
+    → PlaysCommand c′ before (runAt begun′ s′ cache′ memory′ out′ at′) → PlaysCommand c before (runAt begun s cache memory out at)
+line-met before ce e f g h i j p = rw (ce, e, f, g, h, i, j) p
 
 -- ---- a call
 
@@ -137,7 +150,7 @@ unfolding inRoom
 in-room {at} {r} {out} h w = rw (le-leb (at + lineRoom) (length out) h) at w
 
 module _
-    (s : State) (call : Call) (cache memory out : List ℕ) (at c m : ℕ) (r : Step) (cache′ memory′ out′ : List ℕ) (to : ℕ)
+    (s : State) (call : Call) (cache memory : List ℕ) (c m : ℕ) (r : Step) (cache′ memory′ : List ℕ)
     (ce : c ≡ cacheUsed (s .figures)) (me : m ≡ memoryUsed (s .size))
     (did : outcomeOf r cache′ memory′ ≡ outcome (callOf call) (queuesOf s) (hierarchyOf s (take c cache) (take m memory)))
     (clen : length cache′ ≡ c) (mlen : length memory′ ≡ m) (cfit : c ≤ length cache) (mfit : m ≤ length memory) where
@@ -169,17 +182,27 @@ module _
       line-same (r .answer) [] cache′ ∙ ap (λ (o : Outcome). answerLine (o .answer)) did
       ∙ ap₂ (λ (x y : ℕ). answerLine (answer (callOf call) (old x y))) ce me
 
-  pub called :
-      at + lineRoom ≤ length out → Wrote at (inRoom at out (answerLine (answerOf (r .answer) []))) out out′ to
-      → PlaysCommand (some (make (callOf call))) (runAt true s cache memory out at)
-      (runAt true (r .next) (cache′ ++ drop c cache) (memory′ ++ drop m memory) out′ to)
+  pub made :
+      MakesCall (callOf call) (runOf true s cache memory) (lentOf cache memory) r (lentOf (cache′ ++ drop c cache) (memory′ ++ drop m memory))
   unfolding effect
-  called room w =
+  made =
       record {
+        says = called-line;
         run-after = front-run (r .next) _ cache memory cache′ memory′ c m called-world used-cache used-memory clen mlen cfit mfit;
         lent-after = front-lent (r .next) _ cache memory cache′ memory′ c m called-world used-cache used-memory clen mlen cfit mfit;
-        wrote = subst (λ (l : List ℕ). Wrote at l out out′ to) called-line (in-room room w);
       }
+
+-- its answer is written
+pub answered : (x : rules.Call) (begun : Bool) {s : State} {r : Step} {cache memory cache′ memory′ out out′ : List ℕ} {at to : ℕ} → begun ≡ true
+    → MakesCall x (runOf true s cache memory) (lentOf cache memory) r (lentOf cache′ memory′)
+    → at + lineRoom ≤ length out → Wrote at (inRoom at out (answerLine (answerOf (r .answer) []))) out out′ to
+    → PlaysCommand (some (make x)) (runAt begun s cache memory out at) (runAt begun (r .next) cache′ memory′ out′ to)
+answered x begun {out = out} {out′ = out′} {at = at} {to = to} e m room w =
+    rw e (record {
+      run-after = m .run-after;
+      lent-after = m .lent-after;
+      wrote = subst (λ (l : List ℕ). Wrote at l out out′ to) (m .says) (in-room room w);
+    })
 
 -- ---- a line that is refused
 
@@ -200,12 +223,10 @@ module _
 
   -- the effect of the line is its refusal with k, and the run that it leaves is the one before it
   pub stays :
-      (k : ℕ) (out′ : List ℕ) (r : AfterLine) → r ≡ record { started = started; state = s; at = r .at }
-      → effect c (runOf started s cache memory) ≡ refusedEffect k (runOf started s cache memory) → Wrote at (refusedLine k) out out′ (r .at)
-      → PlaysCommand c (runAt started s cache memory out at) (afterLine r cache memory out′)
-  stays k out′ r is-old e w =
-      subst (λ (x : AfterLine). PlaysCommand c (runAt started s cache memory out at) (afterLine x cache memory out′)) (sym is-old)
-      (effect-plays c _ _ _ e refl (lent-self started) w)
+      (k : ℕ) {out′ : List ℕ} {to : ℕ} → effect c (runOf started s cache memory) ≡ refusedEffect k (runOf started s cache memory)
+      → Wrote at (refusedLine k) out out′ to
+      → PlaysCommand c (runAt started s cache memory out at) (runAt started s cache memory out′ to)
+  stays k e w = effect-plays c _ _ _ e refl (lent-self started) w
 
   pub malformed : c ≡ none → effect c (runOf started s cache memory) ≡ refusedEffect malformedLine (runOf started s cache memory)
   unfolding effect
@@ -398,6 +419,5 @@ module _
         → r ≡ record { started = begun; state = old; at = r .at } → Wrote at (refusedLine k) out out′ (r .at)
         → PlaysCommand (some (start f size)) (runAt begun old cache memory out at) (afterLine r (cache′ ++ drop c cache) memory out′)
     not-started begun old out out′ at r cf mf is-old w =
-        subst (λ (l : List ℕ). PlaysCommand (some (start f size)) (runAt begun old cache memory out at) (afterLine r l memory out′))
-        (sym not-started-cache)
-        (stays (some (start f size)) begun old cache memory out at cf mf k out′ r is-old (not-started-effect _) w)
+        let lasting = stays (some (start f size)) begun old cache memory out at cf mf k (not-started-effect _) w in
+        rw (is-old, not-started-cache) lasting

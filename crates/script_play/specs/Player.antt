@@ -1,6 +1,6 @@
 -- The player's values as those of the script language, and what playing does to the lent buffers.
 -- `RunAt` and `PlayerAt` say how things stand before or after it; a contract names one of each.
-use Prim.Native.Nat.{ℕ, _+_, _-_, _*_, _/_, _<_, _≤_}
+use Prim.Native.Nat.{ℕ, _+_, _-_, _*_, _/_, _≤_}
 use mathlib.Core.Path.{_≡_}
 use mathlib.Core.Bool.{Bool, true, false, cond, _&&_}
 use mathlib.Core.List.{List, [], _∷_, _++_}
@@ -10,18 +10,23 @@ use lib.ListN.{length, take, drop}
 use lib.Seq.{sets}
 use Rattle.rules.specs.declared.Figures.{Figures}
 use Rattle.rules.specs.Shape.{World, lineBytes}
-use Rattle.model.specs.State.{worldOf}
+use Rattle.rules.specs.Calls.{Call}
+use Rattle.rules.specs.WellFormed.{wellFormed}
+use Rattle.model.specs.State.{worldOf, answerOf}
 use Rattle.model.specs.declared.State.{State}
-use Rattle.script.specs.Commands.{lineFeed, heldBytes}
+use Rattle.model.specs.declared.Step.{Step}
+use Rattle.lists.specs.Padded.{position}
+use Rattle.script.specs.Commands.{make, lineFeed, heldBytes}
 use Rattle.script.specs.Commands as commands
 use Rattle.script.specs.Play.{effect, afterByte, output, afterBytes, newPlayer, atEnd, played}
 use Rattle.script.specs.Play as script
+use Rattle.script.specs.Words.{answerLine}
 use Rattle.script_text.specs.Written.{Wrote, lineRoom}
 use Rattle.script_play.specs.declared.Player.{Player}
 use Rattle.script_play.specs.declared.Played.{Played}
 use Rattle.script_play.specs.declared.line.AfterLine.{AfterLine}
 use Rattle.script_play.specs.declared.input.Held.{Held}
-use Rattle.script_play.specs.declared.input.Moved.{Moved}
+use Rattle.script_play.specs.declared.input.Ran.{Ran}
 
 -- ---- figures
 
@@ -55,6 +60,11 @@ runOf true s cache memory = some (worldOf s (take (cacheUsed (s .figures)) cache
 
 abbrev pub playerOf : Player → List ℕ → List ℕ → script.Player
 playerOf p cache memory = record { run = runOf (p .started) (p .state) cache memory; line = take (p .length) (p .line) }
+
+-- the run, if there is one, is well formed
+abbrev pub runFormed : Option World → Bool
+runFormed none = true
+runFormed (some w) = wellFormed (w .queues) (w .hierarchy)
 
 -- a player that holds no more of its line than is needed to know it
 abbrev pub shortened : script.Player → script.Player
@@ -108,6 +118,11 @@ abbrev pub playerAt : Player → List ℕ → List ℕ → List ℕ → ℕ → 
 playerAt p cache memory out at =
     record { player = playerOf p cache memory; lent = lentOf cache memory; out = out; at = at }
 
+-- what the lines of an input left, where these bytes are held
+abbrev pub afterLines : List ℕ → Ran → List ℕ → List ℕ → List ℕ → PlayerAt
+afterLines line r cache memory out =
+    playerAt (record { started = r .started; state = r .state; length = r .held; line = line }) cache memory out (r .at)
+
 -- ---- what the functions promise
 
 -- the end of a line
@@ -118,6 +133,12 @@ isFeed b = eqb b lineFeed
 abbrev pub RoomForLine : List ℕ → List ℕ → List ℕ → ℕ → Type 0
 RoomForLine cache memory out at =
     (largestCache ≤ length cache) × (largestMemory ≤ length memory) × (at + lineRoom ≤ length out)
+
+-- a call was made on a run: the line that its answer prints, the run after it, and the lent bytes after it
+pub record MakesCall (c : Call) (run : Option World) (before : Lent) (r : Step) (after : Lent) : Type 0 where
+  pub says : answerLine (answerOf (r .answer) []) ≡ effect (some (make c)) run .says
+  pub run-after : runOf true (r .next) (after .cache) (after .memory) ≡ effect (some (make c)) run .run
+  pub lent-after : after ≡ laidIn (effect (some (make c)) run .run) before
 
 -- a line was played that asked for c: the run after it, the lent bytes after it, and what it prints in the output
 pub record PlaysCommand (c : Option commands.Command) (before after : RunAt) : Type 0 where
@@ -140,12 +161,11 @@ pub record Holds (line : List ℕ) (n : ℕ) (more : List ℕ) (r : Held) : Type
 abbrev pub between : ℕ → ℕ → List ℕ → List ℕ
 between from end input = take (end - from) (drop from input)
 
--- a line or a piece of one was played: the input goes on behind it, and one line at most was written
-pub record Steps (from : ℕ) (input : List ℕ) (at : ℕ) (r : Moved) : Type 0 where
-  pub onward : from < r .next
+-- every line that ends in the input was played: no LF stands in the rest
+pub record AllLines (input : List ℕ) (r : Ran) : Type 0 where
   pub inside : r .next ≤ length input
-  pub one-line : r .at ≤ at + lineRoom
-  pub held : r .player .length ≤ heldBytes
+  pub no-feed : length input ≡ r .next + position isFeed (drop (r .next) input)
+  pub held : r .held ≤ heldBytes
 
 -- ---- a chunk of the input
 

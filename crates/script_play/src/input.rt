@@ -1,15 +1,16 @@
 // A chunk of the input played, line by line.
 ghost use mathlib.Core.Path.{_≡_};
-ghost use mathlib.Core.Bool.{cond, _&&_};
-ghost use mathlib.Core.List.{List, []};
+ghost use mathlib.Core.Bool.{true, cond, _&&_};
+ghost use mathlib.Core.List.{List, [], _++_};
 ghost use lib.Dec.{ltb, leb};
-ghost use Prim.Native.Nat.{ℕ, _+_, _-_, _*_, _/_, _≤_, _<_};
-ghost use lib.ListN.{length, drop};
+ghost use Prim.Native.Nat.{ℕ, _+_, _-_, _*_, _/_, _≤_};
+ghost use lib.ListN.{length, take, drop};
 ghost use Rattle.lists.specs.Padded.{position};
-ghost use Rattle.script.specs.Commands.{heldBytes};
+ghost use Rattle.script.specs.Commands.{heldBytes, commandOf};
 ghost use Rattle.script.specs.Play.{newPlayer, atEnd};
+ghost use Rattle.script_text.specs.Reader.{askedOf};
 ghost use Rattle.script_text.specs.Written.{Wrote, lineRoom, inRoom};
-ghost use Rattle.script_play.specs.Player.{largestCache, largestMemory, isFeed, playerOf, playerAt, afterChunk, RoomForLine, Plays, Holds, between, Steps, PlaysChunk};
+ghost use Rattle.script_play.specs.Player.{largestCache, largestMemory, isFeed, runOf, runFormed, playerOf, playerAt, afterLines, afterChunk, Plays, Holds, between, AllLines, PlaysChunk};
 use crate::Played;
 use crate::Player;
 use crate::line;
@@ -18,6 +19,7 @@ use model::State;
 use rules::MALFORMED_LINE;
 use rules::MAX_CACHE;
 use rules::MAX_MEMORY;
+use script_text::Command;
 use script_text::HELD_BYTES;
 use script_text::LINE_FEED;
 use script_text::LINE_ROOM;
@@ -73,63 +75,96 @@ fn hold(line: [u8; HELD_BYTES], held: usize, input: &[u8], from: usize, end: usi
     }
 }
 
-// The player after a line or a piece of one, the place in the input behind it, and where the output ends.
-pub struct Moved {
-    player: Player,
+// What the line that ends at a place asks for. A line that began in the input is read where it stands.
+fn line_command(
+    line: [u8; HELD_BYTES],
+    held: usize,
+    input: &[u8],
+    from: usize,
+    end: usize,
+) -> Command
+    requires { ⌜ (held ≤ heldBytes) × (from ≤ end) × (end ≤ length (now input)) ⌝ }
+    ensures { λ r. ⌜ askedOf r ≡ commandOf (take held line ++ between from end (now (input .entry))) ⌝ }
+{
+    if held == 0 {
+        return reader::command(&input[from..end]);
+    }
+    let h = hold(line, held, input, from, end);
+    let bytes = h.line;
+    let n = h.length;
+    reader::command(&bytes[..n])
+}
+
+// The run behind the lines that end in an input, how much of the line before them is still held, the place there, and where the output
+// ends.
+pub struct Ran {
+    started: bool,
+    state: State,
+    held: usize,
     next: usize,
     at: usize,
 }
 
-// Plays the line that goes on at a place, if it ends in the input, and holds it else.
-fn play_line(
+// Plays each line that ends in the input. The run is kept in locals: a line that does not change it copies nothing of it.
+fn run_lines(
     player: Player,
+    formed: bool,
     input: &[u8],
-    from: usize,
     cache: &mut [u8],
     memory: &mut [u8],
     out: &mut [u8],
-    at: usize,
-) -> Moved
-    requires { ⌜ (player .length ≤ heldBytes) × (from < length (now input)) × RoomForLine (now cache) (now memory) (now out) at ⌝ }
-    ensures { λ r. ⌜ Steps from (now (input .entry)) at r × Plays (between from (r .next) (now (input .entry)))
-        (playerAt player (now (cache .entry)) (now (memory .entry)) (now (out .entry)) at)
-        (playerAt (r .player) (now (cache .exit)) (now (memory .exit)) (now (out .exit)) (r .at)) ⌝ }
+) -> Ran
+    requires { ⌜ (player .length ≤ heldBytes) × (largestCache ≤ length (now cache)) × (largestMemory ≤ length (now memory))
+        × (lineRoom * length (now input) ≤ length (now out))
+        × (formed ≡ true → runFormed (runOf (player .started) (player .state) (now cache) (now memory)) ≡ true) ⌝ }
+    ensures { λ r. ⌜ AllLines (now (input .entry)) r × Plays (take (r .next) (now (input .entry)))
+        (playerAt player (now (cache .entry)) (now (memory .entry)) (now (out .entry)) 0)
+        (afterLines (player .line) r (now (cache .exit)) (now (memory .exit)) (now (out .exit))) ⌝ }
 {
-    let end = line_end(input, from);
     let line = player.line;
-    let held = hold(line, player.length, input, from, end);
-    let bytes = held.line;
-    let n = held.length;
-    let started = player.started;
-    let state = player.state;
-    if end == input.len() {
-        return Moved {
-            player: Player {
-                started,
-                state,
-                length: n,
-                line: bytes,
-            },
-            next: end,
-            at,
-        };
+    let mut started = player.started;
+    let mut state = player.state;
+    let mut held = player.length;
+    let mut i: usize = 0;
+    let mut at: usize = 0;
+    let mut end = line_end(input, 0);
+    while end < input.len() {
+        let command = line_command(line, held, input, i, end);
+        match command {
+            Command::Malformed => at = line::refuse_line(MALFORMED_LINE, out, at),
+            Command::Start(figures, size) => {
+                let r = line::play_start(started, state, figures, size, cache, memory, out, at);
+                let after = r.state;
+                state = after;
+                started = r.started;
+                at = r.at;
+            }
+            Command::Make(call) => {
+                if started {
+                    let r = line::make_call(formed, state, call, cache, memory);
+                    let answer = r.answer;
+                    let next = r.next;
+                    state = next;
+                    at = writer::write_answer(out, at, answer);
+                } else {
+                    at = line::refuse_line(MALFORMED_LINE, out, at);
+                }
+            }
+        }
+        held = 0;
+        i = end + 1;
+        end = line_end(input, i);
     }
-    let command = reader::command(&bytes[..n]);
-    let played = line::play_command(started, state, command, cache, memory, out, at);
-    let after = played.state;
-    Moved {
-        player: Player {
-            started: played.started,
-            state: after,
-            length: 0,
-            line: bytes,
-        },
-        next: end + 1,
-        at: played.at,
+    Ran {
+        started,
+        state,
+        held,
+        next: i,
+        at,
     }
 }
 
-// Plays an input line by line.
+// Plays an input line by line, and holds the line that is cut by its end.
 fn play_lines(
     player: Player,
     input: &[u8],
@@ -143,20 +178,22 @@ fn play_lines(
         (playerAt player (now (cache .entry)) (now (memory .entry)) (now (out .entry)) 0)
         (afterChunk r (now (cache .exit)) (now (memory .exit)) (now (out .exit))) ⌝ }
 {
-    let mut p = player;
-    let mut i: usize = 0;
-    let mut at: usize = 0;
-    while i < input.len() {
-        let m = play_line(p, input, i, cache, memory, out, at);
-        let next = m.player;
-        p = next;
-        i = m.next;
-        at = m.at;
-    }
+    let before = player.state;
+    let formed = line::run_formed(player.started, before, cache, memory);
+    let r = run_lines(player, formed, input, cache, memory, out);
+    let line = player.line;
+    let state = r.state;
+    let h = hold(line, r.held, input, r.next, input.len());
+    let bytes = h.line;
     Played {
-        player: p,
-        read: i,
-        written: at,
+        player: Player {
+            started: r.started,
+            state,
+            length: h.length,
+            line: bytes,
+        },
+        read: input.len(),
+        written: r.at,
     }
 }
 

@@ -1,29 +1,27 @@
-// A line of a script played: a start or a call on the run, and the line that answers. (`LINE_LENGTH` is of a cache line.)
+// What a line of a script asks for: a start or a call on the run, at the front of the lent bytes. (`LINE_LENGTH` is of a cache line.)
 ghost use mathlib.Core.Path.{_≡_};
 ghost use mathlib.Core.Option.{some};
 ghost use mathlib.Core.Bool.{true};
 ghost use Prim.Native.Nat.{_+_, _≤_};
 ghost use lib.ListN.{length};
-ghost use Rattle.script_text.specs.Reader.{askedOf};
 ghost use Rattle.model.specs.State.{callOf};
-ghost use Rattle.script.specs.Commands.{start, make};
+ghost use Rattle.script.specs.Commands.{start};
 ghost use Rattle.script.specs.Words.{refusedLine};
 ghost use Rattle.script_text.specs.Written.{Wrote, lineRoom};
-ghost use Rattle.script_play.specs.Player.{largestCache, largestMemory, cacheUsed, memoryUsed, runAt, afterLine, RoomForLine, PlaysCommand};
+ghost use Rattle.script_play.specs.Player.{largestCache, largestMemory, cacheUsed, memoryUsed, runOf, runFormed, lentOf, runAt, afterLine, RoomForLine, PlaysCommand, MakesCall};
 use model::Answer;
 use model::Call;
 use model::StartAnswer;
 use model::State;
+use model::Step;
 use rules::Figures;
 use rules::LINE_LENGTH;
-use rules::MALFORMED_LINE;
 use rules::MAX_MEMORY;
 use rules::MAX_SETS;
 use rules::MAX_WAYS;
-use script_text::Command;
 use script_text::writer;
 
-// The run after a line, and where the output ends.
+// The run after a start, and where the output ends.
 pub struct AfterLine {
     pub started: bool,
     pub state: State,
@@ -54,41 +52,57 @@ fn memory_used(size: u32) -> usize
     length
 }
 
-// A call on the run.
-fn play_call(
+// Whether the run, if there is one, is well formed: tested once for a chunk, since every line keeps it so.
+pub(crate) fn run_formed(started: bool, state: State, cache: &[u8], memory: &[u8]) -> bool
+    requires { ⌜ (largestCache ≤ length (now cache)) × (largestMemory ≤ length (now memory)) ⌝ }
+    ensures { λ r. ⌜ r ≡ runFormed (runOf started state (now (cache .entry)) (now (memory .entry))) ⌝ }
+{
+    if started {
+        let figures = state.figures;
+        let c = cache_used(figures);
+        let m = memory_used(state.size);
+        return state.is_formed(&cache[..c], &memory[..m]);
+    }
+    true
+}
+
+// A call on the run. Of a run that is known to be well formed checks 1 and 10 are not made.
+pub(crate) fn make_call(
+    formed: bool,
     state: State,
     call: Call,
     cache: &mut [u8],
     memory: &mut [u8],
-    out: &mut [u8],
-    at: usize,
-) -> AfterLine
-    requires { ⌜ RoomForLine (now cache) (now memory) (now out) at ⌝ }
-    ensures { λ r. ⌜ PlaysCommand (some (make (callOf call)))
-        (runAt true state (now (cache .entry)) (now (memory .entry)) (now (out .entry)) at)
-        (afterLine r (now (cache .exit)) (now (memory .exit)) (now (out .exit))) ⌝ }
+) -> Step
+    requires { ⌜ (largestCache ≤ length (now cache)) × (largestMemory ≤ length (now memory))
+        × (formed ≡ true → runFormed (runOf true state (now cache) (now memory)) ≡ true) ⌝ }
+    ensures { λ r. ⌜ MakesCall (callOf call) (runOf true state (now (cache .entry)) (now (memory .entry)))
+        (lentOf (now (cache .entry)) (now (memory .entry))) r (lentOf (now (cache .exit)) (now (memory .exit))) ⌝ }
 {
     let figures = state.figures;
     let c = cache_used(figures);
     let m = memory_used(state.size);
-    let r = state.step(call, &mut cache[..c], &mut memory[..m]);
-    let answer = r.answer;
-    let next = r.next;
-    let to = writer::write_answer(out, at, answer);
-    AfterLine {
-        started: true,
-        state: next,
-        at: to,
+    if formed {
+        return state.step_formed(call, &mut cache[..c], &mut memory[..m]);
     }
+    state.step(call, &mut cache[..c], &mut memory[..m])
 }
 
-// A line that is refused, and leaves the run as it was.
+// Writes the line that answers a refused line.
+pub(crate) fn refuse_line(k: u32, out: &mut [u8], at: usize) -> usize
+    requires { ⌜ at + lineRoom ≤ length (now out) ⌝ }
+    ensures { λ r. ⌜ Wrote at (refusedLine k) (now (out .entry)) (now (out .exit)) r ⌝ }
+{
+    writer::write_answer(out, at, Answer::Refused(k))
+}
+
+// A start that is refused, and leaves the run as it was.
 fn play_refused(started: bool, state: State, k: u32, out: &mut [u8], at: usize) -> AfterLine
     requires { ⌜ at + lineRoom ≤ length (now out) ⌝ }
     ensures { λ r. ⌜ (r ≡ record { started = started; state = state; at = r .at })
         × Wrote at (refusedLine k) (now (out .entry)) (now (out .exit)) (r .at) ⌝ }
 {
-    let to = writer::write_answer(out, at, Answer::Refused(k));
+    let to = refuse_line(k, out, at);
     AfterLine {
         started,
         state,
@@ -97,7 +111,7 @@ fn play_refused(started: bool, state: State, k: u32, out: &mut [u8], at: usize) 
 }
 
 // A start, with memory zeroed where it is accepted.
-fn play_start(
+pub(crate) fn play_start(
     started: bool,
     state: State,
     figures: Figures,
@@ -128,35 +142,5 @@ fn play_start(
             }
         }
         StartAnswer::NotAllowed(k) => play_refused(started, state, k, out, at),
-    }
-}
-
-// A line, taken apart, is played.
-pub(crate) fn play_command(
-    started: bool,
-    state: State,
-    command: Command,
-    cache: &mut [u8],
-    memory: &mut [u8],
-    out: &mut [u8],
-    at: usize,
-) -> AfterLine
-    requires { ⌜ RoomForLine (now cache) (now memory) (now out) at ⌝ }
-    ensures { λ r. ⌜ PlaysCommand (askedOf command)
-        (runAt started state (now (cache .entry)) (now (memory .entry)) (now (out .entry)) at)
-        (afterLine r (now (cache .exit)) (now (memory .exit)) (now (out .exit))) ⌝ }
-{
-    match command {
-        Command::Malformed => play_refused(started, state, MALFORMED_LINE, out, at),
-        Command::Start(figures, size) => {
-            play_start(started, state, figures, size, cache, memory, out, at)
-        }
-        Command::Make(call) => {
-            if started {
-                play_call(state, call, cache, memory, out, at)
-            } else {
-                play_refused(started, state, MALFORMED_LINE, out, at)
-            }
-        }
     }
 }

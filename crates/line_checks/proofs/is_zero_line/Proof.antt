@@ -1,67 +1,31 @@
--- `is_zero_line` meets its contract. The answer so far is the test of the bytes so far.
-use mathlib.Core.Path.{_≡_, refl, sym, _∙_}
-use mathlib.Core.Logic.{⊎-elim}
-use Prim.Native.Nat.{_≤_, _-_, _+_}
-use native.Mathlib.Omega.{arith}
+-- `is_zero_line` meets its contract: 16 bytes are zero where the two numbers made of them are.
+use Prim.Native.Nat.{ℕ}
+use mathlib.Core.Path.{sym, _∙_, ap}
 use lib.Dec.{eqb}
-use lib.ListN.{getD}
-use borrow.Author.Tests.{eq-eqb, ne-eqb}
 use borrow.Author.Needs.{needs}
-use Rattle.lists.specs.Counted.{allFrom}
-use Rattle.lists.proofs.CountedLoops.{all-broken, all-kept}
-use Rattle.line_checks.specs.SlotTests.{zeroBytes}
+use Rattle.line_checks.proofs.Words.{words-zero, word-some}
 use Rattle.line_checks.proofs.is_zero_line.Statement.{statement}
 use Rattle.line_checks.proofs.is_zero_line.Tie as tie
 
-abbrev Inv-loop : tie.InvT-loop
-Inv-loop cache at zero₀ i₀ zero i =
-    (i ≤ 16) × (zero ≡ allFrom (λ i. eqb (getD cache (at + i) 0) 0) 0 i)
+word-requires : tie.Need-word-requires
+word-requires c κs = search needs
 
-abbrev μ-loop : tie.MeasureT-loop
-μ-loop cache at zero₀ i₀ zero i = 16 - i
+add-word : tie.Need-add-word
+add-word c = search needs
 
-loop-holds : tie.Need-loop-holds Inv-loop μ-loop
-unfolding allFrom
-loop-holds c =
-    (search needs, refl)
+word-requires-2 : tie.Need-word-requires-2
+word-requires-2 c κs = search needs
 
-add-if1 : tie.Need-add-if1 Inv-loop μ-loop
-add-if1 c = search needs
-
-shared-slice-read-if1 : tie.Need-shared-slice-read-if1 Inv-loop μ-loop
-shared-slice-read-if1 c = search needs
-
-add-i : tie.Need-add-i Inv-loop μ-loop
-add-i c = search needs
-
-loop-less : tie.Need-loop-less Inv-loop μ-loop
-loop-less c = search needs
-
-loop-again : tie.Need-loop-again Inv-loop μ-loop
-loop-again c =
-    let loop = c .before .before .before .loop in
-    ⊎-elim
-    (λ w. (omega arith, w .1 ∙ sym (all-broken _ (loop .i) (ne-eqb _ _ (w .0 .taken)))))
-    (λ w. (omega arith, w .1 ∙ (loop .inv .1 ∙ sym (all-kept _ (loop .i) (eq-eqb _ _ (w .0 .left))))))
-    (c .if1 .came)
-
-returns : tie.Need-returns Inv-loop μ-loop
-unfolding zeroBytes
+returns : tie.Need-returns
 returns c =
-    let loop = c .before .loop in
-    let e : loop .i ≡ 16 = omega arith in
-    rw e at (loop .inv .1)
+    let word = c .before .before .word in
+    let if1 = c .before .if1 in
+    ap (λ (t : ℕ). eqb t 0) (c .word2 .ensures) ∙ words-zero _ _ (sym (word .ensures) ∙ if1 .taken)
+
+returns-2 : tie.Need-returns-2
+returns-2 c =
+    let word = c .before .word in
+    word-some _ _ (λ z. c .if1 .left (word .ensures ∙ z))
 
 pub is-zero-line-spec : {M : Type 1} → statement M
-is-zero-line-spec =
-    tie.close
-    (tie.spec
-    Inv-loop
-    μ-loop
-    loop-holds
-    add-if1
-    shared-slice-read-if1
-    add-i
-    loop-less
-    loop-again
-    returns)
+is-zero-line-spec = tie.close (tie.spec word-requires add-word word-requires-2 returns returns-2)

@@ -1,23 +1,25 @@
 -- `load_queue::remove_waiting` meets its contract. The loop: what is kept of the first k entries stands before free places.
-use Prim.Native.Nat.{_-_, _≤_}
-use mathlib.Core.Path.{_≡_}
+use Prim.Native.Nat.{_-_, _≤_, _<_}
+use mathlib.Core.Path.{_≡_, sym, _∙_}
+use mathlib.Core.Logic.{⊎-elim}
 use native.Mathlib.Omega.{arith}
 use lib.ListN.{length}
+use borrow.Author.Tests.{not-true, not-false}
 use borrow.Author.Needs.{needs}
-use Rattle.lists.proofs.Loops.{Packing, pack-none, pack-room, pack-step, pack-all}
+use Rattle.lists.proofs.Loops.{Packing, pack-none, pack-out, pack-in, pack-all}
 use Rattle.rules.specs.Shape.{loadPlaces, noLoad}
 use Rattle.rules.specs.Calls.{waitingAt}
 use Rattle.load_queue.proofs.remove_waiting.Statement.{statement}
 use Rattle.load_queue.proofs.remove_waiting.Tie as tie
 
 abbrev Inv-loop : tie.InvT-loop
-Inv-loop i loads kept₀ k₀ kept k = (k ≤ loadPlaces) × Packing (waitingAt i) noLoad loadPlaces loads k (kept .count) (kept .out)
+Inv-loop i loads next₀ to₀ k₀ next to k = (k ≤ loadPlaces) × (to ≤ k) × Packing (waitingAt i) noLoad loadPlaces loads k to next
 
 abbrev μ-loop : tie.MeasureT-loop
-μ-loop i loads kept₀ k₀ kept k = loadPlaces - k
+μ-loop i loads next₀ to₀ k₀ next to k = loadPlaces - k
 
 loop-holds : tie.Need-loop-holds Inv-loop μ-loop
-loop-holds c = (search needs, pack-none _ noLoad loadPlaces (c .args .t1))
+loop-holds c = (search needs, search needs, pack-none _ noLoad loadPlaces (c .args .t1))
 
 mul-l : tie.Need-mul-l Inv-loop μ-loop
 mul-l c = search needs
@@ -25,10 +27,17 @@ mul-l c = search needs
 array-copy-out-l : tie.Need-array-copy-out-l Inv-loop μ-loop
 array-copy-out-l c = search needs
 
-keep-unless-waiting-requires : tie.Need-keep-unless-waiting-requires Inv-loop μ-loop
-keep-unless-waiting-requires c κs =
-    let loop = c .before .before .loop in
-    omega (arith, pack-room _ noLoad (loop .inv .1))
+is-waiting-at-requires : tie.Need-is-waiting-at-requires Inv-loop μ-loop
+is-waiting-at-requires c κs = search needs
+
+mul-next : tie.Need-mul-next Inv-loop μ-loop
+mul-next c = search needs
+
+array-set-from-next : tie.Need-array-set-from-next Inv-loop μ-loop
+array-set-from-next c = search needs
+
+add-to : tie.Need-add-to Inv-loop μ-loop
+add-to c = search needs
 
 add-k : tie.Need-add-k Inv-loop μ-loop
 add-k c = search needs
@@ -38,18 +47,29 @@ loop-less c = search needs
 
 loop-again : tie.Need-loop-again Inv-loop μ-loop
 loop-again c =
-    let args = c .before .before .before .before .args in
-    let h : length (args .t1) ≡ loadPlaces = search needs in (
-      search needs,
-      pack-step (waitingAt (args .i)) noLoad noLoad h (omega arith) (c .before .before .before .loop .inv .1) _
-          _ (c .keep-unless-waiting .ensures .0) (c .keep-unless-waiting .ensures .1),
-    )
+    let args = c .before .before .before .before .before .args in
+    let loop = c .before .before .before .before .loop in
+    let b : loop .k < loadPlaces = omega arith in
+    let h : length (args .t1) ≡ loadPlaces = search needs in
+    let test = sym (c .before .is-waiting-at .ensures) in
+    ⊎-elim
+    (λ w. (
+      omega arith,
+      omega (arith, w .2),
+      pack-in _ noLoad noLoad h b (loop .inv .2) (test ∙ not-true _ (w .0 .taken)) _ _ (w .1) (w .2),
+    ))
+    (λ w. (
+      omega arith,
+      omega (arith, w .2),
+      pack-out _ noLoad noLoad h b (loop .inv .2) (test ∙ not-false _ (w .0 .left)) _ _ (w .1) (w .2),
+    ))
+    (c .if1 .came)
 
 returns : tie.Need-returns Inv-loop μ-loop
 returns c =
-    let args = c .before .before .before .args in
+    let args = c .before .before .args in
     let h : length (args .t1) ≡ loadPlaces = search needs in
-    pack-all (waitingAt (args .i)) noLoad h (omega arith) (c .before .before .loop .inv .1)
+    pack-all (waitingAt (args .i)) noLoad h (omega arith) (c .before .loop .inv .2)
 
 pub remove-waiting-spec : {M : Type 1} → statement M
 remove-waiting-spec =
@@ -60,7 +80,10 @@ remove-waiting-spec =
     loop-holds
     mul-l
     array-copy-out-l
-    keep-unless-waiting-requires
+    is-waiting-at-requires
+    mul-next
+    array-set-from-next
+    add-to
     add-k
     loop-less
     loop-again

@@ -25,8 +25,10 @@ has-uncovered-requires c κs =
     let args = c .before .before .before .before .before .before .before .args in
     let access-passes = c .before .before .access-passes in
     let if3 = c .before .if3 in
-    let pass = sym (access-passes .ensures) ∙ if3 .taken in
-    omega (arith, passes-end (args .size) (args .l .address) (args .l .width) pass)
+    let pass = sym (access-passes .ensures) ∙ if3 .taken in (
+      omega (arith, passes-end (args .size) (args .l .address) (args .l .width) pass),
+      c .before .before .before .before .before .before .before .pre,
+    )
 
 returns-3 : tie.Need-returns-3
 returns-3 c =

@@ -14,7 +14,10 @@ stores-good-requires : tie.Need-stores-good-requires
 stores-good-requires c κs = search needs
 
 loads-good-requires : tie.Need-loads-good-requires
-loads-good-requires c κs = search needs
+loads-good-requires c κs =
+    let args = c .before .before .before .args in
+    let stores-good = c .before .stores-good in
+    stores-last (args .last) (args .size) (args .stores) (sym (stores-good .ensures) ∙ c .if2 .taken)
 
 numbers-apart-requires : tie.Need-numbers-apart-requires
 numbers-apart-requires c κs =

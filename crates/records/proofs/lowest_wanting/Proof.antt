@@ -3,7 +3,7 @@ use borrow.Author.Needs.{needs}
 use mathlib.Core.Path.{_≡_, refl, sym, _∙_}
 use mathlib.Core.Bool.{true}
 use native.Mathlib.Omega.{arith}
-use Prim.Native.Nat.{_-_, _≤_}
+use Prim.Native.Nat.{_+_, _-_, _≤_}
 use lib.ListN.{length, drop}
 use Rattle.lists.specs.Padded.{first}
 use Rattle.lists.proofs.Cond.{cond-then, cond-else}
@@ -46,8 +46,11 @@ returns-2 : tie.Need-returns-2 Inv-loop μ-loop
 unfolding first
 returns-2 c =
     let long : length (c .before .before .before .before .before .before .before .args .t4) ≡ 8 = search needs in
-    sym (c .before .before .before .before .loop .inv .2 ∙ rw (rest-cons (wantsLine (tabled (c .before .before .before .before .before .before .before .args .figures) (c .before .before .before .before .before .before .before .args .tags)) (c .before .before .before .before .before .before .before .args .h)) noLoad (c .before .before .before .before .before .before .before .args .t4) (c .before .before .before .before .loop .j) (omega arith), sym (c .before .wants-line .ensures) ∙ c .if2 .taken))
-    ∙ cond-then _ _ (c .before .before .before .before .loop .inv .1)
+    let args = c .before .before .before .before .before .before .before .args in
+    let loop = c .before .before .before .before .loop in
+    let wanting = wantsLine (tabled (args .figures) (args .tags)) (args .h) in
+    sym (loop .inv .2 ∙ rw (rest-cons wanting noLoad (args .t4) (loop .j) (omega arith), sym (c .before .wants-line .ensures) ∙ c .if2 .taken))
+    ∙ cond-then _ _ (loop .inv .1)
 
 add-j : tie.Need-add-j Inv-loop μ-loop
 add-j c = search needs
@@ -59,14 +62,21 @@ loop-again : tie.Need-loop-again Inv-loop μ-loop
 unfolding first
 loop-again c =
     let long : length (c .before .before .before .before .before .before .before .args .t4) ≡ 8 = search needs in
-    (search needs, c .before .before .before .before .loop .inv .1, c .before .before .before .before .loop .inv .2 ∙ rw (rest-cons (wantsLine (tabled (c .before .before .before .before .before .before .before .args .figures) (c .before .before .before .before .before .before .before .args .tags)) (c .before .before .before .before .before .before .before .args .h)) noLoad (c .before .before .before .before .before .before .before .args .t4) (c .before .before .before .before .loop .j) (omega arith), sym (c .before .wants-line .ensures) ∙ c .if2 .left))
+    let small : c .before .before .before .before .loop .j + 1 ≤ 8 = search needs in
+    let args = c .before .before .before .before .before .before .before .args in
+    let loop = c .before .before .before .before .loop in
+    let wanting = wantsLine (tabled (args .figures) (args .tags)) (args .h) in
+    (small, loop .inv .1, loop .inv .2 ∙ rw (rest-cons wanting noLoad (args .t4) (loop .j) (omega arith), sym (c .before .wants-line .ensures) ∙ c .if2 .left))
 
 returns-3 : tie.Need-returns-3 Inv-loop μ-loop
 unfolding first
 returns-3 c =
     let long : length (c .before .before .before .before .args .t4) ≡ 8 = search needs in
-    sym (c .before .loop .inv .2 ∙ rw (rest-none (wantsLine (tabled (c .before .before .before .before .args .figures) (c .before .before .before .before .args .tags)) (c .before .before .before .before .args .h)) noLoad (c .before .before .before .before .args .t4) (c .before .loop .j) (omega arith)))
-    ∙ cond-then _ _ (c .before .loop .inv .1)
+    let args = c .before .before .before .before .args in
+    let loop = c .before .loop in
+    let wanting = wantsLine (tabled (args .figures) (args .tags)) (args .h) in
+    sym (loop .inv .2 ∙ rw (rest-none wanting noLoad (args .t4) (loop .j) (omega arith)))
+    ∙ cond-then _ _ (loop .inv .1)
 
 pub lowest-wanting-spec : {M : Type 1} → statement M
 lowest-wanting-spec =

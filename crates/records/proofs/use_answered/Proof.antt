@@ -3,7 +3,7 @@ use borrow.Author.Needs.{needs}
 use mathlib.Core.Path.{_≡_, refl, sym, _∙_}
 use mathlib.Core.Bool.{true}
 use native.Mathlib.Omega.{arith}
-use Prim.Native.Nat.{_-_, _≤_}
+use Prim.Native.Nat.{_+_, _-_, _≤_}
 use lib.ListN.{length, drop}
 use Rattle.lists.specs.Padded.{filter}
 use Rattle.lists.proofs.Cond.{cond-then, cond-else}
@@ -56,7 +56,11 @@ loop-again : tie.Need-loop-again Inv-loop μ-loop
 unfolding lineOf
 loop-again c =
     let long : length (c .before .before .before .before .before .before .before .before .before .args .t3) ≡ 8 = search needs in
-    (search needs, c .before .before .before .before .before .before .loop .inv .1, c .before .before .before .before .before .before .loop .inv .2 ∙ rw (rest-cons (answeredBy (c .before .before .before .before .before .before .before .before .before .args .k)) noLoad (c .before .before .before .before .before .before .before .before .before .args .t3) (c .before .before .before .before .before .before .loop .j) (omega arith)) (answered-step _ _ _ _ _ (sym (c .before .before .before .is-answered-by .ensures) ∙ c .before .before .if2 .taken) ∙ rw (c .use-line .ensures ∙ sym (cond-then _ _ (c .before .before .before .before .before .before .loop .inv .1)))))
+    let small : c .before .before .before .before .before .before .loop .j + 1 ≤ 8 = search needs in
+    let args = c .before .before .before .before .before .before .before .before .before .args in
+    let loop = c .before .before .before .before .before .before .loop in
+    let answered = sym (c .before .before .before .is-answered-by .ensures) ∙ c .before .before .if2 .taken in
+    (small, loop .inv .1, loop .inv .2 ∙ rw (rest-cons (answeredBy (args .k)) noLoad (args .t3) (loop .j) (omega arith)) (answered-step _ _ _ _ _ answered ∙ rw (c .use-line .ensures ∙ sym (cond-then _ _ (loop .inv .1)))))
 
 loop-less-2 : tie.Need-loop-less-2 Inv-loop μ-loop
 loop-less-2 c = search needs
@@ -64,13 +68,18 @@ loop-less-2 c = search needs
 loop-again-2 : tie.Need-loop-again-2 Inv-loop μ-loop
 loop-again-2 c =
     let long : length (c .before .before .before .before .before .before .before .args .t3) ≡ 8 = search needs in
-    (search needs, c .before .before .before .before .loop .inv .1, c .before .before .before .before .loop .inv .2 ∙ rw (rest-cons (answeredBy (c .before .before .before .before .before .before .before .args .k)) noLoad (c .before .before .before .before .before .before .before .args .t3) (c .before .before .before .before .loop .j) (omega arith)) (other-step _ _ _ _ _ (sym (c .before .is-answered-by .ensures) ∙ c .if2 .left)))
+    let small : c .before .before .before .before .loop .j + 1 ≤ 8 = search needs in
+    let args = c .before .before .before .before .before .before .before .args in
+    let loop = c .before .before .before .before .loop in
+    (small, loop .inv .1, loop .inv .2 ∙ rw (rest-cons (answeredBy (args .k)) noLoad (args .t3) (loop .j) (omega arith)) (other-step _ _ _ _ _ (sym (c .before .is-answered-by .ensures) ∙ c .if2 .left)))
 
 returns-2 : tie.Need-returns-2 Inv-loop μ-loop
 unfolding filter useEach
 returns-2 c =
     let long : length (c .before .before .before .before .args .t3) ≡ 8 = search needs in
-    sym (c .before .loop .inv .2 ∙ rw (rest-none (answeredBy (c .before .before .before .before .args .k)) noLoad (c .before .before .before .before .args .t3) (c .before .loop .j) (omega arith))) ∙ cond-then _ _ (c .before .loop .inv .1)
+    let args = c .before .before .before .before .args in
+    let loop = c .before .loop in
+    sym (loop .inv .2 ∙ rw (rest-none (answeredBy (args .k)) noLoad (args .t3) (loop .j) (omega arith))) ∙ cond-then _ _ (loop .inv .1)
 
 pub use-answered-spec : {M : Type 1} → statement M
 use-answered-spec =
