@@ -1,3 +1,4 @@
 pub mod ShownPart
 pub mod CallNumbers
 pub mod Outcomes
+pub mod Batches

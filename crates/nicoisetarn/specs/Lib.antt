@@ -1,3 +1,4 @@
 pub mod Answers
 pub mod Steps
+pub mod Batch
 pub mod Claims

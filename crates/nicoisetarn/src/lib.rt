@@ -2,10 +2,12 @@
 // An image that stands for no state is refused and never repaired. Calls and answers go by numbers.
 ghost use mathlib.Core.Path.{_≡_};
 ghost use Rattle.nicoisetarn.specs.Steps.{leftOf, started, stepped, lineShown};
+ghost use Rattle.nicoisetarn.specs.Batch.{batchLeft, ran};
 ghost use Rattle.nicoisetarn.specs.Claims.{RefusedImagesKept, UnknownCallsKept, LooksKept};
 use images::Image;
 
 mod answers;
+mod batch;
 mod steps;
 
 // ---- calls by numbers, each with its operands (specs/Answers.antt)
@@ -65,8 +67,17 @@ pub const KIND_FLUSHED: u32 = 10;
 pub const KIND_SHOWN: u32 = 11;
 // an accepted start
 pub const KIND_READY: u32 = 12;
-// There is no such call: the boundary's own, no answer of 01. Kinds from 13 on are free for answers to come.
+// A batch was made: the boundary's own, as the next. Kinds from 13 to 253 are free for answers to come.
+pub const KIND_RAN: u32 = 254;
+// There is no such call: the boundary's own, no answer of 01.
 pub const KIND_NO_SUCH_CALL: u32 = 255;
+
+// ---- lists of calls and of answers (specs/Batch.antt)
+
+// How many numbers a call of a batch has: its number, three operands, and two that no call has yet, which are 0.
+pub const CALL_NUMBERS: usize = 6;
+// How many numbers an answer has: its three, and three zeros.
+pub const ANSWER_NUMBERS: usize = 6;
 
 // What a call hands back by value: its answer and the next image.
 pub struct ImageStep {
@@ -106,6 +117,23 @@ pub extern "C" fn nicoisetarn_step_in(
     ensures { λ r. ⌜ leftOf (record { answer = r; next = now (image .exit) }) (now (cache .exit)) (now (memory .exit)) ≡ stepped call x y z (now (image .entry)) (now (cache .entry)) (now (memory .entry)) ⌝ }
 {
     let r = steps::step_image(*image, call, x, y, z, cache, memory);
+    *image = r.next;
+    r.answer
+}
+
+// A batch: the calls of a list, one after the other, each of six numbers, with six numbers for each answer. The image is opened, tested
+// and made once. For lists whose lengths do not fit the answer is that of an unknown call, and nothing is looked at.
+#[no_mangle]
+pub extern "C" fn nicoisetarn_run_in(
+    image: &mut Image,
+    calls: &[u32],
+    answers: &mut [u32],
+    cache: &mut [u8],
+    memory: &mut [u8],
+) -> AnswerImage
+    ensures { λ r. ⌜ batchLeft (record { answer = r; next = now (image .exit) }) (now (answers .exit)) (now (cache .exit)) (now (memory .exit)) ≡ ran (now (calls .entry)) (now (answers .entry)) (now (image .entry)) (now (cache .entry)) (now (memory .entry)) ⌝ }
+{
+    let r = batch::run_image(*image, calls, answers, cache, memory);
     *image = r.next;
     r.answer
 }

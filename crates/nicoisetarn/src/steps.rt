@@ -104,7 +104,7 @@ fn step_state(
 }
 
 // Why a call on an image that stands for no state is refused.
-fn image_refusal(image: Image, cache: &[u8], memory: &[u8]) -> u32
+pub(crate) fn image_refusal(image: Image, cache: &[u8], memory: &[u8]) -> u32
     ensures { λ r. ⌜ r ≡ imageRefusal image (now (cache .entry)) (now (memory .entry)) ⌝ }
 {
     let figures = Figures {
@@ -118,7 +118,7 @@ fn image_refusal(image: Image, cache: &[u8], memory: &[u8]) -> u32
 }
 
 // A call that is refused with k; show line names no refusal.
-fn refused_with(call: Call, k: u32) -> AnswerImage
+pub(crate) fn refused_with(call: Call, k: u32) -> AnswerImage
     ensures { λ r. ⌜ r ≡ imagedAnswer (refusal (callOf call) k) ⌝ }
 {
     if let Call::Show(_) = call {
