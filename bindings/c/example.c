@@ -365,26 +365,28 @@ static void check_batch_lengths(void) {
     CHECK(memcmp(answers, untouched, sizeof answers) == 0);
 }
 
-/* On a damaged image every call has the refusal for an answer, show line the empty part. */
+/* On a damaged image every call has the refusal for an answer, show line the empty part; what is no call stays none. */
 static void check_batch_refused(void) {
     bench b, before;
     nicoisetarn_unit unit = lent(&b);
-    uint32_t calls[4 * NICOISETARN_CALL_NUMBERS], answers[4 * NICOISETARN_ANSWER_NUMBERS];
+    uint32_t calls[5 * NICOISETARN_CALL_NUMBERS], answers[5 * NICOISETARN_ANSWER_NUMBERS];
     memset(answers, UNTOUCHED, sizeof answers);
     nicoisetarn_put_call(calls, 0, NICOISETARN_CALL_STORE, 0, 1, 256);
     nicoisetarn_put_call(calls, 1, NICOISETARN_CALL_SHOW_LINE, 16, 0, 0);
-    nicoisetarn_put_call(calls, 2, NICOISETARN_CALL_IDLE, 0, 0, 0);
-    nicoisetarn_put_call(calls, 3, NICOISETARN_CALL_IDLE, 0, 0, 0);
-    calls[3 * NICOISETARN_CALL_NUMBERS + 5] = 1;
+    for (size_t place = 2; place < 5; place++) {
+        nicoisetarn_put_call(calls, place, NICOISETARN_CALL_IDLE, 0, 0, 0);
+    }
+    calls[3 * NICOISETARN_CALL_NUMBERS + 4] = 1;
+    calls[4 * NICOISETARN_CALL_NUMBERS + 5] = 1;
     make_busy(&b);
     b.image.nicoisetarn_words[NICOISETARN_AT_REQUESTED / 4] = 2;
     before = b;
-    CHECK(same(nicoisetarn_run(&unit, calls, answers, 4), NICOISETARN_KIND_RAN, 0, 0));
-    const nicoisetarn_answer refused = {NICOISETARN_KIND_REFUSED, NICOISETARN_REFUSED_STATE, 0};
-    check_answer(answers, 0, refused);
+    CHECK(same(nicoisetarn_run(&unit, calls, answers, 5), NICOISETARN_KIND_RAN, 0, 0));
+    check_answer(answers, 0, (nicoisetarn_answer){NICOISETARN_KIND_REFUSED, NICOISETARN_REFUSED_STATE, 0});
     check_answer(answers, 1, (nicoisetarn_answer){NICOISETARN_KIND_SHOWN, 0, 0});
-    check_answer(answers, 2, refused);
+    check_answer(answers, 2, (nicoisetarn_answer){NICOISETARN_KIND_REFUSED, NICOISETARN_REFUSED_STATE, 0});
     check_answer(answers, 3, (nicoisetarn_answer){NICOISETARN_KIND_NO_SUCH_CALL, 0, 0});
+    check_answer(answers, 4, (nicoisetarn_answer){NICOISETARN_KIND_NO_SUCH_CALL, 0, 0});
     CHECK(memcmp(&b, &before, sizeof b) == 0);
 }
 
