@@ -9,9 +9,9 @@ mod numbered;
 
 use beside::{times, Bench, Beside};
 use compare::random::{self, Mix, Rng, Run};
-use compare::types::{Answer, Call, Setup};
+use compare::types::{Answer, Setup};
 use nicoisetarn::{Answer as Ours, Batch, Call as Made, Figures, Image, Refusal, Unit};
-use numbered::{Six, NOT_ANSWERED};
+use numbered::{Six, NOT_ANSWERED, UNTOUCHED};
 
 /// What a run led to, call by call on the library and on the model.
 fn one_by_one(run: &Run) -> Result<(Vec<Answer>, Bench), String> {
@@ -45,7 +45,7 @@ fn check_run(run: &Run, rng: &mut Rng, longest: u64) -> Result<(), String> {
 }
 
 #[test]
-fn short_runs() {
+fn short_runs_in_lists() {
     for seed in 0..1_000 * times() {
         let mut rng = Rng::new(seed ^ 0xBA7C_0000);
         if let Err(what) = check_run(&random::run(seed ^ 0xBA7C_4000), &mut rng, 20) {
@@ -55,7 +55,7 @@ fn short_runs() {
 }
 
 #[test]
-fn long_runs() {
+fn long_runs_in_lists() {
     let setups = [Setup::new(1, 1, 16), Setup::new(4, 3, 512), Setup::new(64, 4, 65536)];
     let mut rng = Rng::new(0x10_BA7C);
     for setup in setups.repeat(times() as usize) {
@@ -116,19 +116,17 @@ fn lengths_that_do_not_fit() {
     let (image, cache, memory) = started().into_parts();
     let calls = [1, 0, 1, 5, 0, 0].repeat(4);
     for (called, answered) in (0..=24).flat_map(|called| (0..=24).map(move |it| (called, it))) {
-        let (mut image_after, mut cache_after) = (image.clone(), cache.clone());
-        let (mut memory_after, mut answers) = (memory.clone(), vec![0xA5A5_A5A5; answered]);
-        let calls = &calls[..called];
-        let parts = (&mut image_after, &mut cache_after, &mut memory_after);
-        let told = numbered::run(parts.0, calls, &mut answers, parts.1, parts.2);
+        let (mut after, mut cached, mut stored) = (image.clone(), cache.clone(), memory.clone());
+        let mut answers = vec![UNTOUCHED; answered];
+        let list = &calls[..called];
+        let told = numbered::run(&mut after, list, &mut answers, &mut cached, &mut stored);
         if called % 6 == 0 && answered == called {
-            assert_eq!(told, numbered::RAN);
-            assert_eq!(image_after.last() as usize, called / 6);
+            assert_eq!((told, after.last() as usize), (numbered::RAN, called / 6));
             continue;
         }
         assert_eq!(told, numbered::NO_SUCH_CALL, "{called} {answered}");
-        assert_eq!((&image_after, &cache_after, &memory_after), (&image, &cache, &memory));
-        assert!(answers.iter().all(|number| *number == 0xA5A5_A5A5), "{called} {answered}");
+        assert_eq!((&after, &cached, &stored), (&image, &cache, &memory));
+        assert_eq!(answers, vec![UNTOUCHED; answered], "{called}");
     }
 }
 
@@ -166,7 +164,7 @@ fn line_shown_on_the_way() {
 
 /// Operands that a call does not take are not looked at.
 #[test]
-fn operands_not_taken() {
+fn operands_not_taken_in_a_list() {
     let taken = [2, 3, 1, 1, 1, 0, 0, 0, 1];
     for (call, taken) in (0..).zip(taken) {
         let made = [0, u32::MAX].map(|not_taken| {

@@ -23,6 +23,8 @@ pub const RAN: Numbers = Numbers { kind: 254, first: 0, second: 0 };
 pub type Six = [u32; 6];
 /// What a batch has for a call that is none.
 pub const NOT_ANSWERED: Six = [255, 0, 0, 0, 0, 0];
+/// A number that is in no answer, to see what is written.
+pub const UNTOUCHED: u32 = 0xA5A5_A5A5;
 
 extern "C" {
     fn nicoisetarn_step_in(
@@ -89,8 +91,7 @@ pub fn run(
 
 /// A batch whose lengths fit: its answers.
 pub fn run_list(image: &mut Image, cache: &mut [u8], memory: &mut [u8], calls: &[Six]) -> Vec<Six> {
-    // What stood in the answers before must not matter.
-    let mut answers = vec![0xA5A5_A5A5; calls.len() * 6];
+    let mut answers = vec![UNTOUCHED; calls.len() * 6];
     let ran = run(image, &calls.concat(), &mut answers, cache, memory);
     assert_eq!(ran, RAN);
     answers.chunks_exact(6).map(|answer| answer.try_into().unwrap()).collect()
