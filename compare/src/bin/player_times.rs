@@ -228,33 +228,40 @@ fn repeated_table(measuring: &Measuring) -> Result<(), String> {
     Ok(())
 }
 
-/// Prints the tables.
-fn tables(read: Arguments) -> Result<(), String> {
-    let measuring = Measuring::new(read)?;
-    let (rounds, lines) = (measuring.read.rounds, measuring.read.lines);
-    let Times { ours, checked, unchecked } = measuring.empty;
-    println!(
-        "Medians of {rounds} rounds. Taken off: an empty script, {:.2} ms of the program, {:.2} and \
-         {:.2} of Rust.",
-        1e3 * ours,
-        1e3 * checked,
-        1e3 * unchecked
-    );
-    head("mixed calls");
-    for setup in SETUPS {
-        measuring.row(&name(setup), &mixed(setup, lines))?;
-    }
-    repeated_table(&measuring)?;
+/// How the cost of a line goes with the number of lines and with the geometry.
+fn growth_tables(measuring: &Measuring) -> Result<(), String> {
+    let lines = measuring.read.lines;
     head("mixed calls: by the number of lines");
-    for (setup, part) in SETUPS.into_iter().flat_map(|setup| [100, 10, 1].map(|part| (setup, part)))
-    {
-        measuring.row(&name(setup), &mixed(setup, (lines / part).max(1)))?;
+    for setup in SETUPS {
+        for part in [100, 10, 1] {
+            measuring.row(&name(setup), &mixed(setup, (lines / part).max(1)))?;
+        }
     }
     head("mixed calls: by the geometry");
     for setup in GEOMETRIES {
         measuring.row(&name(setup), &mixed(setup, lines))?;
     }
     Ok(())
+}
+
+/// Prints the tables.
+fn tables(read: Arguments) -> Result<(), String> {
+    let measuring = Measuring::new(read)?;
+    let Times { ours, checked, unchecked } = measuring.empty;
+    println!(
+        "Medians of {} rounds. Taken off: an empty script, {:.2} ms of the program, {:.2} and \
+         {:.2} of Rust.",
+        measuring.read.rounds,
+        1e3 * ours,
+        1e3 * checked,
+        1e3 * unchecked
+    );
+    head("mixed calls");
+    for setup in SETUPS {
+        measuring.row(&name(setup), &mixed(setup, measuring.read.lines))?;
+    }
+    repeated_table(&measuring)?;
+    growth_tables(&measuring)
 }
 
 fn main() -> ExitCode {
