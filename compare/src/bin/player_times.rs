@@ -6,6 +6,8 @@
 //! `player_times PROGRAM [--lines N] [--rounds N]` prints the tables: the medians of
 //! so many rounds, in which the players take turns. The Rust players are this
 //! program itself, started once more as `player_times --play` and `--play-unchecked`.
+//! Fewer lines than a million are for trying it out: the processor's time comes in
+//! steps of 0.01 s.
 
 use std::fs::{self, File};
 use std::io;
