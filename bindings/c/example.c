@@ -1,6 +1,7 @@
 /*
- * A bench in C: plays the scope paper's worked script by calls and prints what the script player prints for
- * it, then checks the boundary: words, what the image tells, refused calls, numbers that no call has, and show line.
+ * A bench in C: plays the scope paper's worked script by calls and prints what the script player prints for it, then
+ * a batch and its answers. It checks the boundary: words, what the image tells, refused calls, numbers that no call
+ * has, show line, and batches.
  * Exits with 1, and a line on standard error, where a check fails.
  */
 #include "nicoisetarn.h"
@@ -37,18 +38,21 @@ static int numbers_of(uint32_t kind) {
     switch (kind) {
     case NICOISETARN_KIND_IDLE:
     case NICOISETARN_KIND_READY:
+    case NICOISETARN_KIND_RAN:
+    case NICOISETARN_KIND_NO_SUCH_CALL:
         return 0;
     case NICOISETARN_KIND_VALUE:
+    case NICOISETARN_KIND_SHOWN:
         return 2;
     default:
         return 1;
     }
 }
 
-/* Prints an answer as the script player does. */
+/* Prints an answer, as the script player does where it has one. */
 static void print(nicoisetarn_answer answer) {
     const uint32_t numbers[] = {answer.first, answer.second};
-    CHECK(answer.kind <= NICOISETARN_KIND_READY && answer.kind != NICOISETARN_KIND_SHOWN);
+    CHECK(*nicoisetarn_kind_word(answer.kind) != '\0');
     fputs(nicoisetarn_kind_word(answer.kind), stdout);
     for (int place = 0; place < numbers_of(answer.kind); place++) {
         printf(" %lu", (unsigned long)numbers[place]);
@@ -81,12 +85,41 @@ static void play(bench *b) {
     print(nicoisetarn_load(&unit, 5, 1));    /* L 5 1 */
 }
 
+/* ---- a batch, printed */
+
+static const uint32_t listed[] = {
+    NICOISETARN_CALL_STORE, 4, 1, 7, 0, 0,
+    NICOISETARN_CALL_LOAD, 4, 1, 0, 0, 0,
+    NICOISETARN_CALL_LOAD, 4, 3, 0, 0, 0,          /* refused: 3 is no width */
+    NICOISETARN_CALL_SHOW_LINE + 1, 4, 1, 0, 0, 0, /* no such call */
+    NICOISETARN_CALL_COMMIT, 2, 0, 0, 0, 0,
+    NICOISETARN_CALL_IDLE, 0, 0, 0, 0, 0,
+    NICOISETARN_CALL_REPLY, 0, 0, 0, 0, 0,
+    NICOISETARN_CALL_IDLE, 0, 0, 0, 0, 0,
+    NICOISETARN_CALL_FLUSH, 0, 0, 0, 0, 0,
+    NICOISETARN_CALL_SHOW_LINE, 4, 0, 0, 0, 0,
+};
+
+enum { LISTED = sizeof listed / sizeof *listed / NICOISETARN_CALL_NUMBERS };
+
+static void play_batch(bench *b) {
+    uint32_t answers[LISTED * NICOISETARN_ANSWER_NUMBERS] = {0};
+    nicoisetarn_unit unit = lent(b);
+    print(start(b));
+    print(nicoisetarn_run(&unit, listed, answers, LISTED));
+    for (size_t place = 0; place < LISTED; place++) {
+        print(nicoisetarn_answer_at(answers, place));
+    }
+    CHECK(nicoisetarn_shown(&unit, nicoisetarn_answer_at(answers, LISTED - 1))[4] == 7);
+}
+
 /* ---- words */
 
 /* Each kind and each refusal has words; other numbers have none. */
 static void check_words(void) {
     for (uint32_t kind = 0; kind < 300; kind++) {
-        const int known = kind <= NICOISETARN_KIND_READY || kind == NICOISETARN_KIND_NO_SUCH_CALL;
+        const int known = kind <= NICOISETARN_KIND_READY || kind == NICOISETARN_KIND_RAN ||
+                          kind == NICOISETARN_KIND_NO_SUCH_CALL;
         CHECK((*nicoisetarn_kind_word(kind) != '\0') == known);
     }
     for (uint32_t number = 0; number < 300; number++) {
@@ -282,9 +315,85 @@ static void check_shown_of_const(void) {
                NICOISETARN_KIND_SHOWN, 0, 16));
 }
 
+/* ---- batches */
+
+/* Answers that no batch gives. */
+enum { UNTOUCHED = 0xA5 };
+
+/* The answer in a place is this, and its last three numbers are 0. */
+static void check_answer(const uint32_t *answers, size_t place, nicoisetarn_answer wanted) {
+    CHECK(same(nicoisetarn_answer_at(answers, place), wanted.kind, wanted.first, wanted.second));
+    for (size_t number = 3; number < NICOISETARN_ANSWER_NUMBERS; number++) {
+        CHECK(answers[NICOISETARN_ANSWER_NUMBERS * place + number] == 0);
+    }
+}
+
+/* The batch that is printed, beside the same calls one by one. */
+static void check_batch(void) {
+    bench b, single;
+    nicoisetarn_unit unit = lent(&b);
+    uint32_t answers[LISTED * NICOISETARN_ANSWER_NUMBERS];
+    memset(answers, UNTOUCHED, sizeof answers);
+    CHECK(start(&b).kind == NICOISETARN_KIND_READY && start(&single).kind == NICOISETARN_KIND_READY);
+    CHECK(same(nicoisetarn_run(&unit, listed, answers, LISTED), NICOISETARN_KIND_RAN, 0, 0));
+    for (size_t place = 0; place < LISTED; place++) {
+        const uint32_t *call = listed + NICOISETARN_CALL_NUMBERS * place;
+        check_answer(answers, place,
+                     nicoisetarn_step_in(&single.image, call[0], call[1], call[2], call[3], single.cache,
+                                         sizeof single.cache, single.memory, sizeof single.memory));
+    }
+    CHECK(memcmp(&b, &single, sizeof b) == 0);
+}
+
+/* Lengths that do not fit change nothing, the answers neither; an empty list runs. */
+static void check_batch_lengths(void) {
+    const size_t lengths[][2] = {{0, 6}, {6, 0}, {5, 5}, {6, 12}, {7, 7}, {12, 6}, {6, 5}};
+    bench b, before;
+    uint32_t answers[12], untouched[12];
+    memset(answers, UNTOUCHED, sizeof answers);
+    memcpy(untouched, answers, sizeof answers);
+    make_busy(&b);
+    before = b;
+    for (size_t place = 0; place < sizeof lengths / sizeof *lengths; place++) {
+        CHECK(same(nicoisetarn_run_in(&b.image, listed, lengths[place][0], answers, lengths[place][1], b.cache,
+                                      sizeof b.cache, b.memory, sizeof b.memory),
+                   NICOISETARN_KIND_NO_SUCH_CALL, 0, 0));
+    }
+    nicoisetarn_unit unit = lent(&b);
+    CHECK(same(nicoisetarn_run(&unit, listed, answers, 0), NICOISETARN_KIND_RAN, 0, 0));
+    CHECK(memcmp(&b, &before, sizeof b) == 0);
+    CHECK(memcmp(answers, untouched, sizeof answers) == 0);
+}
+
+/* On a damaged image every call has the refusal for an answer, show line the empty part; what is no call stays none. */
+static void check_batch_refused(void) {
+    bench b, before;
+    nicoisetarn_unit unit = lent(&b);
+    uint32_t calls[5 * NICOISETARN_CALL_NUMBERS], answers[5 * NICOISETARN_ANSWER_NUMBERS];
+    memset(answers, UNTOUCHED, sizeof answers);
+    nicoisetarn_put_call(calls, 0, NICOISETARN_CALL_STORE, 0, 1, 256);
+    nicoisetarn_put_call(calls, 1, NICOISETARN_CALL_SHOW_LINE, 16, 0, 0);
+    for (size_t place = 2; place < 5; place++) {
+        nicoisetarn_put_call(calls, place, NICOISETARN_CALL_IDLE, 0, 0, 0);
+    }
+    calls[3 * NICOISETARN_CALL_NUMBERS + 4] = 1;
+    calls[4 * NICOISETARN_CALL_NUMBERS + 5] = 1;
+    make_busy(&b);
+    b.image.nicoisetarn_words[NICOISETARN_AT_REQUESTED / 4] = 2;
+    before = b;
+    CHECK(same(nicoisetarn_run(&unit, calls, answers, 5), NICOISETARN_KIND_RAN, 0, 0));
+    check_answer(answers, 0, (nicoisetarn_answer){NICOISETARN_KIND_REFUSED, NICOISETARN_REFUSED_STATE, 0});
+    check_answer(answers, 1, (nicoisetarn_answer){NICOISETARN_KIND_SHOWN, 0, 0});
+    check_answer(answers, 2, (nicoisetarn_answer){NICOISETARN_KIND_REFUSED, NICOISETARN_REFUSED_STATE, 0});
+    check_answer(answers, 3, (nicoisetarn_answer){NICOISETARN_KIND_NO_SUCH_CALL, 0, 0});
+    check_answer(answers, 4, (nicoisetarn_answer){NICOISETARN_KIND_NO_SUCH_CALL, 0, 0});
+    CHECK(memcmp(&b, &before, sizeof b) == 0);
+}
+
 int main(void) {
     bench b;
     play(&b);
+    play_batch(&b);
     check_words();
     check_image();
     check_refusals();
@@ -293,5 +402,8 @@ int main(void) {
     check_no_such_call();
     check_shown();
     check_shown_of_const();
+    check_batch();
+    check_batch_lengths();
+    check_batch_refused();
     return 0;
 }

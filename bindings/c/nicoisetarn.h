@@ -20,6 +20,16 @@
  *     nicoisetarn_reply(&unit);                  filled 16
  *     nicoisetarn_retry(&unit, 3);               value, number 3: the byte of memory
  *
+ * A batch is a list of calls, six numbers each, that the library makes one after the other. The unit is checked
+ * once for the list and not at each call, so a call of a long list costs less.
+ *
+ *     static const uint32_t calls[] = {NICOISETARN_CALL_STORE, 8, 1, 9, 0, 0,
+ *                                      NICOISETARN_CALL_LOAD, 8, 1, 0, 0, 0};
+ *     static uint32_t answers[2 * NICOISETARN_ANSWER_NUMBERS];
+ *
+ *     nicoisetarn_run(&unit, calls, answers, 2); ran
+ *     nicoisetarn_answer_at(answers, 1);         value, number 5: 9
+ *
  * Who owns what. The bench owns everything: the image of the unit's state, the cache bytes and the memory bytes.
  * A nicoisetarn_unit only says where they are. The library keeps nothing between calls, allocates nothing and may
  * be called from several threads on different units. Image, cache and memory can be copied and stored byte for
@@ -28,7 +38,8 @@
  * What the bench owes at each call. The three pointers are not NULL, also where a length is 0; they point to
  * initialised bytes that can be read and written, and that do not overlap; nobody else writes them during the
  * call. (A start only reads the memory, and nicoisetarn_show_line only reads all three.) The image's bytes may be
- * anything, also before a start.
+ * anything, also before a start. In a batch the calls and the answers are two more such pointers; the calls are only
+ * read, and may be any numbers.
  *
  * What a refusal means. A refused call has changed nothing: image, cache and memory are as before, byte for byte.
  * An image that is damaged, or was never started, is refused by every call but a start (show line gives the empty
@@ -100,7 +111,7 @@ NICOISETARN_ASSERT(sizeof(nicoisetarn_answer) == 12, "an answer has 12 bytes");
 NICOISETARN_ASSERT(offsetof(nicoisetarn_answer, first) == 4, "first stands behind kind");
 NICOISETARN_ASSERT(offsetof(nicoisetarn_answer, second) == 8, "second stands behind first");
 
-/* Kinds of answers, with what first and second are. Kinds from 13 on are free for answers to come. */
+/* Kinds of answers, with what first and second are. Kinds from 13 to 253 are free for answers to come. */
 typedef enum nicoisetarn_kind {
     NICOISETARN_KIND_REFUSED = 0,      /* a nicoisetarn_refusal */
     NICOISETARN_KIND_STORED = 1,       /* the store's number */
@@ -115,7 +126,8 @@ typedef enum nicoisetarn_kind {
     NICOISETARN_KIND_FLUSHED = 10,     /* the lines written to memory */
     NICOISETARN_KIND_SHOWN = 11,       /* the part's place in the cache, its length: 16, or 0 at place 0 */
     NICOISETARN_KIND_READY = 12,       /* an accepted start */
-    NICOISETARN_KIND_NO_SUCH_CALL = 255 /* nicoisetarn_step_in: no call has that number; nothing was looked at */
+    NICOISETARN_KIND_RAN = 254,        /* nicoisetarn_run_in: every call of the list has its answer */
+    NICOISETARN_KIND_NO_SUCH_CALL = 255 /* no call has that number, or a list has not that length: nothing changed */
 } nicoisetarn_kind;
 
 /*
@@ -155,7 +167,8 @@ static inline const char *nicoisetarn_kind_word(uint32_t kind) {
     case NICOISETARN_KIND_FLUSHED: return "flushed";
     case NICOISETARN_KIND_SHOWN: return "shown"; /* not printed by the player */
     case NICOISETARN_KIND_READY: return "ready";
-    case NICOISETARN_KIND_NO_SUCH_CALL: return "no such call"; /* nor is this */
+    case NICOISETARN_KIND_RAN: return "ran"; /* nor are these */
+    case NICOISETARN_KIND_NO_SUCH_CALL: return "no such call";
     default: return "";
     }
 }
@@ -182,7 +195,7 @@ static inline const char *nicoisetarn_refusal_words(uint32_t number) {
     }
 }
 
-/* Call numbers of nicoisetarn_step_in, with the operands that each takes. */
+/* Call numbers of nicoisetarn_step_in and of a batch, with the operands that each takes. */
 typedef enum nicoisetarn_call {
     NICOISETARN_CALL_LOAD = 0,     /* address, width */
     NICOISETARN_CALL_STORE = 1,    /* address, width, value */
@@ -194,6 +207,9 @@ typedef enum nicoisetarn_call {
     NICOISETARN_CALL_FLUSH = 7,    /* none */
     NICOISETARN_CALL_SHOW_LINE = 8 /* address */
 } nicoisetarn_call;
+
+#define NICOISETARN_CALL_NUMBERS 6   /* numbers of a call in a batch: the call's, x, y, z, and two that must be 0 */
+#define NICOISETARN_ANSWER_NUMBERS 6 /* numbers of an answer in a batch: kind, first, second, and three that are 0 */
 
 /* ---- the functions of the library; the calls by name, below, are what a bench wants */
 
@@ -210,6 +226,22 @@ nicoisetarn_answer nicoisetarn_step_in(nicoisetarn_image *image, uint32_t call,
                                        uint32_t x, uint32_t y, uint32_t z,
                                        uint8_t *cache, size_t cache_length,
                                        uint8_t *memory, size_t memory_length);
+
+/*
+ * A batch: calls made one after the other. Answers, image, cache and memory are those of nicoisetarn_step_in, call by
+ * call: a refused call changes nothing, and the list goes on. A call whose number no call has, or whose fifth or sixth
+ * number is not 0, is answered by NICOISETARN_KIND_NO_SUCH_CALL in its place, changes nothing, and the list goes on.
+ * Call k begins at calls[6 * k] and its answer at answers[6 * k]. The lengths count numbers: that of the calls must be
+ * a multiple of 6, and that of the answers the same. It answers NICOISETARN_KIND_RAN, with 0, 0, also for an empty
+ * list; where the lengths do not fit NICOISETARN_KIND_NO_SUCH_CALL, and nothing changes, the answers neither.
+ * Of a show line the answer is place and length. The bytes in the cache are those of that moment only if no later
+ * call of the list writes them: a bench that wants to see them ends its list there.
+ */
+nicoisetarn_answer nicoisetarn_run_in(nicoisetarn_image *image,
+                                      const uint32_t *calls, size_t calls_length,
+                                      uint32_t *answers, size_t answers_length,
+                                      uint8_t *cache, size_t cache_length,
+                                      uint8_t *memory, size_t memory_length);
 
 /* Show line on an image and bytes that are only read: what NICOISETARN_CALL_SHOW_LINE answers. */
 nicoisetarn_answer nicoisetarn_show_line_in(const nicoisetarn_image *image, uint32_t address,
@@ -335,6 +367,33 @@ static inline const uint8_t *nicoisetarn_shown(const nicoisetarn_unit *unit, nic
         return NULL;
     }
     return unit->cache + shown.first;
+}
+
+/* ---- a batch */
+
+/* Writes a call of a batch in its place, counted from 0. Operands that the call does not take are not looked at. */
+static inline void nicoisetarn_put_call(uint32_t *calls, size_t place, nicoisetarn_call call,
+                                        uint32_t x, uint32_t y, uint32_t z) {
+    const uint32_t numbers[NICOISETARN_CALL_NUMBERS] = {(uint32_t)call, x, y, z, 0, 0};
+    memcpy(calls + place * NICOISETARN_CALL_NUMBERS, numbers, sizeof numbers);
+}
+
+/*
+ * Makes count calls and writes as many answers: ran. nicoisetarn_run_in says how. The calls have at least
+ * count * NICOISETARN_CALL_NUMBERS numbers, and the answers count * NICOISETARN_ANSWER_NUMBERS.
+ */
+static inline nicoisetarn_answer nicoisetarn_run(nicoisetarn_unit *unit, const uint32_t *calls, uint32_t *answers,
+                                                 size_t count) {
+    return nicoisetarn_run_in(unit->image, calls, count * NICOISETARN_CALL_NUMBERS,
+                              answers, count * NICOISETARN_ANSWER_NUMBERS,
+                              unit->cache, unit->cache_length, unit->memory, unit->memory_length);
+}
+
+/* The answer to the call in a place, counted from 0. */
+static inline nicoisetarn_answer nicoisetarn_answer_at(const uint32_t *answers, size_t place) {
+    const uint32_t *numbers = answers + place * NICOISETARN_ANSWER_NUMBERS;
+    const nicoisetarn_answer answer = {numbers[0], numbers[1], numbers[2]};
+    return answer;
 }
 
 /* ---- what an image holds, to be printed or compared; these read whatever is there, refused or not */

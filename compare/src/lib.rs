@@ -20,6 +20,7 @@
 //! - `met`: what scripts met, and what they must meet.
 //! - `struck`: scripts with dropped stretches struck from them.
 //! - `arguments`: the command lines of the programs.
+//! - `times`: medians of what was timed.
 //!
 //! `cargo run --release --bin runs` plays random runs under all the checks,
 //! `cargo run --release --bin player` plays a script,
@@ -47,4 +48,5 @@ pub mod script;
 pub mod stored;
 pub mod stretch;
 pub mod struck;
+pub mod times;
 pub mod types;

@@ -3,7 +3,8 @@
 //! changes nothing when it refuses.
 //!
 //! `Right` is this machine and nothing else. Every call asks for its steps by
-//! `Self`, so that another machine can have one of them otherwise.
+//! `Self`, so that another machine can have one of them otherwise: `Unchecked` makes
+//! no check of the state.
 
 use std::ops::Range;
 
@@ -16,6 +17,16 @@ use crate::types::{
 pub struct Right;
 
 impl Machine for Right {}
+
+/// The right machine without checks 1 and 10, which no call of a run after a start
+/// fails: on a well-formed state the two are one. It is there to be timed.
+pub struct Unchecked;
+
+impl Machine for Unchecked {
+    fn refusal(_: &State, _: &[u8], _: &[u8]) -> Option<u32> {
+        None
+    }
+}
 
 /// The line number of an address.
 pub fn line_of(address: u32) -> u32 {

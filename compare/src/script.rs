@@ -259,11 +259,11 @@ pub fn play_stream(step: Step, mut input: impl BufRead, mut output: impl Write) 
     output.flush()
 }
 
-/// Plays standard input to standard output on the right model.
-pub fn play_standard() -> io::Result<()> {
+/// Plays standard input to standard output on a machine.
+pub fn play_standard(step: Step) -> io::Result<()> {
     let input = BufReader::with_capacity(1 << 16, io::stdin().lock());
     let output = BufWriter::with_capacity(1 << 16, io::stdout().lock());
-    play_stream(Right::step, input, output)
+    play_stream(step, input, output)
 }
 
 /// Plays a script held in memory on the right model. Any bytes are a script.

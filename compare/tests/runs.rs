@@ -5,6 +5,7 @@ use compare::counts::Counts;
 use compare::dropped;
 use compare::examine::{examine, Checks};
 use compare::fault::Fault;
+use compare::model::{Machine, Right, Unchecked};
 use compare::random::{self, Run};
 use compare::stretch::{self, Stretch};
 use compare::types::{Call, Figures};
@@ -20,6 +21,22 @@ fn right_model_passes() {
         }
     }
     assert_eq!(counts.lacking(), Vec::<String>::new());
+}
+
+/// Without checks 1 and 10 a run after a start is the same, call by call.
+#[test]
+fn unchecked_model_agrees() {
+    for seed in 0..400 {
+        let run = random::run(seed);
+        let (mut state, mut cache, mut memory) = run.begin(Right::step);
+        let (mut again, mut cached, mut stored) = run.begin(Unchecked::step);
+        for &call in &run.calls {
+            let answer = Right::step(&mut state, &mut cache, &mut memory, call);
+            let unchecked = Unchecked::step(&mut again, &mut cached, &mut stored, call);
+            assert_eq!(answer, unchecked, "seed {seed}, {call:?}");
+        }
+        assert!((state, cache, memory) == (again, cached, stored), "seed {seed}");
+    }
 }
 
 #[test]

@@ -1,9 +1,11 @@
 //! Times the calls of the proved library beside those of the Rust model, which
-//! makes the same checks at each call, and prints the tables.
+//! makes the same checks at each call, and prints the tables; then lists of calls
+//! (`batches`).
 //!
-//! `cargo bench -- [--rounds N] [--calls N]`: the best of so many rounds, which
-//! alternate, of so many calls each.
+//! `cargo bench -- [--rounds N] [--calls N] [--runs N]`: the best of so many rounds,
+//! which alternate, of so many calls each; for lists the medians of so many runs.
 
+mod batches;
 #[path = "../tests/beside/mod.rs"]
 mod beside;
 #[path = "../tests/numbered/mod.rs"]
@@ -38,16 +40,18 @@ const NO_CALL: &str = "no such call: nothing is looked at";
 struct Arguments {
     rounds: u64,
     calls: u64,
+    runs: u64,
 }
 
 /// Reads the command line; cargo adds a word of its own.
 fn read() -> Result<Arguments, String> {
-    let mut read = Arguments { rounds: 100, calls: 250 };
+    let mut read = Arguments { rounds: 100, calls: 250, runs: 5 };
     let words = std::env::args().skip(1).filter(|word| word != "--bench");
     arguments::numbers(words, |word, value| {
         match word {
             "--rounds" => read.rounds = value.max(1),
             "--calls" => read.calls = value.max(1),
+            "--runs" => read.runs = value.max(1),
             _ => return false,
         }
         true
@@ -425,7 +429,8 @@ fn tables(read: &Arguments) -> Result<(), String> {
          start, nothing is set back, and the best of each piece of {PIECE} calls counts.",
         read.rounds, read.calls
     );
-    SETUPS.into_iter().try_for_each(|setup| table(read, setup))
+    SETUPS.into_iter().try_for_each(|setup| table(read, setup))?;
+    batches::tables(read)
 }
 
 fn main() -> ExitCode {

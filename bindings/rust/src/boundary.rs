@@ -19,6 +19,7 @@ pub const KIND_FILLED: u32 = 9;
 pub const KIND_FLUSHED: u32 = 10;
 pub const KIND_SHOWN: u32 = 11;
 pub const KIND_READY: u32 = 12;
+pub const KIND_RAN: u32 = 254;
 
 // Calls by their numbers.
 pub const CALL_LOAD: u32 = 0;
@@ -30,6 +31,10 @@ pub const CALL_IDLE: u32 = 5;
 pub const CALL_REPLY: u32 = 6;
 pub const CALL_FLUSH: u32 = 7;
 pub const CALL_SHOW_LINE: u32 = 8;
+
+// Numbers of a call and of an answer in a batch.
+pub const CALL_NUMBERS: usize = 6;
+pub const ANSWER_NUMBERS: usize = 6;
 
 /// An answer, as the library lays it out.
 #[derive(Clone, Copy, Debug)]
@@ -63,6 +68,18 @@ extern "C" {
         x: u32,
         y: u32,
         z: u32,
+        cache: *mut u8,
+        cache_length: usize,
+        memory: *mut u8,
+        memory_length: usize,
+    ) -> AnswerImage;
+
+    fn nicoisetarn_run_in(
+        image: *mut Image,
+        calls: *const u32,
+        calls_length: usize,
+        answers: *mut u32,
+        answers_length: usize,
         cache: *mut u8,
         cache_length: usize,
         memory: *mut u8,
@@ -110,6 +127,37 @@ pub fn step(
     // not overlap; each slice goes with its own length; the library keeps no
     // pointer; any bytes are an image, and it writes whole images only.
     unsafe { nicoisetarn_step_in(image, call, x, y, z, cache, cache_length, memory, memory_length) }
+}
+
+/// A batch on an image: its calls and its answers in numbers.
+pub fn run(
+    image: &mut Image,
+    calls: &[u32],
+    answers: &mut [u32],
+    cache: &mut [u8],
+    memory: &mut [u8],
+) -> AnswerImage {
+    let (calls_length, answers_length) = (calls.len(), answers.len());
+    let (calls, answers) = (calls.as_ptr(), answers.as_mut_ptr());
+    let (cache_length, memory_length) = (cache.len(), memory.len());
+    let (cache, memory) = (cache.as_mut_ptr(), memory.as_mut_ptr());
+    // SAFETY: the five references are live and not null, and do not overlap, as all
+    // but the calls are exclusive; each slice goes with its own length; the library
+    // only reads the calls and keeps no pointer; any bytes are an image, and it
+    // writes whole images only.
+    unsafe {
+        nicoisetarn_run_in(
+            image,
+            calls,
+            calls_length,
+            answers,
+            answers_length,
+            cache,
+            cache_length,
+            memory,
+            memory_length,
+        )
+    }
 }
 
 /// Show line on an image and bytes that are only read.

@@ -1,6 +1,7 @@
 //! The calls on an image, with the cache and the memory lent to each of them.
 
 use crate::answers::{told, Answer, Refusal};
+use crate::batch::Batch;
 use crate::boundary;
 use crate::image::{Figures, Image};
 
@@ -29,7 +30,7 @@ pub enum Call {
 
 impl Call {
     /// The library's number of the call, and its operands.
-    fn numbered(self) -> (u32, [u32; 3]) {
+    pub(crate) fn numbered(self) -> (u32, [u32; 3]) {
         match self {
             Call::Load(address, width) => (boundary::CALL_LOAD, [address, width, 0]),
             Call::Store(address, width, value) => (boundary::CALL_STORE, [address, width, value]),
@@ -88,6 +89,26 @@ impl Image {
     ) -> Result<Answer, Refusal> {
         let (number, operands) = call.numbered();
         told(boundary::step(self, number, operands, cache, memory))
+    }
+
+    /// Calls one after the other, and their answers: all as by [`Image::call`], but
+    /// the state is checked once. A refused call changes nothing, and the list goes
+    /// on. Of a [`Call::ShowLine`] the answer says where in the cache the bytes stood;
+    /// a later call of the list may have written there.
+    pub fn run(
+        &mut self,
+        cache: &mut [u8],
+        memory: &mut [u8],
+        calls: &[Call],
+    ) -> Vec<Result<Answer, Refusal>> {
+        let mut batch = calls.iter().copied().collect();
+        self.run_batch(cache, memory, &mut batch);
+        batch.answers().collect()
+    }
+
+    /// The same of a batch, which then has the answers.
+    pub fn run_batch(&mut self, cache: &mut [u8], memory: &mut [u8], batch: &mut Batch) {
+        batch.run(self, cache, memory);
     }
 
     /// Show line: the present line's bytes in the lent cache. It is never refused,

@@ -35,6 +35,24 @@
 //! # Ok::<(), Refusal>(())
 //! ```
 //!
+//! Many calls cost less in one list, for which the state is checked once. A [`Batch`]
+//! keeps its list, to be run again without allocating.
+//!
+//! ```
+//! # use nicoisetarn::{Answer, Batch, Call, Figures, Refusal, Unit};
+//! # let mut unit = Unit::start(Figures { sets: 1, ways: 1 }, vec![0; 32])?;
+//! let answers = unit.run(&[Call::Store(4, 1, 7), Call::Load(4, 3), Call::Commit(1)]);
+//! assert_eq!(answers, [Ok(Answer::Stored(1)), Err(Refusal::Width), Ok(Answer::Committed(1))]);
+//!
+//! let mut batch: Batch = [Call::Load(4, 1), Call::Abort(2)].into_iter().collect();
+//! for _ in 0..3 {
+//!     unit.run_batch(&mut batch);
+//!     let value = Answer::Value { number: 2, value: 7 };
+//!     assert!(batch.answers().eq([Ok(value), Ok(Answer::Kept(1))]));
+//! }
+//! # Ok::<(), Refusal>(())
+//! ```
+//!
 //! A bench with a memory of its own lends it to each call, with the cache bytes and
 //! an [`Image`] of the state. The library keeps nothing between calls.
 //!
@@ -53,6 +71,7 @@
 #![deny(unsafe_code)]
 
 mod answers;
+mod batch;
 // The one place with code that the compiler has to be told is sound.
 #[allow(unsafe_code)]
 mod boundary;
@@ -61,6 +80,7 @@ mod image;
 mod unit;
 
 pub use answers::{Answer, Refusal};
+pub use batch::Batch;
 pub use calls::{Call, Part};
 pub use image::{
     Figures, HeldStore, Image, ListedLoad, Tag, LINE, LOADS, MAX_MEMORY, MAX_SETS, MAX_WAYS,

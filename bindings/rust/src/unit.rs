@@ -1,6 +1,7 @@
 //! The unit with all that it works on: its image, cache and memory.
 
 use crate::answers::{Answer, Refusal};
+use crate::batch::Batch;
 use crate::calls::{Call, Part};
 use crate::image::{Figures, Image, MAX_SETS, MAX_WAYS};
 
@@ -60,6 +61,19 @@ impl Unit {
     /// Any call but a start.
     pub fn call(&mut self, call: Call) -> Result<Answer, Refusal> {
         self.image.call(&mut self.cache, &mut self.memory, call)
+    }
+
+    /// Calls one after the other, and their answers: all as by [`Unit::call`], but the
+    /// state is checked once. A refused call changes nothing, and the list goes on. Of
+    /// a [`Call::ShowLine`] the answer says where in the cache the bytes stood; a later
+    /// call of the list may have written there.
+    pub fn run(&mut self, calls: &[Call]) -> Vec<Result<Answer, Refusal>> {
+        self.image.run(&mut self.cache, &mut self.memory, calls)
+    }
+
+    /// The same of a batch, which then has the answers.
+    pub fn run_batch(&mut self, batch: &mut Batch) {
+        self.image.run_batch(&mut self.cache, &mut self.memory, batch);
     }
 
     /// Load of width bytes: it takes the next number and joins the load queue. Each

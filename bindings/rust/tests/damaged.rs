@@ -1,6 +1,7 @@
 //! Calls on damaged benches: states that runs led to with one field damaged,
 //! images of random bytes, and lent buffers of wrong lengths. Each call is
-//! answered as the Rust model answers it, and a refused one changes nothing.
+//! answered as the Rust model answers it, and a refused one changes nothing; so it
+//! is with all calls in one list.
 //!
 //! NICOISETARN_TIMES=N in the environment makes N times as many calls.
 
@@ -10,7 +11,7 @@ mod numbered;
 use beside::{each_call, figures_agree, judge, odd_number, stands, times, Bench, Beside};
 use compare::counts::{refused, Counts};
 use compare::random::Rng;
-use compare::types::{Answer, Call};
+use compare::types::{Answer, Call, Part};
 use nicoisetarn::{Figures, Image, Refusal};
 
 /// Where a damage is done: fields of the image by the place of the first, how
@@ -141,7 +142,8 @@ fn play_no_call(bench: &mut Bench, rng: &mut Rng) -> numbered::Numbers {
 fn play_each(bench: &Bench, rng: &mut Rng, counts: &mut Counts) -> Result<Answer, String> {
     let mut beside = Beside::new(bench);
     let mut idle = Answer::Idle;
-    for call in each_call(&bench.image, rng) {
+    let calls = each_call(&bench.image, rng);
+    for call in calls {
         let answer = beside.play(call)?;
         count(counts, call, answer);
         if call == Call::Idle {
@@ -160,7 +162,39 @@ fn play_each(bench: &Bench, rng: &mut Rng, counts: &mut Counts) -> Result<Answer
     }
     counts.met("no such call", true);
     counts.met("image that stands for no state", !stands(&bench.image));
+    play_list(bench, &calls, idle)?;
+    counts.met("list refused", !idle.accepted());
+    counts.met("list accepted", idle.accepted());
     Ok(idle)
+}
+
+/// Plays calls in one list, between two that are none. Where an idle call is refused,
+/// by 1 or 10, so is each of them, and nothing changes; else all is as call by call.
+fn play_list(bench: &Bench, calls: &[Call], idle: Answer) -> Result<(), String> {
+    let mut beside = Beside::new(bench);
+    let (mut list, mut expected) = (vec![[9, 0, 1, 0, 0, 0]], vec![numbered::NOT_ANSWERED]);
+    for &call in calls {
+        let Some(numbers) = numbered::call_of(call) else {
+            continue;
+        };
+        list.push(numbers);
+        expected.push(numbered::answer_of(match (idle, call) {
+            (Answer::Refused(_), Call::ShowLine { .. }) => Answer::Shown(Part::default()),
+            (Answer::Refused(_), _) => idle,
+            _ => beside.play(call)?,
+        }));
+    }
+    list.push([5, 0, 0, 0, 1, 0]);
+    expected.push(numbered::NOT_ANSWERED);
+    let Bench { mut image, mut cache, mut memory } = bench.clone();
+    let seen = numbered::run_list(&mut image, &mut cache, &mut memory, &list);
+    if seen != expected {
+        return Err(format!("{list:?}: expected {expected:?}, seen {seen:?}"));
+    }
+    if (Bench { image, cache, memory }) != beside.library {
+        return Err(format!("{list:?}: image, cache or memory differs"));
+    }
+    Ok(())
 }
 
 /// Counts a call and its answer.
@@ -206,7 +240,7 @@ fn judge_fields(tallies: &[Tally]) {
 }
 
 /// What damaged fields must meet, out of so many calls.
-const NEEDED_OF_FIELDS: [(&str, u64); 19] = [
+const NEEDED_OF_FIELDS: [(&str, u64); 21] = [
     ("other call accepted", 40),
     ("accepted start", 100),
     ("line shown", 500),
@@ -217,6 +251,8 @@ const NEEDED_OF_FIELDS: [(&str, u64); 19] = [
     ("refused 4", 5_000),
     ("refused 5", 5_000),
     ("no such call", 20),
+    ("list refused", 30),
+    ("list accepted", 200),
     ("refused 10", 10),
     ("refused 11", 10_000),
     ("refused 12", 10_000),
@@ -374,6 +410,8 @@ fn lengths_beyond_32_bits() {
     let mut long = vec![0; beyond];
     assert_eq!(image.call(&mut long, &mut memory, load), Err(Refusal::Figures));
     assert_eq!(image.call(&mut cache, &mut long, load), Err(Refusal::Figures));
+    assert_eq!(image.run(&mut long, &mut memory, &[load]), [Err(Refusal::Figures)]);
+    assert_eq!(image.run(&mut cache, &mut long, &[load]), [Err(Refusal::Figures)]);
     assert_eq!(Image::start(figures, &mut long, &memory), Err(Refusal::Figures));
     assert_eq!(Image::start(figures, &mut cache, &long), Err(Refusal::Figures));
     assert!(image.show_line(&long, &memory, 0).bytes.is_empty());

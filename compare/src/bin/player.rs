@@ -2,8 +2,9 @@
 
 use std::io;
 
+use compare::model::{Machine, Right};
 use compare::script;
 
 fn main() -> io::Result<()> {
-    script::play_standard()
+    script::play_standard(Right::step)
 }

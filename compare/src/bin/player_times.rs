@@ -1,24 +1,42 @@
-//! Times a program that plays scripts beside the Rust player, and compares their
-//! outputs byte for byte. Both read a file and write a file. The time is the
-//! processor's, so that other work on the machine disturbs it little.
+//! Times a program that plays scripts beside the Rust player, with its checks and
+//! without checks 1 and 10, and compares their outputs byte for byte. All read a
+//! file and write a file. The time is the processor's, so that other work on the
+//! machine disturbs it little.
 //!
-//! `player_times PROGRAM [--lines N] [--rounds N]` prints the tables; the Rust
-//! player is this program itself, started once more as `player_times --play`.
+//! `player_times PROGRAM [--lines N] [--rounds N]` prints the tables: the medians of
+//! so many rounds, in which the players take turns. The Rust players are this
+//! program itself, started once more as `player_times --play` and `--play-unchecked`.
+//! Fewer lines than a million are for trying it out: the processor's time comes in
+//! steps of 0.01 s.
 
 use std::fs::{self, File};
+use std::io;
 use std::path::{Path, PathBuf};
 use std::process::{Command, ExitCode, Stdio};
 use std::time::Instant;
 
 use compare::arguments;
 use compare::long::plain_script;
+use compare::model::{Machine, Right, Unchecked};
 use compare::program::difference;
 use compare::random::{script_run, Mix, Rng};
 use compare::script;
-use compare::types::Setup;
+use compare::times::Times;
+use compare::types::{Setup, Step};
 
 /// A small cache that is crowded, and the largest one.
 const SETUPS: [Setup; 2] = [Setup::new(2, 2, 256), Setup::new(64, 4, 65536)];
+
+/// From the smallest to the largest.
+const GEOMETRIES: [Setup; 4] =
+    [Setup::new(1, 1, 16), Setup::new(4, 2, 1024), Setup::new(16, 4, 16384), SETUPS[1]];
+
+/// The words by which this program is a Rust player, and its machine.
+const CHECKED: (&str, Step) = ("--play", Right::step);
+const UNCHECKED: (&str, Step) = ("--play-unchecked", Unchecked::step);
+
+/// How often an empty script is played to learn what a player takes to begin and end.
+const EMPTY_PLAYS: usize = 200;
 
 /// The command line.
 struct Arguments {
@@ -31,7 +49,7 @@ struct Arguments {
 fn read() -> Result<Arguments, String> {
     let mut words = std::env::args().skip(1);
     let program = words.next().ok_or("wanted: PROGRAM [--lines N] [--rounds N]")?;
-    let mut read = Arguments { program: program.into(), lines: 1_000_000, rounds: 3 };
+    let mut read = Arguments { program: program.into(), lines: 1_000_000, rounds: 5 };
     arguments::numbers(words, |word, value| {
         match word {
             "--lines" => read.lines = value.max(1) as usize,
@@ -60,25 +78,32 @@ struct Files {
 }
 
 impl Files {
-    fn new() -> Result<Files, String> {
+    fn new() -> io::Result<Files> {
         let folder = std::env::temp_dir().join(format!("player_times_{}", std::process::id()));
-        fs::create_dir_all(&folder).map_err(|error| error.to_string())?;
+        fs::create_dir_all(&folder)?;
         Ok(Files { input: folder.join("script"), output: folder.join("output"), folder })
     }
 
-    /// Runs a player over the script in the input file: seconds, and the output.
-    fn timed(&self, player: &Path, word: Option<&str>) -> std::io::Result<(f64, Vec<u8>)> {
+    /// Runs a player over the script in the input file.
+    fn play(&self, player: &Path, word: Option<&str>) -> io::Result<()> {
         let (input, output) = (File::open(&self.input)?, File::create(&self.output)?);
         let mut command = Command::new(player);
         command.args(word).stdin(Stdio::from(input)).stdout(Stdio::from(output));
+        match command.status()? {
+            status if status.success() => Ok(()),
+            status => Err(io::Error::other(format!("{}: {status}", player.display()))),
+        }
+    }
+
+    /// Runs it so often: seconds for each time, and the output.
+    fn timed(&self, player: &Path, word: Option<&str>, plays: usize) -> io::Result<(f64, Vec<u8>)> {
         let (begun, ended) = (Instant::now(), ended_seconds());
-        let status = command.status()?;
+        for _ in 0..plays {
+            self.play(player, word)?;
+        }
         let on_clock = begun.elapsed().as_secs_f64();
         let seconds = ended_seconds().zip(ended).map_or(on_clock, |(now, then)| now - then);
-        if !status.success() {
-            return Err(std::io::Error::other(format!("{}: {status}", player.display())));
-        }
-        Ok((seconds, fs::read(&self.output)?))
+        Ok((seconds / plays as f64, fs::read(&self.output)?))
     }
 }
 
@@ -89,22 +114,73 @@ impl Drop for Files {
     }
 }
 
-/// Seconds of the program and of the Rust player over a script, the best of the
-/// rounds, which alternate.
-fn measure(read: &Arguments, files: &Files, script: &[u8]) -> Result<[f64; 2], String> {
-    let told = |error: std::io::Error| error.to_string();
+/// Seconds of each player for each play of a script, in rounds.
+fn measure(
+    read: &Arguments,
+    files: &Files,
+    script: &[u8],
+    plays: usize,
+) -> Result<Vec<Times>, String> {
+    let told = |error: io::Error| error.to_string();
     fs::write(&files.input, script).map_err(told)?;
     let this = std::env::current_exe().map_err(told)?;
-    let mut best = [f64::MAX; 2];
+    let mut rounds = Vec::new();
     for _ in 0..read.rounds {
-        let (program, seen) = files.timed(&read.program, None).map_err(told)?;
-        let (rust, expected) = files.timed(&this, Some("--play")).map_err(told)?;
-        if let Some(found) = difference(script, &expected, &seen) {
-            return Err(found.to_string());
+        let (ours, seen) = files.timed(&read.program, None, plays).map_err(told)?;
+        let (checked, expected) = files.timed(&this, Some(CHECKED.0), plays).map_err(told)?;
+        let (unchecked, other) = files.timed(&this, Some(UNCHECKED.0), plays).map_err(told)?;
+        for seen in [seen, other] {
+            if let Some(found) = difference(script, &expected, &seen) {
+                return Err(found.to_string());
+            }
         }
-        best = [best[0].min(program), best[1].min(rust)];
+        rounds.push(Times { ours, checked, unchecked });
     }
-    Ok(best)
+    Ok(rounds)
+}
+
+/// What is measured, and with what.
+struct Measuring {
+    read: Arguments,
+    files: Files,
+    /// Seconds of each player for an empty script.
+    empty: Times,
+}
+
+impl Measuring {
+    fn new(read: Arguments) -> Result<Measuring, String> {
+        let files = Files::new().map_err(|error| error.to_string())?;
+        let empty = Times::medians(&measure(&read, &files, b"", EMPTY_PLAYS)?);
+        Ok(Measuring { read, files, empty })
+    }
+
+    /// Nanoseconds of each player a line of a script, in rounds. It is played so
+    /// often that the steps of the processor's time matter little.
+    fn line_times(&self, script: &[u8], lines: usize) -> Result<Vec<Times>, String> {
+        let plays = (4 * self.read.lines).div_ceil(lines);
+        let rounds = measure(&self.read, &self.files, script, plays)?;
+        let each = |seconds: f64, empty: f64| (seconds - empty) * 1e9 / lines as f64;
+        let of = |round: &Times| Times {
+            ours: each(round.ours, self.empty.ours),
+            checked: each(round.checked, self.empty.checked),
+            unchecked: each(round.unchecked, self.empty.unchecked),
+        };
+        Ok(rounds.iter().map(of).collect())
+    }
+
+    /// Measures a script and prints its row.
+    fn row(&self, what: &str, script: &[u8]) -> Result<(), String> {
+        let lines = script.iter().filter(|byte| **byte == b'\n').count();
+        let rounds = self.line_times(script, lines)?;
+        let (Times { ours, checked, unchecked }, [to_checked, to_unchecked]) =
+            (Times::medians(&rounds), Times::ratios(&rounds));
+        println!(
+            "| {what} | {lines} | {:.2} | {ours:.0} | {checked:.0} | {to_checked:.2} | \
+             {unchecked:.0} | {to_unchecked:.2} |",
+            ours * lines as f64 / 1e9
+        );
+        Ok(())
+    }
 }
 
 /// The mix of a run.
@@ -122,51 +198,80 @@ fn repeated(setup: Setup, line: &str, lines: usize) -> Vec<u8> {
     (script + &format!("{line}\n").repeat(lines)).into_bytes()
 }
 
-/// Measures a script and prints its row.
-fn row(read: &Arguments, files: &Files, what: &str, script: &[u8]) -> Result<(), String> {
-    let lines = script.iter().filter(|byte| **byte == b'\n').count();
-    let best = measure(read, files, script)?;
-    let [program, rust] = best.map(|seconds| seconds * 1e9 / lines as f64);
-    let ratio = program / rust;
-    println!("| {what} | {lines} | {:.2} | {program:.0} | {rust:.0} | {ratio:.2} |", best[0]);
-    Ok(())
-}
-
 /// The head of a table.
 fn head(what: &str) {
-    println!("| {what} | lines | program, s | program, ns a line | Rust, ns a line | ratio |");
-    println!("|---|---|---|---|---|---|");
+    println!(
+        "\n| {what} | lines | program, s | program, ns a line | Rust, ns a line | ratio | \
+         unchecked Rust, ns a line | ratio |\n|---|---|---|---|---|---|---|---|"
+    );
 }
 
-/// Prints both tables.
-fn tables(read: &Arguments) -> Result<(), String> {
-    let files = Files::new()?;
-    let name = |Setup { figures, memory }: Setup| {
-        format!("{} sets, {} ways, {memory} bytes", figures.sets, figures.ways)
-    };
-    head("mixed calls");
-    for setup in SETUPS {
-        row(read, &files, &name(setup), &mixed(setup, read.lines))?;
-    }
-    println!();
+/// A geometry in words.
+fn name(setup: Setup) -> String {
+    let Setup { figures, memory } = setup;
+    format!("{} sets, {} ways, {memory} bytes", figures.sets, figures.ways)
+}
+
+/// One line again and again, on each of the two caches.
+fn repeated_table(measuring: &Measuring) -> Result<(), String> {
+    let lines = measuring.read.lines;
+    let parts = [
+        ("malformed: read and answered", "S 16 4 7 x", lines * 4),
+        ("refused: well-formedness too", "L 16 3", lines / 2),
+        ("idle: nothing to do", "I", lines / 2),
+    ];
     head("one line again and again");
     for setup in SETUPS {
-        let parts = [
-            ("malformed: read and answered", "S 16 4 7 x", read.lines * 4),
-            ("refused: well-formedness too", "L 16 3", read.lines / 2),
-            ("idle: nothing to do", "I", read.lines / 2),
-        ];
         for (what, line, lines) in parts {
             let script = repeated(setup, line, lines);
-            row(read, &files, &format!("{}; {what}", name(setup)), &script)?;
+            measuring.row(&format!("{}; {what}", name(setup)), &script)?;
         }
     }
     Ok(())
 }
 
-fn main() -> ExitCode {
-    if std::env::args().nth(1).as_deref() == Some("--play") {
-        return arguments::end(script::play_standard().map_err(|error| error.to_string()));
+/// How the cost of a line goes with the number of lines and with the geometry.
+fn growth_tables(measuring: &Measuring) -> Result<(), String> {
+    let lines = measuring.read.lines;
+    head("mixed calls: by the number of lines");
+    for setup in SETUPS {
+        for part in [100, 10, 1] {
+            measuring.row(&name(setup), &mixed(setup, (lines / part).max(1)))?;
+        }
     }
-    arguments::end(read().and_then(|read| tables(&read)))
+    head("mixed calls: by the geometry");
+    for setup in GEOMETRIES {
+        measuring.row(&name(setup), &mixed(setup, lines))?;
+    }
+    Ok(())
+}
+
+/// Prints the tables.
+fn tables(read: Arguments) -> Result<(), String> {
+    let measuring = Measuring::new(read)?;
+    let Times { ours, checked, unchecked } = measuring.empty;
+    println!(
+        "Medians of {} rounds. Taken off: an empty script, {:.2} ms of the program, {:.2} and \
+         {:.2} of Rust.",
+        measuring.read.rounds,
+        1e3 * ours,
+        1e3 * checked,
+        1e3 * unchecked
+    );
+    head("mixed calls");
+    for setup in SETUPS {
+        measuring.row(&name(setup), &mixed(setup, measuring.read.lines))?;
+    }
+    repeated_table(&measuring)?;
+    growth_tables(&measuring)
+}
+
+fn main() -> ExitCode {
+    let word = std::env::args().nth(1).unwrap_or_default();
+    for (player, step) in [CHECKED, UNCHECKED] {
+        if word == player {
+            return arguments::end(script::play_standard(step).map_err(|error| error.to_string()));
+        }
+    }
+    arguments::end(read().and_then(tables))
 }

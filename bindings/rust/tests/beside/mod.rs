@@ -181,6 +181,13 @@ impl Bench {
         })
     }
 
+    /// A list of calls, without the starts among them, by the crate's batch.
+    pub fn run(&mut self, calls: &[Call]) -> Vec<Answer> {
+        let Bench { image, cache, memory } = self;
+        let calls: Vec<nicoisetarn::Call> = calls.iter().copied().filter_map(call_of).collect();
+        image.run(cache, memory, &calls).into_iter().map(answer_of).collect()
+    }
+
     /// What a run begins with: a start, on the library.
     pub fn begin(run: &Run) -> Bench {
         let (mut cache, memory) = (run.found_cache(), run.found.clone());

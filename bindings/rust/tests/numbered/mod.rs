@@ -1,6 +1,8 @@
-//! Calls by numbers, which the crate does not offer: what the library says of a
-//! number that no call has, and which operands it looks at.
+//! Calls and batches by numbers, which the crate does not offer: what the library
+//! says of a number that no call has, and which operands it looks at.
+#![allow(dead_code)]
 
+use compare::types::{Answer, Call};
 use nicoisetarn::Image;
 
 /// An answer of the library: its kind and two numbers.
@@ -14,6 +16,15 @@ pub struct Numbers {
 
 /// No call has that number.
 pub const NO_SUCH_CALL: Numbers = Numbers { kind: 255, first: 0, second: 0 };
+/// A batch was run.
+pub const RAN: Numbers = Numbers { kind: 254, first: 0, second: 0 };
+
+/// A call in a batch, and an answer.
+pub type Six = [u32; 6];
+/// What a batch has for a call that is none.
+pub const NOT_ANSWERED: Six = [255, 0, 0, 0, 0, 0];
+/// A number that is in no answer, to see what is written.
+pub const UNTOUCHED: u32 = 0xA5A5_A5A5;
 
 extern "C" {
     fn nicoisetarn_step_in(
@@ -22,6 +33,18 @@ extern "C" {
         x: u32,
         y: u32,
         z: u32,
+        cache: *mut u8,
+        cache_length: usize,
+        memory: *mut u8,
+        memory_length: usize,
+    ) -> Numbers;
+
+    fn nicoisetarn_run_in(
+        image: *mut Image,
+        calls: *const u32,
+        calls_length: usize,
+        answers: *mut u32,
+        answers_length: usize,
         cache: *mut u8,
         cache_length: usize,
         memory: *mut u8,
@@ -43,4 +66,70 @@ pub fn step(
     // SAFETY: three exclusive references, each slice with its own length; the
     // library keeps no pointer, and any bytes are an image.
     unsafe { nicoisetarn_step_in(image, call, x, y, z, cache, cache_length, memory, memory_length) }
+}
+
+/// A batch of any lengths.
+pub fn run(
+    image: &mut Image,
+    calls: &[u32],
+    answers: &mut [u32],
+    cache: &mut [u8],
+    memory: &mut [u8],
+) -> Numbers {
+    let (to_calls, to_answers) = (calls.as_ptr(), answers.as_mut_ptr());
+    let (to_cache, to_memory) = (cache.as_mut_ptr(), memory.as_mut_ptr());
+    let (cached, stored) = (cache.len(), memory.len());
+    let (called, answered) = (calls.len(), answers.len());
+    // SAFETY: five references, all but the calls exclusive, each slice with its own
+    // length; the library keeps no pointer, and any bytes are an image.
+    unsafe {
+        nicoisetarn_run_in(
+            image, to_calls, called, to_answers, answered, to_cache, cached, to_memory, stored,
+        )
+    }
+}
+
+/// A batch whose lengths fit: its answers.
+pub fn run_list(image: &mut Image, cache: &mut [u8], memory: &mut [u8], calls: &[Six]) -> Vec<Six> {
+    let mut answers = vec![UNTOUCHED; calls.len() * 6];
+    let ran = run(image, &calls.concat(), &mut answers, cache, memory);
+    assert_eq!(ran, RAN);
+    answers.chunks_exact(6).map(|answer| answer.try_into().unwrap()).collect()
+}
+
+/// A call of the model in a batch; a start has no number.
+pub fn call_of(call: Call) -> Option<Six> {
+    let (number, [x, y, z]) = match call {
+        Call::Start { .. } => return None,
+        Call::Load { address, width } => (0, [address, width, 0]),
+        Call::Store { address, width, value } => (1, [address, width, value]),
+        Call::Retry { number } => (2, [number, 0, 0]),
+        Call::Commit { number } => (3, [number, 0, 0]),
+        Call::Abort { number } => (4, [number, 0, 0]),
+        Call::Idle => (5, [0; 3]),
+        Call::Reply => (6, [0; 3]),
+        Call::Flush => (7, [0; 3]),
+        Call::ShowLine { address } => (8, [address, 0, 0]),
+    };
+    Some([number, x, y, z, 0, 0])
+}
+
+/// An answer of the model in a batch.
+pub fn answer_of(answer: Answer) -> Six {
+    let (kind, first, second) = match answer {
+        Answer::Refused(no) => (0, no, 0),
+        Answer::Stored(number) => (1, number, 0),
+        Answer::Value { number, value } => (2, number, value),
+        Answer::Waits(number) => (3, number, 0),
+        Answer::Committed(number) => (4, number, 0),
+        Answer::Kept(number) => (5, number, 0),
+        Answer::Drained(number) => (6, number, 0),
+        Answer::Requested(address) => (7, address, 0),
+        Answer::Idle => (8, 0, 0),
+        Answer::Filled(address) => (9, address, 0),
+        Answer::Flushed(lines) => (10, lines, 0),
+        Answer::Shown(part) => (11, part.place as u32, part.length as u32),
+        Answer::Ready => (12, 0, 0),
+    };
+    [kind, first, second, 0, 0, 0]
 }
