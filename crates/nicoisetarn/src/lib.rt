@@ -3,7 +3,7 @@
 ghost use mathlib.Core.Path.{_≡_};
 ghost use Rattle.nicoisetarn.specs.Steps.{leftOf, started, stepped, lineShown};
 ghost use Rattle.nicoisetarn.specs.Batch.{batchLeft, ran};
-ghost use Rattle.nicoisetarn.specs.Claims.{RefusedImagesKept, UnknownCallsKept, LooksKept};
+ghost use Rattle.nicoisetarn.specs.Claims.{RefusedImagesKept, UnknownCallsKept, LooksKept, BatchesAreCalls};
 use images::Image;
 
 mod answers;
@@ -166,4 +166,9 @@ pub fn unknown_calls_kept()
 // Show line leaves everything as it was, so that call number 8 and the look on shared bytes are one.
 pub fn looks_kept()
     ensures { λ r. ⌜ LooksKept ⌝ }
+{}
+
+// A batch is its calls made one by one, and of known calls the run of the rules; where the lengths do not fit everything stays as it was.
+pub fn batches_are_calls()
+    ensures { λ r. ⌜ BatchesAreCalls ⌝ }
 {}
