@@ -100,10 +100,10 @@ static const uint32_t listed[] = {
     NICOISETARN_CALL_SHOW_LINE, 4, 0, 0, 0, 0,
 };
 
-enum { LISTED = sizeof listed / sizeof *listed / NICOISETARN_CALL_NUMBERS };
+enum { LISTED = sizeof listed / sizeof *listed / NICOISETARN_CALL_STRIDE };
 
 static void play_batch(bench *b) {
-    uint32_t answers[LISTED * NICOISETARN_ANSWER_NUMBERS] = {0};
+    uint32_t answers[LISTED * NICOISETARN_ANSWER_STRIDE] = {0};
     nicoisetarn_unit unit = lent(b);
     print(start(b));
     print(nicoisetarn_run(&unit, listed, answers, LISTED));
@@ -323,8 +323,8 @@ enum { UNTOUCHED = 0xA5 };
 /* The answer in a place is this, and its last three numbers are 0. */
 static void check_answer(const uint32_t *answers, size_t place, nicoisetarn_answer wanted) {
     CHECK(same(nicoisetarn_answer_at(answers, place), wanted.kind, wanted.first, wanted.second));
-    for (size_t number = 3; number < NICOISETARN_ANSWER_NUMBERS; number++) {
-        CHECK(answers[NICOISETARN_ANSWER_NUMBERS * place + number] == 0);
+    for (size_t number = 3; number < NICOISETARN_ANSWER_STRIDE; number++) {
+        CHECK(answers[NICOISETARN_ANSWER_STRIDE * place + number] == 0);
     }
 }
 
@@ -332,12 +332,12 @@ static void check_answer(const uint32_t *answers, size_t place, nicoisetarn_answ
 static void check_batch(void) {
     bench b, single;
     nicoisetarn_unit unit = lent(&b);
-    uint32_t answers[LISTED * NICOISETARN_ANSWER_NUMBERS];
+    uint32_t answers[LISTED * NICOISETARN_ANSWER_STRIDE];
     memset(answers, UNTOUCHED, sizeof answers);
     CHECK(start(&b).kind == NICOISETARN_KIND_READY && start(&single).kind == NICOISETARN_KIND_READY);
     CHECK(same(nicoisetarn_run(&unit, listed, answers, LISTED), NICOISETARN_KIND_RAN, 0, 0));
     for (size_t place = 0; place < LISTED; place++) {
-        const uint32_t *call = listed + NICOISETARN_CALL_NUMBERS * place;
+        const uint32_t *call = listed + NICOISETARN_CALL_STRIDE * place;
         check_answer(answers, place,
                      nicoisetarn_step_in(&single.image, call[0], call[1], call[2], call[3], single.cache,
                                          sizeof single.cache, single.memory, sizeof single.memory));
@@ -361,6 +361,8 @@ static void check_batch_lengths(void) {
     }
     nicoisetarn_unit unit = lent(&b);
     CHECK(same(nicoisetarn_run(&unit, listed, answers, 0), NICOISETARN_KIND_RAN, 0, 0));
+    CHECK(same(nicoisetarn_run(&unit, listed, answers, SIZE_MAX / NICOISETARN_CALL_STRIDE + 1),
+               NICOISETARN_KIND_NO_SUCH_CALL, 0, 0));
     CHECK(memcmp(&b, &before, sizeof b) == 0);
     CHECK(memcmp(answers, untouched, sizeof answers) == 0);
 }
@@ -369,15 +371,15 @@ static void check_batch_lengths(void) {
 static void check_batch_refused(void) {
     bench b, before;
     nicoisetarn_unit unit = lent(&b);
-    uint32_t calls[5 * NICOISETARN_CALL_NUMBERS], answers[5 * NICOISETARN_ANSWER_NUMBERS];
+    uint32_t calls[5 * NICOISETARN_CALL_STRIDE], answers[5 * NICOISETARN_ANSWER_STRIDE];
     memset(answers, UNTOUCHED, sizeof answers);
     nicoisetarn_put_call(calls, 0, NICOISETARN_CALL_STORE, 0, 1, 256);
     nicoisetarn_put_call(calls, 1, NICOISETARN_CALL_SHOW_LINE, 16, 0, 0);
     for (size_t place = 2; place < 5; place++) {
         nicoisetarn_put_call(calls, place, NICOISETARN_CALL_IDLE, 0, 0, 0);
     }
-    calls[3 * NICOISETARN_CALL_NUMBERS + 4] = 1;
-    calls[4 * NICOISETARN_CALL_NUMBERS + 5] = 1;
+    calls[3 * NICOISETARN_CALL_STRIDE + 4] = 1;
+    calls[4 * NICOISETARN_CALL_STRIDE + 5] = 1;
     make_busy(&b);
     b.image.nicoisetarn_words[NICOISETARN_AT_REQUESTED / 4] = 2;
     before = b;

@@ -20,12 +20,12 @@
  *     nicoisetarn_reply(&unit);                  filled 16
  *     nicoisetarn_retry(&unit, 3);               value, number 3: the byte of memory
  *
- * A batch is a list of calls, six numbers each, that the library makes one after the other. The unit is checked
- * once for the list and not at each call, so a call of a long list costs less.
+ * A batch is a list of calls, six numbers each, that the library makes one after the other. The unit is opened and
+ * checked once for the list and not at each call.
  *
  *     static const uint32_t calls[] = {NICOISETARN_CALL_STORE, 8, 1, 9, 0, 0,
  *                                      NICOISETARN_CALL_LOAD, 8, 1, 0, 0, 0};
- *     static uint32_t answers[2 * NICOISETARN_ANSWER_NUMBERS];
+ *     static uint32_t answers[2 * NICOISETARN_ANSWER_STRIDE];
  *
  *     nicoisetarn_run(&unit, calls, answers, 2); ran
  *     nicoisetarn_answer_at(answers, 1);         value, number 5: 9
@@ -38,12 +38,13 @@
  * What the bench owes at each call. The three pointers are not NULL, also where a length is 0; they point to
  * initialised bytes that can be read and written, and that do not overlap; nobody else writes them during the
  * call. (A start only reads the memory, and nicoisetarn_show_line only reads all three.) The image's bytes may be
- * anything, also before a start. In a batch the calls and the answers are two more such pointers; the calls are only
- * read, and may be any numbers.
+ * anything, also before a start. For the two lists of a batch the same holds, and both are aligned as uint32_t are:
+ * the answers are no part of the calls, neither is NULL for an empty list, and the calls, which are only read, may be
+ * any numbers.
  *
  * What a refusal means. A refused call has changed nothing: image, cache and memory are as before, byte for byte.
  * An image that is damaged, or was never started, is refused by every call but a start (show line gives the empty
- * part) and is never repaired.
+ * part), in a batch by each call of the list, and is never repaired.
  */
 #ifndef NICOISETARN_H
 #define NICOISETARN_H
@@ -126,8 +127,8 @@ typedef enum nicoisetarn_kind {
     NICOISETARN_KIND_FLUSHED = 10,     /* the lines written to memory */
     NICOISETARN_KIND_SHOWN = 11,       /* the part's place in the cache, its length: 16, or 0 at place 0 */
     NICOISETARN_KIND_READY = 12,       /* an accepted start */
-    NICOISETARN_KIND_RAN = 254,        /* nicoisetarn_run_in: every call of the list has its answer */
-    NICOISETARN_KIND_NO_SUCH_CALL = 255 /* no call has that number, or a list has not that length: nothing changed */
+    NICOISETARN_KIND_RAN = 254,        /* nicoisetarn_run_in: each call of the list has its own answer, accepted or refused */
+    NICOISETARN_KIND_NO_SUCH_CALL = 255 /* there is no such call, or the lengths of a batch do not fit: nothing changed */
 } nicoisetarn_kind;
 
 /*
@@ -208,8 +209,8 @@ typedef enum nicoisetarn_call {
     NICOISETARN_CALL_SHOW_LINE = 8 /* address */
 } nicoisetarn_call;
 
-#define NICOISETARN_CALL_NUMBERS 6   /* numbers of a call in a batch: the call's, x, y, z, and two that must be 0 */
-#define NICOISETARN_ANSWER_NUMBERS 6 /* numbers of an answer in a batch: kind, first, second, and three that are 0 */
+#define NICOISETARN_CALL_STRIDE 6   /* numbers of a call in a batch: the call's, x, y, z, and two that must be 0 */
+#define NICOISETARN_ANSWER_STRIDE 6 /* numbers of an answer in a batch: kind, first, second, and three that are 0 */
 
 /* ---- the functions of the library; the calls by name, below, are what a bench wants */
 
@@ -230,10 +231,13 @@ nicoisetarn_answer nicoisetarn_step_in(nicoisetarn_image *image, uint32_t call,
 /*
  * A batch: calls made one after the other. Answers, image, cache and memory are those of nicoisetarn_step_in, call by
  * call: a refused call changes nothing, and the list goes on. A call whose number no call has, or whose fifth or sixth
- * number is not 0, is answered by NICOISETARN_KIND_NO_SUCH_CALL in its place, changes nothing, and the list goes on.
- * Call k begins at calls[6 * k] and its answer at answers[6 * k]. The lengths count numbers: that of the calls must be
- * a multiple of 6, and that of the answers the same. It answers NICOISETARN_KIND_RAN, with 0, 0, also for an empty
- * list; where the lengths do not fit NICOISETARN_KIND_NO_SUCH_CALL, and nothing changes, the answers neither.
+ * number is not 0, is answered by NICOISETARN_KIND_NO_SUCH_CALL in its place and changes nothing, and the list goes on.
+ * Call k begins at calls[k * NICOISETARN_CALL_STRIDE], its answer at answers[k * NICOISETARN_ANSWER_STRIDE]. The
+ * lengths count numbers: that of the calls must be a multiple of their stride, and there must be room for as many
+ * answers and no more.
+ * It answers NICOISETARN_KIND_RAN, with 0, 0, where the lengths fit, also for an empty list and on an image that is
+ * refused: then each call has the refusal 1 or 10, and image, cache and memory stay. Where they do not fit it answers
+ * NICOISETARN_KIND_NO_SUCH_CALL, and nothing changes, the answers neither.
  * Of a show line the answer is place and length. The bytes in the cache are those of that moment only if no later
  * call of the list writes them: a bench that wants to see them ends its list there.
  */
@@ -361,7 +365,10 @@ static inline nicoisetarn_answer nicoisetarn_show_line(const nicoisetarn_unit *u
                                     unit->memory, unit->memory_length);
 }
 
-/* The 16 bytes of the cache that a show line answered, or NULL where the part is empty. */
+/*
+ * The 16 bytes of the cache that a show line answered, or NULL where the part is empty. They are what stands there now:
+ * a call made since, or a later one of the same batch, may have written them.
+ */
 static inline const uint8_t *nicoisetarn_shown(const nicoisetarn_unit *unit, nicoisetarn_answer shown) {
     if (shown.kind != NICOISETARN_KIND_SHOWN || shown.second == 0) {
         return NULL;
@@ -374,24 +381,29 @@ static inline const uint8_t *nicoisetarn_shown(const nicoisetarn_unit *unit, nic
 /* Writes a call of a batch in its place, counted from 0. Operands that the call does not take are not looked at. */
 static inline void nicoisetarn_put_call(uint32_t *calls, size_t place, nicoisetarn_call call,
                                         uint32_t x, uint32_t y, uint32_t z) {
-    const uint32_t numbers[NICOISETARN_CALL_NUMBERS] = {(uint32_t)call, x, y, z, 0, 0};
-    memcpy(calls + place * NICOISETARN_CALL_NUMBERS, numbers, sizeof numbers);
+    const uint32_t numbers[NICOISETARN_CALL_STRIDE] = {(uint32_t)call, x, y, z, 0, 0};
+    memcpy(calls + place * NICOISETARN_CALL_STRIDE, numbers, sizeof numbers);
 }
 
 /*
  * Makes count calls and writes as many answers: ran. nicoisetarn_run_in says how. The calls have at least
- * count * NICOISETARN_CALL_NUMBERS numbers, and the answers count * NICOISETARN_ANSWER_NUMBERS.
+ * count * NICOISETARN_CALL_STRIDE numbers, and the answers count * NICOISETARN_ANSWER_STRIDE. More calls than a list
+ * of any length has are answered as lengths that do not fit.
  */
 static inline nicoisetarn_answer nicoisetarn_run(nicoisetarn_unit *unit, const uint32_t *calls, uint32_t *answers,
                                                  size_t count) {
-    return nicoisetarn_run_in(unit->image, calls, count * NICOISETARN_CALL_NUMBERS,
-                              answers, count * NICOISETARN_ANSWER_NUMBERS,
+    if (count > SIZE_MAX / NICOISETARN_CALL_STRIDE) {
+        const nicoisetarn_answer none = {NICOISETARN_KIND_NO_SUCH_CALL, 0, 0};
+        return none;
+    }
+    return nicoisetarn_run_in(unit->image, calls, count * NICOISETARN_CALL_STRIDE,
+                              answers, count * NICOISETARN_ANSWER_STRIDE,
                               unit->cache, unit->cache_length, unit->memory, unit->memory_length);
 }
 
 /* The answer to the call in a place, counted from 0. */
 static inline nicoisetarn_answer nicoisetarn_answer_at(const uint32_t *answers, size_t place) {
-    const uint32_t *numbers = answers + place * NICOISETARN_ANSWER_NUMBERS;
+    const uint32_t *numbers = answers + place * NICOISETARN_ANSWER_STRIDE;
     const nicoisetarn_answer answer = {numbers[0], numbers[1], numbers[2]};
     return answer;
 }

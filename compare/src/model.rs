@@ -3,8 +3,8 @@
 //! changes nothing when it refuses.
 //!
 //! `Right` is this machine and nothing else. Every call asks for its steps by
-//! `Self`, so that another machine can have one of them otherwise: `Unchecked` makes
-//! no check of the state.
+//! `Self`, so that another machine can have one of them otherwise: `Unchecked` does
+//! not make checks 1 and 10.
 
 use std::ops::Range;
 

@@ -1,4 +1,4 @@
-//! What was timed several times, in short: medians.
+//! Medians of times.
 
 /// The middle one of some measurements, the upper one of two.
 pub fn median(values: impl Iterator<Item = f64>) -> f64 {

@@ -160,7 +160,8 @@ pub(crate) fn told(answer: AnswerImage) -> Result<Answer, Refusal> {
         boundary::KIND_FLUSHED => Answer::Flushed(first),
         boundary::KIND_SHOWN => Answer::Shown { place: first, length: second },
         boundary::KIND_READY => Answer::Ready,
-        // "No such call" among them: this crate makes only calls that there are.
+        // "No such call" and "ran" among them: this crate makes only calls that there are,
+        // and a batch is no call.
         _ => panic!("the library answers no call of this crate by kind {kind}"),
     })
 }

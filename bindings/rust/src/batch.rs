@@ -1,13 +1,13 @@
 //! Batches: lists of calls that are made one after the other.
 
 use crate::answers::{told, Answer, Refusal};
-use crate::boundary::{self, AnswerImage, ANSWER_NUMBERS, CALL_NUMBERS};
+use crate::boundary::{self, AnswerImage, ANSWER_STRIDE, CALL_STRIDE};
 use crate::calls::Call;
 use crate::image::Image;
 
 /// A list of calls, and their answers once it was run: by
 /// [`Unit::run_batch`](crate::Unit::run_batch) or [`Image::run_batch`], as often as a
-/// bench likes. Only a run of more calls than ever before allocates.
+/// bench likes. To run it again allocates nothing.
 #[derive(Clone, Debug, Default)]
 pub struct Batch {
     calls: Vec<u32>,
@@ -19,7 +19,7 @@ impl Batch {
     /// Adds a call at the end and drops the answers.
     pub fn push(&mut self, call: Call) {
         let (number, [x, y, z]) = call.numbered();
-        let numbers: [u32; CALL_NUMBERS] = [number, x, y, z, 0, 0];
+        let numbers: [u32; CALL_STRIDE] = [number, x, y, z, 0, 0];
         self.calls.extend(numbers);
         self.answers.clear();
     }
@@ -32,14 +32,14 @@ impl Batch {
 
     /// The answers of the last run, in the order of the calls; none before a run.
     pub fn answers(&self) -> impl ExactSizeIterator<Item = Result<Answer, Refusal>> + '_ {
-        self.answers.chunks_exact(ANSWER_NUMBERS).map(|numbers| {
+        self.answers.chunks_exact(ANSWER_STRIDE).map(|numbers| {
             told(AnswerImage { kind: numbers[0], first: numbers[1], second: numbers[2] })
         })
     }
 
     /// Makes the calls.
     pub(crate) fn run(&mut self, image: &mut Image, cache: &mut [u8], memory: &mut [u8]) {
-        self.answers.resize(self.calls.len(), 0);
+        self.answers.resize(self.calls.len() / CALL_STRIDE * ANSWER_STRIDE, 0);
         let ran = boundary::run(image, &self.calls, &mut self.answers, cache, memory);
         // The lengths fit, so the library runs the list, whatever is lent.
         assert_eq!(ran.kind, boundary::KIND_RAN);

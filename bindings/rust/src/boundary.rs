@@ -33,8 +33,8 @@ pub const CALL_FLUSH: u32 = 7;
 pub const CALL_SHOW_LINE: u32 = 8;
 
 // Numbers of a call and of an answer in a batch.
-pub const CALL_NUMBERS: usize = 6;
-pub const ANSWER_NUMBERS: usize = 6;
+pub const CALL_STRIDE: usize = 6;
+pub const ANSWER_STRIDE: usize = 6;
 
 /// An answer, as the library lays it out.
 #[derive(Clone, Copy, Debug)]
@@ -141,10 +141,10 @@ pub fn run(
     let (calls, answers) = (calls.as_ptr(), answers.as_mut_ptr());
     let (cache_length, memory_length) = (cache.len(), memory.len());
     let (cache, memory) = (cache.as_mut_ptr(), memory.as_mut_ptr());
-    // SAFETY: the five references are live and not null, and do not overlap, as all
-    // but the calls are exclusive; each slice goes with its own length; the library
-    // only reads the calls and keeps no pointer; any bytes are an image, and it
-    // writes whole images only.
+    // SAFETY: the five references are live, not null, aligned and initialised, and do
+    // not overlap, as all but the calls are exclusive; each slice goes with its own
+    // length; the library only reads the calls and keeps no pointer; any bytes are an
+    // image, and it writes whole images only.
     unsafe {
         nicoisetarn_run_in(
             image,

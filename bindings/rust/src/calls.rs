@@ -92,9 +92,10 @@ impl Image {
     }
 
     /// Calls one after the other, and their answers: all as by [`Image::call`], but
-    /// the state is checked once. A refused call changes nothing, and the list goes
-    /// on. Of a [`Call::ShowLine`] the answer says where in the cache the bytes stood;
-    /// a later call of the list may have written there.
+    /// the state is checked once, and where it is refused by 1 or 10 so is each call.
+    /// A refused call changes nothing, and the list goes on. Of a [`Call::ShowLine`]
+    /// the answer says where in the cache the bytes stood; a later call of the list
+    /// may have written there.
     pub fn run(
         &mut self,
         cache: &mut [u8],

@@ -11,7 +11,7 @@ use beside::{times, Bench, Beside};
 use compare::random::{self, Mix, Rng, Run};
 use compare::types::{Answer, Setup};
 use nicoisetarn::{Answer as Ours, Batch, Call as Made, Figures, Image, Refusal, Unit};
-use numbered::{Six, NOT_ANSWERED, UNTOUCHED};
+use numbered::{Listed, UNKNOWN, UNTOUCHED};
 
 /// What a run led to, call by call on the library and on the model.
 fn one_by_one(run: &Run) -> Result<(Vec<Answer>, Bench), String> {
@@ -67,7 +67,7 @@ fn long_runs_in_lists() {
 }
 
 /// Six numbers that are no call.
-fn no_call(rng: &mut Rng) -> Six {
+fn no_call(rng: &mut Rng) -> Listed {
     let any = |rng: &mut Rng| rng.word() as u32;
     let (not_zero, known) = (any(rng).max(1), rng.below(9) as u32);
     let operands = [any(rng), rng.pick(&[1, 2, 4]), rng.pick(&[0, 1])];
@@ -93,7 +93,7 @@ fn numbers_of_no_call_in_a_list() {
         for (call, answer) in run.calls.iter().zip(answers) {
             while rng.one_in(4) {
                 list.push(no_call(&mut rng));
-                expected.push(NOT_ANSWERED);
+                expected.push(UNKNOWN);
             }
             list.push(numbered::call_of(*call).unwrap());
             expected.push(numbered::answer_of(answer));
@@ -174,7 +174,7 @@ fn operands_not_taken_in_a_list() {
             let answers = numbered::run_list(&mut image, &mut cache, &mut memory, &[numbers]);
             (answers, image, cache, memory)
         });
-        assert_ne!(made[0].0, [NOT_ANSWERED]);
+        assert_ne!(made[0].0, [UNKNOWN]);
         assert_eq!(made[0], made[1], "{call}");
     }
 }

@@ -172,7 +172,7 @@ fn play_each(bench: &Bench, rng: &mut Rng, counts: &mut Counts) -> Result<Answer
 /// by 1 or 10, so is each of them, and nothing changes; else all is as call by call.
 fn play_list(bench: &Bench, calls: &[Call], idle: Answer) -> Result<(), String> {
     let mut beside = Beside::new(bench);
-    let (mut list, mut expected) = (vec![[9, 0, 1, 0, 0, 0]], vec![numbered::NOT_ANSWERED]);
+    let (mut list, mut expected) = (vec![[9, 0, 1, 0, 0, 0]], vec![numbered::UNKNOWN]);
     for &call in calls {
         let Some(numbers) = numbered::call_of(call) else {
             continue;
@@ -185,7 +185,7 @@ fn play_list(bench: &Bench, calls: &[Call], idle: Answer) -> Result<(), String> 
         }));
     }
     list.push([5, 0, 0, 0, 1, 0]);
-    expected.push(numbered::NOT_ANSWERED);
+    expected.push(numbered::UNKNOWN);
     let Bench { mut image, mut cache, mut memory } = bench.clone();
     let seen = numbered::run_list(&mut image, &mut cache, &mut memory, &list);
     if seen != expected {
@@ -193,6 +193,19 @@ fn play_list(bench: &Bench, calls: &[Call], idle: Answer) -> Result<(), String> 
     }
     if (Bench { image, cache, memory }) != beside.library {
         return Err(format!("{list:?}: image, cache or memory differs"));
+    }
+    play_calls(bench, calls)
+}
+
+/// The same by the crate's own types: a list answers and leaves what single calls do.
+fn play_calls(bench: &Bench, calls: &[Call]) -> Result<(), String> {
+    let calls: Vec<_> = calls.iter().filter_map(|&call| beside::call_of(call)).collect();
+    let (mut listed, mut single) = (bench.clone(), bench.clone());
+    let seen = listed.image.run(&mut listed.cache, &mut listed.memory, &calls);
+    let one_by_one = |call: &_| single.image.call(&mut single.cache, &mut single.memory, *call);
+    let expected: Vec<_> = calls.iter().map(one_by_one).collect();
+    if seen != expected || listed != single {
+        return Err(format!("{calls:?}: expected {expected:?}, seen {seen:?}"));
     }
     Ok(())
 }

@@ -1,36 +1,24 @@
--- A batch, call by call: what stands of it after so many calls, and at its end; and a batch on an image that is refused.
-use Prim.Native.Nat.{ℕ, suc, _+_, _*_, _-_, _/_, _%_, _≤_, _<_}
-use mathlib.Core.Path.{_≡_, refl, sym, _∙_, ap, ap₂, subst}
-use mathlib.Core.Bool.{Bool, true, false, _&&_}
+-- A batch, call by call: the two lists, and what stands of a batch after so many calls and at its end.
+use Prim.Native.Nat.{ℕ, suc, _+_, _*_, _-_, _≤_, _<_}
+use mathlib.Core.Path.{_≡_, refl, sym, _∙_, ap, subst}
 use mathlib.Core.List.{List, [], _∷_, _++_, append-nil, append-assoc}
 use mathlib.Core.Option.{Option, some, none}
 use native.Mathlib.Omega.{arith}
 use lib.ListN.{length, getD, set, take, drop, length-append}
 use lib.Seq.{sets, sets-eq, getD-drop, take-at, take-all, drop-drop, length-take-le}
-use lib.Dec.{eqb}
-use borrow.Author.Tests.{eq-eqb, ne-eqb, eqb-true}
-use Rattle.lists.proofs.Cond.{cases, and-left, and-right}
-use Rattle.rules.specs.Shape.{Hierarchy, World, world, fits}
+use borrow.Author.Tests.{eq-eqb, ne-eqb}
+use Rattle.rules.specs.Shape.{World, world}
 use Rattle.rules.specs.Calls as rules
-use Rattle.rules.specs.Calls.{guarded}
-use Rattle.rules.specs.WellFormed.{wellFormed}
-use Rattle.rules.specs.Runs.{stateChecks, refusal, outcome, answer, next}
-use Rattle.rules.proofs.Checks.{EachPasses}
+use Rattle.rules.specs.Runs.{outcome, answer, next}
 use Rattle.rules.specs.Kept as Kept
 use Rattle.rules.proofs.Kept.{next-kept}
 use Rattle.model.specs.State.{queuesOf, hierarchyOf, worldOf, answerOf, outcomeOf, Formed}
 use Rattle.model.specs.declared.State.{State}
 use Rattle.model.specs.declared.Step.{Step}
-use Rattle.model.proofs.Calls.{state-refuses}
-use Rattle.images.specs.declared.Image.{Image}
-use Rattle.images.specs.Images.{openedWith, openedOf, imagedOf, standsFor}
-use Rattle.images.proofs.Standing.{imaged-opened}
-use Rattle.nicoisetarn.specs.declared.ImageStep.{ImageStep}
-use Rattle.nicoisetarn.specs.Steps.{stateOf, imageRefusal}
 use Rattle.nicoisetarn.specs.declared.AnswerImage.{AnswerImage}
 use Rattle.nicoisetarn.specs.Answers.{callNumbered, imagedAnswer, noSuchCall}
+use Rattle.nicoisetarn.specs.Batch.{callListed, callsListed, numbersOf, listedAnswer, listedNext, batchAnswers, batchEnd, MakesCalls, listedRefusal, batchRefusals}
 use Rattle.nicoisetarn.proofs.ShownPart.{image-over}
-use Rattle.nicoisetarn.specs.Batch.{callListed, callsListed, numbersOf, answerAt, nextAt, batchAnswers, batchEnd, refusedAt, batchRefusals, MakesCalls, BatchLeft, batchLeft, ranAnswer, ranOn, refusedOn, batchFits, ran}
 
 -- ---- the list of calls
 
@@ -118,12 +106,12 @@ module _ (k n : ℕ) (calls : List ℕ) where
 
   pub refused-more :
       (i : ℕ) (answers answers′ : List ℕ) (o : Option rules.Call) (a : AnswerImage) → i < n → 6 * (i + 1) ≤ length answers
-      → o ≡ callListed (drop (6 * i) calls) → a ≡ refusedAt k o → answers′ ≡ sets answers (6 * i) (numbersOf a) → Refused i answers → Refused (i + 1) answers′
+      → o ≡ callListed (drop (6 * i) calls) → a ≡ listedRefusal k o → answers′ ≡ sets answers (6 * i) (numbersOf a) → Refused i answers → Refused (i + 1) answers′
   unfolding batchRefusals
   refused-more i answers answers′ o a more room at is put so-far =
       so-far
       ∙ ap (λ (os : List (Option rules.Call)). take (6 * i) answers ++ batchRefusals k os) (call-next n i calls more)
-      ∙ answers-more answers (numbersOf (refusedAt k (callListed (drop (6 * i) calls)))) (batchRefusals k (callsLeft n (i + 1) calls)) i refl room
+      ∙ answers-more answers (numbersOf (listedRefusal k (callListed (drop (6 * i) calls)))) (batchRefusals k (callsLeft n (i + 1) calls)) i refl room
       ∙ rw (put, is, at)
 
   pub refused-all : (answers : List ℕ) → length answers ≡ 6 * n → Refused n answers → answers ≡ batchRefusals k (callsListed n calls)
@@ -148,7 +136,7 @@ module _ (n : ℕ) (calls : List ℕ) (from : World) where
 
   pub made-more :
       (i : ℕ) (w w′ : World) (answers answers′ : List ℕ) (o : Option rules.Call) (a : AnswerImage) → i < n → 6 * (i + 1) ≤ length answers
-      → o ≡ callListed (drop (6 * i) calls) → a ≡ answerAt o w → w′ ≡ nextAt o w → answers′ ≡ sets answers (6 * i) (numbersOf a)
+      → o ≡ callListed (drop (6 * i) calls) → a ≡ listedAnswer o w → w′ ≡ listedNext o w → answers′ ≡ sets answers (6 * i) (numbersOf a)
       → Made i w answers → Made (i + 1) w′ answers′
   unfolding batchAnswers batchEnd
   made-more i w w′ answers answers′ o a more room at is goes put so-far =
@@ -158,7 +146,7 @@ module _ (n : ℕ) (calls : List ℕ) (from : World) where
         told =
             so-far .told
             ∙ ap (λ (os : List (Option rules.Call)). take (6 * i) answers ++ batchAnswers os w) next
-            ∙ answers-more answers (numbersOf (answerAt (callListed (drop (6 * i) calls)) w)) (batchAnswers (callsLeft n (i + 1) calls) (nextAt (callListed (drop (6 * i) calls)) w)) i refl room
+            ∙ answers-more answers (numbersOf (listedAnswer (callListed (drop (6 * i) calls)) w)) (batchAnswers (callsLeft n (i + 1) calls) (listedNext (callListed (drop (6 * i) calls)) w)) i refl room
             ∙ rw (put, is, goes, at);
       }
 
@@ -166,7 +154,7 @@ module _ (n : ℕ) (calls : List ℕ) (from : World) where
   unfolding batchAnswers batchEnd
   made-all w answers long so-far =
       record {
-        left = sym (so-far .left ∙ ap (λ (os : List (Option rules.Call)). batchEnd os w) (no-call n calls));
+        end = sym (so-far .left ∙ ap (λ (os : List (Option rules.Call)). batchEnd os w) (no-call n calls));
         told = sym (so-far .told ∙ ap (λ (os : List (Option rules.Call)). take (6 * n) answers ++ batchAnswers os w) (no-call n calls) ∙ answers-all answers n long);
       }
 
@@ -191,7 +179,7 @@ module _ (n : ℕ) (calls : List ℕ) (from : World) where
     going-call c r a cache′ memory′ answers′ at did is put =
         let w = worldOf s cache memory in
         let goes : worldOf (r .next) cache′ memory′ ≡ next c w = ap (λ (o : rules.Outcome). world (o .queues) (o .hierarchy)) did in
-        let said : a ≡ answerAt (some c) w = image-over a (r .answer) cache′ is ∙ ap (λ (o : rules.Outcome). imagedAnswer (o .answer)) did in
+        let said : a ≡ listedAnswer (some c) w = image-over a (r .answer) cache′ is ∙ ap (λ (o : rules.Outcome). imagedAnswer (o .answer)) did in
         record {
           formed = subst (λ (v : World). Kept.Formed v) (sym goes) (next-kept c w (g .formed));
           made = made-more n calls from i w _ answers answers′ (some c) a more room at said goes put (g .made);
@@ -206,119 +194,3 @@ module _ (n : ℕ) (calls : List ℕ) (from : World) where
           formed = g .formed;
           made = made-more n calls from i (worldOf s cache memory) _ answers answers′ none a more room at is refl put (g .made);
         }
-
--- ---- on an image
-
-pub fits-tell : (calls answers : List ℕ) → batchFits calls answers ≡ true
-    → (length calls ≡ 6 * (length calls / 6)) × (length answers ≡ 6 * (length calls / 6))
-unfolding batchFits
-fits-tell calls answers e =
-    let whole = eqb-true (length calls % 6) 0 (and-left (eqb (length calls % 6) 0) _ e) in
-    let long = eqb-true (length answers) (length calls) (and-right (eqb (length calls % 6) 0) _ e) in
-    (omega arith, omega arith)
-
-pub fits-told : (calls answers : List ℕ) (t : Bool) → t ≡ (eqb (length calls % 6) 0 && eqb (length answers) (length calls)) → batchFits calls answers ≡ t
-unfolding batchFits
-fits-told calls answers t e = sym e
-
--- no call has a check between 1 and 10
-early-none : (c : rules.Call) (b : Hierarchy) → EachPasses (rules.earlyChecks c b)
-early-none (rules.load a w) b = tt
-early-none (rules.store a w v) b = tt
-early-none (rules.retry i) b = tt
-early-none (rules.commit k) b = tt
-early-none (rules.abort n) b = tt
-early-none rules.idle b = tt
-early-none rules.reply b = tt
-early-none rules.flush b = tt
-early-none (rules.show a) b = tt
-
--- a state that is not well formed refuses every call with one number, and stays
-module _ (w : World) (k : ℕ) (e : k ≡ guarded (stateChecks (w .queues) (w .hierarchy)) (λ j. j) 0) (n : k ≡ 0 → ⊥) where
-  all-refused : (c : rules.Call) → outcome c (w .queues) (w .hierarchy) ≡ rules.unchanged (refusal c k) (w .queues) (w .hierarchy)
-  all-refused c = state-refuses c (w .queues) (w .hierarchy) k e n (early-none c (w .hierarchy))
-
-  stays : (o : Option rules.Call) → nextAt o w ≡ w
-  unfolding next
-  stays none = refl
-  stays (some c) = ap (λ (o : rules.Outcome). world (o .queues) (o .hierarchy)) (all-refused c)
-
-  refuses : (o : Option rules.Call) → answerAt o w ≡ refusedAt k o
-  unfolding answer
-  refuses none = refl
-  refuses (some c) = ap (λ (o : rules.Outcome). imagedAnswer (o .answer)) (all-refused c)
-
-  stuck-end : (os : List (Option rules.Call)) → batchEnd os w ≡ w
-  unfolding batchEnd
-  stuck-end [] = refl
-  stuck-end (o ∷ os) = rw (stays o) (stuck-end os)
-
-  stuck-answers : (os : List (Option rules.Call)) → batchAnswers os w ≡ batchRefusals k os
-  unfolding batchAnswers batchRefusals
-  stuck-answers [] = refl
-  stuck-answers (o ∷ os) = rw (stays o, refuses o) (ap (λ (l : List ℕ). numbersOf (refusedAt k o) ++ l) (stuck-answers os))
-
-module _ (calls answers : List ℕ) (i : Image) (cache memory : List ℕ) where
-  abbrev listed : List (Option rules.Call)
-  listed = callsListed (length calls / 6) calls
-
-  -- what the calls leave of a world, with their answers
-  abbrev Leaves : World → List ℕ → BatchLeft
-  Leaves v told = record {
-    answer = ranAnswer;
-    image = imagedOf (stateOf (v .queues) (v .hierarchy));
-    answers = told;
-    cache = v .hierarchy .cache;
-    memory = v .hierarchy .memory;
-  }
-
-  pub batch-unfit : batchFits calls answers ≡ false → (t : ImageStep) → t .answer ≡ noSuchCall → t .next ≡ i
-      → batchLeft t answers cache memory ≡ ran calls answers i cache memory
-  unfolding ran
-  batch-unfit f t said kept =
-      (λ j. record { answer = said j; image = kept j; answers = answers; cache = cache; memory = memory }) ∙ rw f
-
-  module _ (fit : batchFits calls answers ≡ true) where
-    pub batch-made :
-        standsFor i ≡ true → (s end : State) (cache′ memory′ answers′ : List ℕ) → s ≡ openedOf i
-        → MakesCalls listed (worldOf s cache memory) (worldOf end cache′ memory′) answers′ → (t : ImageStep) → t .answer ≡ ranAnswer → t .next ≡ imagedOf end
-        → batchLeft t answers′ cache′ memory′ ≡ ran calls answers i cache memory
-    unfolding ran ranOn
-    batch-made stands s end cache′ memory′ answers′ o made t said next =
-        (λ j. record { answer = said j; image = next j; answers = answers′; cache = cache′; memory = memory′ })
-        ∙ ap₂ Leaves (made .left ∙ ap (λ (z : State). batchEnd listed (worldOf z cache memory)) o) (made .told ∙ ap (λ (z : State). batchAnswers listed (worldOf z cache memory)) o)
-        ∙ rw (fit, stands)
-
-    -- the image is refused: it stands for no state, or for one that is not well formed
-    module _
-        (k : ℕ) (e : k ≡ imageRefusal i cache memory) (answers′ : List ℕ) (told : answers′ ≡ batchRefusals k listed) (t : ImageStep)
-        (said : t .answer ≡ ranAnswer) (kept : t .next ≡ i) where
-      -- of such a state it is the number of checks 1 and 10
-      refusal-is :
-          wellFormed (queuesOf (openedOf i)) (hierarchyOf (openedOf i) cache memory) ≡ false
-          → (k ≡ guarded (stateChecks (queuesOf (openedOf i)) (hierarchyOf (openedOf i) cache memory)) (λ j. j) 0) × (k ≡ 0 → ⊥)
-      unfolding imageRefusal guarded fits openedOf openedWith
-      refusal-is bad =
-          cases (fits (hierarchyOf (openedOf i) cache memory))
-          (λ f. let z : k ≡ 10 = e ∙ rw f in (rw (f, bad) z, λ y. omega arith))
-          (λ f. let z : k ≡ 1 = e ∙ rw f in (rw f z, λ y. omega arith))
-
-      refused-left : batchLeft t answers′ cache memory ≡ refusedOn listed i cache memory
-      unfolding refusedOn
-      refused-left =
-          (λ j. record { answer = said j; image = kept j; answers = (told ∙ ap (λ (k : ℕ). batchRefusals k listed) e) j; cache = cache; memory = memory })
-
-      pub batch-no-state : standsFor i ≡ false → batchLeft t answers′ cache memory ≡ ran calls answers i cache memory
-      unfolding ran
-      batch-no-state stands = refused-left ∙ rw (fit, stands)
-
-      pub batch-malformed : standsFor i ≡ true → (s : State) → s ≡ openedOf i → wellFormed (queuesOf s) (hierarchyOf s cache memory) ≡ false
-          → batchLeft t answers′ cache memory ≡ ran calls answers i cache memory
-      unfolding ran ranOn
-      batch-malformed stands s o f =
-          let w = worldOf (openedOf i) cache memory in
-          let bad : wellFormed (queuesOf (openedOf i)) (hierarchyOf (openedOf i) cache memory) ≡ false = rw (sym o) f in
-          let is = refusal-is bad in
-          (λ j. record { answer = said j; image = (kept ∙ sym (imaged-opened i stands)) j; answers = told j; cache = cache; memory = memory })
-          ∙ sym (ap₂ Leaves (stuck-end w k (is .0) (is .1) listed) (stuck-answers w k (is .0) (is .1) listed))
-          ∙ rw (fit, stands)

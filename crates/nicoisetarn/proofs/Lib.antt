@@ -2,4 +2,4 @@ pub mod ShownPart
 pub mod CallNumbers
 pub mod Outcomes
 pub mod Batches
-pub mod BatchClaims
+pub mod BatchRuns

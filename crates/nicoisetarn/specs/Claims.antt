@@ -1,17 +1,19 @@
 -- What is claimed of calls on images, each closed.
-use Prim.Native.Nat.{ℕ, _/_, _<_, _≤_}
+use Prim.Native.Nat.{ℕ, _<_, _≤_}
 use mathlib.Core.Path.{_≡_}
-use mathlib.Core.Bool.{true, false}
+use mathlib.Core.Bool.{Bool, true, false, _&&_}
 use mathlib.Core.List.{List, [], _∷_, _++_, map}
 use mathlib.Core.Option.{Option, some}
-use lib.ListN.{length}
 use Rattle.rules.specs.Shape.{World}
 use Rattle.rules.specs.Calls as rules
+use Rattle.rules.specs.WellFormed.{wellFormed}
 use Rattle.rules.specs.Runs.{answers, after}
+use Rattle.model.specs.State.{queuesOf, hierarchyOf, worldOf}
+use Rattle.images.specs.Images.{openedOf, imagedOf, standsFor}
 use Rattle.images.specs.declared.Image.{Image}
 use Rattle.nicoisetarn.specs.Answers.{imagedAnswer, noSuchCall}
-use Rattle.nicoisetarn.specs.Steps.{Left, kept, started, called, stepped, lineShown}
-use Rattle.nicoisetarn.specs.Batch.{callNumbers, callsListed, numbersOf, batchAnswers, batchEnd, BatchLeft, ranAnswer, batchFits, ran}
+use Rattle.nicoisetarn.specs.Steps.{Left, kept, stateOf, started, imageRefusal, stepped, lineShown}
+use Rattle.nicoisetarn.specs.Batch.{numbersOf, batchFits, ranAnswer, BatchLeft, calledAll, ran, batchRefusals}
 
 -- refused, with the image, the cache and the memory as they were
 abbrev pub Keeps : Left → Image → List ℕ → List ℕ → Type 0
@@ -33,34 +35,38 @@ pub record LooksKept : Type 0 where
 
 -- ---- batches
 
--- the calls of a list on an image, one by one, with their answers one behind the other
-unfoldable pub calledAll : List (Option rules.Call) → Image → List ℕ → List ℕ → BatchLeft
-calledAll [] i cache memory = record { answer = ranAnswer; image = i; answers = []; cache = cache; memory = memory }
-calledAll (o ∷ os) i cache memory =
-    let l = called o i cache memory in
-    let rest = calledAll os (l .image) (l .cache) (l .memory) in
-    record {
-      answer = ranAnswer;
-      image = rest .image;
-      answers = numbersOf (l .answer) ++ rest .answers;
-      cache = rest .cache;
-      memory = rest .memory;
-    }
-
 -- the numbers of the rules' answers to a run
 unfoldable pub answersNumbered : List rules.Answer → List ℕ
 answersNumbered [] = []
 answersNumbered (a ∷ rest) = numbersOf (imagedAnswer a) ++ answersNumbered rest
 
-pub record BatchesAreCalls : Type 0 where
-  -- a batch leaves what its calls leave one by one, and has their answers
-  pub one-by-one :
-      (calls answers : List ℕ) (i : Image) (cache memory : List ℕ) → batchFits calls answers ≡ true
-      → ran calls answers i cache memory ≡ calledAll (callsListed (length calls / callNumbers) calls) i cache memory
-  -- of known calls these are the rules' answers to the run, and what the run leaves
-  pub answered : (run : List rules.Call) (w : World) → batchAnswers (map some run) w ≡ answersNumbered (answers run w)
-  pub left : (run : List rules.Call) (w : World) → batchEnd (map some run) w ≡ after run w
-  -- lists whose lengths do not fit, and only they, are told that there is no such call, and everything stays
+-- a run of the rules, from a world on, as a batch leaves it
+unfoldable pub runLeft : List rules.Call → World → BatchLeft
+runLeft run w =
+    let end = after run w in
+    record {
+      answer = ranAnswer;
+      image = imagedOf (stateOf (end .queues) (end .hierarchy));
+      answers = answersNumbered (answers run w);
+      cache = end .hierarchy .cache;
+      memory = end .hierarchy .memory;
+    }
+
+-- the image stands for a state that is well formed
+abbrev pub formedImage : Image → List ℕ → List ℕ → Bool
+formedImage i cache memory = standsFor i && wellFormed (queuesOf (openedOf i)) (hierarchyOf (openedOf i) cache memory)
+
+pub record BatchesAreRuns : Type 0 where
+  -- from an image that stands for a state: the rules' answers to the list of calls, and what they leave
+  pub by-rules :
+      (run : List rules.Call) (i : Image) (cache memory : List ℕ) → standsFor i ≡ true
+      → calledAll (map some run) i cache memory ≡ runLeft run (worldOf (openedOf i) cache memory)
+  -- from any other, and from one whose state is not well formed: every call gets the refusal 1 or 10 (show line the empty part, an
+  -- unknown call its own answer), and image, cache and memory stay
+  pub refused :
+      (os : List (Option rules.Call)) (i : Image) (cache memory : List ℕ) → formedImage i cache memory ≡ false
+      → calledAll os i cache memory ≡ record { answer = ranAnswer; image = i; answers = batchRefusals (imageRefusal i cache memory) os; cache = cache; memory = memory }
+  -- "no such call" is answered exactly where the lengths do not fit, and everything stays
   pub unfit :
       (calls answers : List ℕ) (i : Image) (cache memory : List ℕ) → batchFits calls answers ≡ false
       → ran calls answers i cache memory ≡ record { answer = noSuchCall; image = i; answers = answers; cache = cache; memory = memory }

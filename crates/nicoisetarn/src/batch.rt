@@ -1,16 +1,16 @@
 // A batch: a list of calls by numbers, made one after the other on an image that is opened and tested once.
 ghost use mathlib.Core.Path.{_≡_};
 ghost use mathlib.Core.Bool.{true, _&&_};
-ghost use Prim.Native.Nat.{_+_, _*_, _%_, _≤_};
+ghost use Prim.Native.Nat.{_+_, _*_, _/_, _%_, _≤_};
 ghost use lib.Dec.{eqb};
 ghost use lib.ListN.{length, drop};
 ghost use lib.Seq.{sets};
 ghost use Rattle.model.specs.State.{worldOf, Formed};
 ghost use Rattle.nicoisetarn.specs.Answers.{numberedOf};
-ghost use Rattle.nicoisetarn.specs.Batch.{callNumbers, answerNumbers, callListed, callsListed, numbersOf, refusedAt, batchRefusals, batchFits, batchLeft, ran, MakesCalls};
-use crate::ANSWER_NUMBERS;
+ghost use Rattle.nicoisetarn.specs.Batch.{callStride, answerStride, callListed, callsListed, numbersOf, listedRefusal, batchRefusals, batchFits, batchLeftOf, ran, MakesCalls};
+use crate::ANSWER_STRIDE;
 use crate::AnswerImage;
-use crate::CALL_NUMBERS;
+use crate::CALL_STRIDE;
 use crate::ImageStep;
 use crate::KIND_NO_SUCH_CALL;
 use crate::KIND_RAN;
@@ -24,7 +24,7 @@ use model::State;
 
 // The call at a place of the list.
 fn listed_call(calls: &[u32], at: usize) -> Numbered
-    requires { ⌜ at + callNumbers ≤ length (now calls) ⌝ }
+    requires { ⌜ at + callStride ≤ length (now calls) ⌝ }
     ensures { λ r. ⌜ numberedOf r ≡ callListed (drop at (now (calls .entry))) ⌝ }
 {
     if calls[at + 4] != 0 {
@@ -38,7 +38,7 @@ fn listed_call(calls: &[u32], at: usize) -> Numbered
 
 // The numbers of an answer, at a place of the answers.
 fn put_answer(answers: &mut [u32], at: usize, a: AnswerImage)
-    requires { ⌜ at + answerNumbers ≤ length (now answers) ⌝ }
+    requires { ⌜ at + answerStride ≤ length (now answers) ⌝ }
     ensures { λ _. ⌜ now (answers .exit) ≡ sets (now (answers .entry)) at (numbersOf a) ⌝ }
 {
     answers[at] = a.kind;
@@ -49,11 +49,11 @@ fn put_answer(answers: &mut [u32], at: usize, a: AnswerImage)
     answers[at + 5] = 0;
 }
 
-// ---- every call refused
+// ---- checks 1 and 10 refuse
 
-// The answer to a call where every call is refused with k.
+// What a call of the list answers where they refuse with k.
 fn refused_answer(n: Numbered, k: u32) -> AnswerImage
-    ensures { λ r. ⌜ r ≡ refusedAt k (numberedOf n) ⌝ }
+    ensures { λ r. ⌜ r ≡ listedRefusal k (numberedOf n) ⌝ }
 {
     match n {
         Numbered::Known(c) => steps::refused_with(c, k),
@@ -61,21 +61,21 @@ fn refused_answer(n: Numbered, k: u32) -> AnswerImage
     }
 }
 
-// Answers each of n calls by the refusal k.
+// Answers n calls so.
 fn refuse_calls(k: u32, n: usize, calls: &[u32], answers: &mut [u32])
-    requires { ⌜ (length (now calls) ≡ callNumbers * n) × (length (now answers) ≡ answerNumbers * n) ⌝ }
+    requires { ⌜ (length (now calls) ≡ callStride * n) × (length (now answers) ≡ answerStride * n) ⌝ }
     ensures { λ _. ⌜ now (answers .exit) ≡ batchRefusals k (callsListed n (now (calls .entry))) ⌝ }
 {
     let mut i: usize = 0;
     while i < n {
-        let call = listed_call(calls, CALL_NUMBERS * i);
+        let call = listed_call(calls, CALL_STRIDE * i);
         let a = refused_answer(call, k);
-        put_answer(answers, ANSWER_NUMBERS * i, a);
+        put_answer(answers, ANSWER_STRIDE * i, a);
         i += 1;
     }
 }
 
-// ---- every call made
+// ---- checks 1 and 10 pass
 
 // Makes n calls on a well-formed state, and hands back the state that they leave. It is well formed after each of them, so that
 // checks 1 and 10 are not made again.
@@ -87,14 +87,14 @@ fn make_calls(
     cache: &mut [u8],
     memory: &mut [u8],
 ) -> State
-    requires { ⌜ (length (now calls) ≡ callNumbers * n) × (length (now answers) ≡ answerNumbers * n) × Formed state (now cache) (now memory) ⌝ }
+    requires { ⌜ (length (now calls) ≡ callStride * n) × (length (now answers) ≡ answerStride * n) × Formed state (now cache) (now memory) ⌝ }
     ensures { λ r. ⌜ MakesCalls (callsListed n (now (calls .entry))) (worldOf state (now (cache .entry)) (now (memory .entry)))
         (worldOf r (now (cache .exit)) (now (memory .exit))) (now (answers .exit)) ⌝ }
 {
     let mut at = state;
     let mut i: usize = 0;
     while i < n {
-        let numbered = listed_call(calls, CALL_NUMBERS * i);
+        let numbered = listed_call(calls, CALL_STRIDE * i);
         match numbered {
             Numbered::Known(call) => {
                 let r = at.step_formed(call, cache, memory);
@@ -102,11 +102,11 @@ fn make_calls(
                 let next = r.next;
                 at = next;
                 let a = answers::answer_image(answer);
-                put_answer(answers, ANSWER_NUMBERS * i, a);
+                put_answer(answers, ANSWER_STRIDE * i, a);
             }
             Numbered::Unknown => {
                 let a = answers::coded(KIND_NO_SUCH_CALL, 0, 0);
-                put_answer(answers, ANSWER_NUMBERS * i, a);
+                put_answer(answers, ANSWER_STRIDE * i, a);
             }
         }
         i += 1;
@@ -125,9 +125,9 @@ fn run_fitting(
     memory: &mut [u8],
 ) -> ImageStep
     requires { ⌜ batchFits (now calls) (now answers) ≡ true ⌝ }
-    ensures { λ r. ⌜ batchLeft r (now (answers .exit)) (now (cache .exit)) (now (memory .exit)) ≡ ran (now (calls .entry)) (now (answers .entry)) image (now (cache .entry)) (now (memory .entry)) ⌝ }
+    ensures { λ r. ⌜ batchLeftOf r (now (answers .exit)) (now (cache .exit)) (now (memory .exit)) ≡ ran (now (calls .entry)) (now (answers .entry)) image (now (cache .entry)) (now (memory .entry)) ⌝ }
 {
-    let n = calls.len() / CALL_NUMBERS;
+    let n = calls.len() / CALL_STRIDE;
     let used = images::used_records(image);
     if images::stands(image, used) {
         let state = images::opened(image, used);
@@ -147,14 +147,14 @@ fn run_fitting(
     }
 }
 
-// Whether the calls are whole, and the answers have just the room that they need.
+// Whether lists of these lengths fit.
 fn batch_fits(calls: usize, answers: usize) -> bool
-    ensures { λ r. ⌜ r ≡ (eqb (calls % callNumbers) 0 && eqb answers calls) ⌝ }
+    ensures { λ r. ⌜ r ≡ (eqb (calls % callStride) 0 && eqb answers (answerStride * (calls / callStride))) ⌝ }
 {
-    if calls % CALL_NUMBERS != 0 {
+    if calls % CALL_STRIDE != 0 {
         return false;
     }
-    answers == calls
+    answers == ANSWER_STRIDE * (calls / CALL_STRIDE)
 }
 
 // A batch by its lists; where their lengths do not fit nothing is looked at.
@@ -165,7 +165,7 @@ pub(crate) fn run_image(
     cache: &mut [u8],
     memory: &mut [u8],
 ) -> ImageStep
-    ensures { λ r. ⌜ batchLeft r (now (answers .exit)) (now (cache .exit)) (now (memory .exit)) ≡ ran (now (calls .entry)) (now (answers .entry)) image (now (cache .entry)) (now (memory .entry)) ⌝ }
+    ensures { λ r. ⌜ batchLeftOf r (now (answers .exit)) (now (cache .exit)) (now (memory .exit)) ≡ ran (now (calls .entry)) (now (answers .entry)) image (now (cache .entry)) (now (memory .entry)) ⌝ }
 {
     if batch_fits(calls.len(), answers.len()) {
         return run_fitting(image, calls, answers, cache, memory);

@@ -1,9 +1,10 @@
-// The boundary for C and Rust: functions that start, step and look at an image of the state where the caller stores it.
+// The boundary for C and Rust: functions that start an image of the state where the caller stores it, step it by one call or by a list of
+// calls, and look at it.
 // An image that stands for no state is refused and never repaired. Calls and answers go by numbers.
 ghost use mathlib.Core.Path.{_≡_};
 ghost use Rattle.nicoisetarn.specs.Steps.{leftOf, started, stepped, lineShown};
-ghost use Rattle.nicoisetarn.specs.Batch.{batchLeft, ran};
-ghost use Rattle.nicoisetarn.specs.Claims.{RefusedImagesKept, UnknownCallsKept, LooksKept, BatchesAreCalls};
+ghost use Rattle.nicoisetarn.specs.Batch.{batchLeftOf, ran};
+ghost use Rattle.nicoisetarn.specs.Claims.{RefusedImagesKept, UnknownCallsKept, LooksKept, BatchesAreRuns};
 use images::Image;
 
 mod answers;
@@ -69,15 +70,15 @@ pub const KIND_SHOWN: u32 = 11;
 pub const KIND_READY: u32 = 12;
 // A batch was made: the boundary's own, as the next. Kinds from 13 to 253 are free for answers to come.
 pub const KIND_RAN: u32 = 254;
-// There is no such call: the boundary's own, no answer of 01.
+// There is no such call, or the lengths of a batch do not fit: the boundary's own, no answer of 01.
 pub const KIND_NO_SUCH_CALL: u32 = 255;
 
 // ---- lists of calls and of answers (specs/Batch.antt)
 
-// How many numbers a call of a batch has: its number, three operands, and two that no call has yet, which are 0.
-pub const CALL_NUMBERS: usize = 6;
-// How many numbers an answer has: its three, and three zeros.
-pub const ANSWER_NUMBERS: usize = 6;
+// How many numbers a call has in its list: its number, three operands, and two that no call has yet, which are 0.
+pub const CALL_STRIDE: usize = 6;
+// How many numbers an answer has in its list: its three, and three zeros.
+pub const ANSWER_STRIDE: usize = 6;
 
 // What a call hands back by value: its answer and the next image.
 pub struct ImageStep {
@@ -121,8 +122,8 @@ pub extern "C" fn nicoisetarn_step_in(
     r.answer
 }
 
-// A batch: the calls of a list, one after the other, each of six numbers, with six numbers for each answer. The image is opened, tested
-// and made once. For lists whose lengths do not fit the answer is that of an unknown call, and nothing is looked at.
+// A batch: the calls of a list, one after the other, and the list of their answers. The image is opened, tested and made once. Where the
+// lengths do not fit the answer is that of an unknown call, and nothing is looked at.
 #[no_mangle]
 pub extern "C" fn nicoisetarn_run_in(
     image: &mut Image,
@@ -131,7 +132,7 @@ pub extern "C" fn nicoisetarn_run_in(
     cache: &mut [u8],
     memory: &mut [u8],
 ) -> AnswerImage
-    ensures { λ r. ⌜ batchLeft (record { answer = r; next = now (image .exit) }) (now (answers .exit)) (now (cache .exit)) (now (memory .exit)) ≡ ran (now (calls .entry)) (now (answers .entry)) (now (image .entry)) (now (cache .entry)) (now (memory .entry)) ⌝ }
+    ensures { λ r. ⌜ batchLeftOf (record { answer = r; next = now (image .exit) }) (now (answers .exit)) (now (cache .exit)) (now (memory .exit)) ≡ ran (now (calls .entry)) (now (answers .entry)) (now (image .entry)) (now (cache .entry)) (now (memory .entry)) ⌝ }
 {
     let r = batch::run_image(*image, calls, answers, cache, memory);
     *image = r.next;
@@ -168,7 +169,8 @@ pub fn looks_kept()
     ensures { λ r. ⌜ LooksKept ⌝ }
 {}
 
-// A batch is its calls made one by one, and of known calls the run of the rules; where the lengths do not fit everything stays as it was.
-pub fn batches_are_calls()
-    ensures { λ r. ⌜ BatchesAreCalls ⌝ }
+// A batch on an image that stands for a state is the rules' run; on one that is refused every call is, and where the lengths do not fit
+// there is no such call: then everything stays as it was.
+pub fn batches_are_runs()
+    ensures { λ r. ⌜ BatchesAreRuns ⌝ }
 {}

@@ -19,10 +19,10 @@ pub const NO_SUCH_CALL: Numbers = Numbers { kind: 255, first: 0, second: 0 };
 /// A batch was run.
 pub const RAN: Numbers = Numbers { kind: 254, first: 0, second: 0 };
 
-/// A call in a batch, and an answer.
-pub type Six = [u32; 6];
-/// What a batch has for a call that is none.
-pub const NOT_ANSWERED: Six = [255, 0, 0, 0, 0, 0];
+/// The numbers of a call, or of an answer, in the lists of a batch.
+pub type Listed = [u32; 6];
+/// What a batch answers to a call that there is not.
+pub const UNKNOWN: Listed = [255, 0, 0, 0, 0, 0];
 /// A number that is in no answer, to see what is written.
 pub const UNTOUCHED: u32 = 0xA5A5_A5A5;
 
@@ -90,7 +90,7 @@ pub fn run(
 }
 
 /// A batch whose lengths fit: its answers.
-pub fn run_list(image: &mut Image, cache: &mut [u8], memory: &mut [u8], calls: &[Six]) -> Vec<Six> {
+pub fn run_list(image: &mut Image, cache: &mut [u8], memory: &mut [u8], calls: &[Listed]) -> Vec<Listed> {
     let mut answers = vec![UNTOUCHED; calls.len() * 6];
     let ran = run(image, &calls.concat(), &mut answers, cache, memory);
     assert_eq!(ran, RAN);
@@ -98,7 +98,7 @@ pub fn run_list(image: &mut Image, cache: &mut [u8], memory: &mut [u8], calls: &
 }
 
 /// A call of the model in a batch; a start has no number.
-pub fn call_of(call: Call) -> Option<Six> {
+pub fn call_of(call: Call) -> Option<Listed> {
     let (number, [x, y, z]) = match call {
         Call::Start { .. } => return None,
         Call::Load { address, width } => (0, [address, width, 0]),
@@ -115,7 +115,7 @@ pub fn call_of(call: Call) -> Option<Six> {
 }
 
 /// An answer of the model in a batch.
-pub fn answer_of(answer: Answer) -> Six {
+pub fn answer_of(answer: Answer) -> Listed {
     let (kind, first, second) = match answer {
         Answer::Refused(no) => (0, no, 0),
         Answer::Stored(number) => (1, number, 0),

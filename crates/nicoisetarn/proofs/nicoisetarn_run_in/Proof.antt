@@ -39,7 +39,7 @@ use denote.Triple.Spec.{Meets, tripleOf}
 use denote.Triple.Table.{entered, cited}
 use denote.Triple.Walked.{says, Stays, stay-ref, gave-slice, goes-gave-slice, stay-none-slice, goes-none-slice, walkOf, AllGo, goes-ref, Walks, ends-at, walked, walk-meets}
 use denote.Exit.{yes}
-use Rattle.nicoisetarn.specs.Batch.{batchLeft, ran}
+use Rattle.nicoisetarn.specs.Batch.{batchLeftOf, ran}
 use Rattle.images.specs.declared.Image.{Image as State}
 use Rattle.nicoisetarn.specs.declared.ImageStep.{ImageStep as Step}
 use Rattle.images.proofs.Image as T
@@ -65,7 +65,7 @@ abbrev Callee : {M : Type 1} (𝓤 : URA M) (H : Heap 𝓤) (A : Atoms 𝓤) (at
 Callee 𝓤 H A at-mem run = tripleOf 𝓤 H A g.signature (g.spec 𝓤 H A at-mem run)
 
 abbrev Fact : State → List ℕ → List ℕ → List ℕ → List ℕ → Step → List ℕ → List ℕ → List ℕ → Type 0
-Fact h calls answers cache memory r answers′ cache′ memory′ = batchLeft r answers′ cache′ memory′ ≡ ran calls answers h cache memory
+Fact h calls answers cache memory r answers′ cache′ memory′ = batchLeftOf r answers′ cache′ memory′ ≡ ran calls answers h cache memory
 
 abbrev valsT : State → List Val
 valsT = LL.vals T.the-type T′.the-laws

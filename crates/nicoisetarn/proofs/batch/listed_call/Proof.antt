@@ -3,9 +3,6 @@ use borrow.Author.Needs.{needs}
 use Rattle.nicoisetarn.proofs.Batches.{listed-fifth, listed-sixth, listed-known}
 use Rattle.nicoisetarn.proofs.batch.listed_call.Statement.{statement}
 use Rattle.nicoisetarn.proofs.batch.listed_call.Tie as tie
-use Rattle.nicoisetarn.proofs.batch.listed_call.Reads as reads
-use Rattle.nicoisetarn.proofs.batch.listed_call.Lts as lts
-use Rattle.nicoisetarn.proofs.answers.call_numbered.Reads as call-numbered-reads
 
 add-if1 : tie.Need-add-if1
 add-if1 c = search needs

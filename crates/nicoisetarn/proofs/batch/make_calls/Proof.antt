@@ -11,13 +11,6 @@ use Rattle.nicoisetarn.proofs.ShownPart.{step-small}
 use Rattle.nicoisetarn.proofs.Batches.{Made, made-none, made-all, Going, going-same, going-call, going-none}
 use Rattle.nicoisetarn.proofs.batch.make_calls.Statement.{statement}
 use Rattle.nicoisetarn.proofs.batch.make_calls.Tie as tie
-use Rattle.nicoisetarn.proofs.batch.make_calls.Reads as reads
-use Rattle.nicoisetarn.proofs.batch.make_calls.Lts as lts
-use Rattle.model.proofs.State.step_formed.Reads as step-formed-reads
-use Rattle.nicoisetarn.proofs.answers.answer_image.Reads as answer-image-reads
-use Rattle.nicoisetarn.proofs.answers.coded.Reads as coded-reads
-use Rattle.nicoisetarn.proofs.batch.listed_call.Reads as listed-call-reads
-use Rattle.nicoisetarn.proofs.batch.put_answer.Reads as put-answer-reads
 
 abbrev Inv-loop : tie.InvT-loop
 Inv-loop n calls answers₀ cache₀ memory₀ at₀ i₀ answers cache memory at i =

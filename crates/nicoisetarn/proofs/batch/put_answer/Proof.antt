@@ -5,8 +5,6 @@ use Rattle.nicoisetarn.proofs.Batches.{put-six}
 use lib.ListN.{length-set}
 use Rattle.nicoisetarn.proofs.batch.put_answer.Statement.{statement}
 use Rattle.nicoisetarn.proofs.batch.put_answer.Tie as tie
-use Rattle.nicoisetarn.proofs.batch.put_answer.Reads as reads
-use Rattle.nicoisetarn.proofs.batch.put_answer.Lts as lts
 
 mul-answers : tie.Need-mul-answers
 mul-answers c = search needs

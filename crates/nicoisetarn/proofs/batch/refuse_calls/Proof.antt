@@ -1,17 +1,12 @@
 -- `batch::refuse_calls` meets its contract: after i calls the first i answers are there.
 use borrow.Author.Needs.{needs}
-use Prim.Native.Nat.{ℕ, _≤_, _-_}
+use Prim.Native.Nat.{ℕ, _+_, _*_, _≤_, _-_}
 use mathlib.Core.Path.{_≡_, refl, subst, _∙_}
 use native.Mathlib.Omega.{arith}
 use lib.ListN.{length}
 use Rattle.nicoisetarn.proofs.Batches.{Refused, refused-none, refused-more, refused-all}
 use Rattle.nicoisetarn.proofs.batch.refuse_calls.Statement.{statement}
 use Rattle.nicoisetarn.proofs.batch.refuse_calls.Tie as tie
-use Rattle.nicoisetarn.proofs.batch.refuse_calls.Reads as reads
-use Rattle.nicoisetarn.proofs.batch.refuse_calls.Lts as lts
-use Rattle.nicoisetarn.proofs.batch.listed_call.Reads as listed-call-reads
-use Rattle.nicoisetarn.proofs.batch.put_answer.Reads as put-answer-reads
-use Rattle.nicoisetarn.proofs.batch.refused_answer.Reads as refused-answer-reads
 
 abbrev Inv-loop : tie.InvT-loop
 Inv-loop k n calls answers₀ i₀ answers i = (i ≤ n) × (length answers ≡ length answers₀) × Refused k n calls i answers
@@ -62,7 +57,12 @@ loop-again c =
     let listed-call = c .before .before .before .before .before .listed-call in
     let refused-answer = c .before .before .before .before .refused-answer in
     let put-answer = c .before .before .put-answer in
-    (omega (arith, loop-test .taken), put-answer .kept .0 ∙ loop .inv .1, refused-more (args .k) (args .n) (args .calls .now) (loop .i) (loop .answers) _ _ _ (loop-test .taken) (omega (arith, pre .1, loop .inv .1, loop-test .taken)) (listed-call .ensures) (refused-answer .ensures) (put-answer .ensures) (loop .inv .2))
+    let room : 6 * (loop .i + 1) ≤ length (loop .answers) = omega (arith, pre .1, loop .inv .1, loop-test .taken) in
+    let more = refused-more (args .k) (args .n) (args .calls .now) (loop .i) (loop .answers) _ _ _ (loop-test .taken) room in (
+      omega (arith, loop-test .taken),
+      put-answer .kept .0 ∙ loop .inv .1,
+      more (listed-call .ensures) (refused-answer .ensures) (put-answer .ensures) (loop .inv .2),
+    )
 
 same-length : tie.Need-same-length Inv-loop μ-loop
 same-length c =

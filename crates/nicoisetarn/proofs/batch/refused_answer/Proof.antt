@@ -2,10 +2,6 @@
 use borrow.Author.Needs.{needs}
 use Rattle.nicoisetarn.proofs.batch.refused_answer.Statement.{statement}
 use Rattle.nicoisetarn.proofs.batch.refused_answer.Tie as tie
-use Rattle.nicoisetarn.proofs.batch.refused_answer.Reads as reads
-use Rattle.nicoisetarn.proofs.batch.refused_answer.Lts as lts
-use Rattle.nicoisetarn.proofs.answers.coded.Reads as coded-reads
-use Rattle.nicoisetarn.proofs.steps.refused_with.Reads as refused-with-reads
 
 enum-known-n : tie.Need-enum-known-n
 enum-known-n c = search needs

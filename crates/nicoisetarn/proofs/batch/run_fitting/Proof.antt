@@ -1,22 +1,13 @@
 -- `batch::run_fitting` meets its contract: the image stands for a well-formed state, or is refused.
 use borrow.Author.Needs.{needs}
 use mathlib.Core.Logic.{⊎-elim}
-use mathlib.Core.Path.{refl, sym, _∙_}
+use mathlib.Core.Path.{_≡_, refl, sym, _∙_}
+use mathlib.Core.Bool.{false}
 use Rattle.images.proofs.Standing.{used-stands, used-opened}
-use Rattle.nicoisetarn.proofs.Batches.{fits-tell, batch-made, batch-no-state, batch-malformed}
+use Rattle.nicoisetarn.specs.Claims.{formedImage}
+use Rattle.nicoisetarn.proofs.BatchRuns.{fits-tell, batch-made, batch-refused, unformed, no-state-unformed}
 use Rattle.nicoisetarn.proofs.batch.run_fitting.Statement.{statement}
 use Rattle.nicoisetarn.proofs.batch.run_fitting.Tie as tie
-use Rattle.nicoisetarn.proofs.batch.run_fitting.Reads as reads
-use Rattle.nicoisetarn.proofs.batch.run_fitting.Lts as lts
-use Rattle.images.proofs.imaged.Reads as imaged-reads
-use Rattle.images.proofs.opened.Reads as opened-reads
-use Rattle.images.proofs.stands.Reads as stands-reads
-use Rattle.images.proofs.used_records.Reads as used-records-reads
-use Rattle.model.proofs.State.is_formed.Reads as is-formed-reads
-use Rattle.nicoisetarn.proofs.answers.coded.Reads as coded-reads
-use Rattle.nicoisetarn.proofs.batch.make_calls.Reads as make-calls-reads
-use Rattle.nicoisetarn.proofs.batch.refuse_calls.Reads as refuse-calls-reads
-use Rattle.nicoisetarn.proofs.steps.image_refusal.Reads as image-refusal-reads
 
 used-records-requires : tie.Need-used-records-requires
 used-records-requires c κs = search needs
@@ -105,11 +96,12 @@ returns-2 c =
     let answers = args .answers .now in
     let cache = args .cache .now in
     let memory = args .memory .now in
+    let bad : formedImage (args .image) cache memory ≡ false =
     ⊎-elim
-    (λ w. batch-malformed calls answers (args .image) cache memory pre _ (image-refusal .ensures) _ (refuse-calls .ensures) _ (c .coded2 .ensures) refl
-    (stands-is ∙ w .0 .taken) (w .1 .result) (w .1 .ensures ∙ used-opened _ _ (used-records .ensures)) (sym (w .4 .ensures) ∙ w .5 .left))
-    (λ w. batch-no-state calls answers (args .image) cache memory pre _ (image-refusal .ensures) _ (refuse-calls .ensures) _ (c .coded2 .ensures) refl (stands-is ∙ w .left))
-    (if1 .came)
+    (λ w. unformed (args .image) cache memory (w .1 .result) (w .1 .ensures ∙ used-opened _ _ (used-records .ensures)) (sym (w .4 .ensures) ∙ w .5 .left))
+    (λ w. no-state-unformed (args .image) cache memory (stands-is ∙ w .left))
+    (if1 .came) in
+    batch-refused calls answers (args .image) cache memory pre bad _ (image-refusal .ensures) _ (refuse-calls .ensures) _ (c .coded2 .ensures) refl
 
 pub run-fitting-spec : {M : Type 1} → statement M
 run-fitting-spec =

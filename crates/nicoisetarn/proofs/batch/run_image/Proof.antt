@@ -1,14 +1,9 @@
 -- `batch::run_image` meets its contract: the lengths fit, or nothing is made.
 use borrow.Author.Needs.{needs}
 use mathlib.Core.Path.{refl, _∙_}
-use Rattle.nicoisetarn.proofs.Batches.{fits-told, batch-unfit}
+use Rattle.nicoisetarn.proofs.BatchRuns.{fits-told, batch-unfit}
 use Rattle.nicoisetarn.proofs.batch.run_image.Statement.{statement}
 use Rattle.nicoisetarn.proofs.batch.run_image.Tie as tie
-use Rattle.nicoisetarn.proofs.batch.run_image.Reads as reads
-use Rattle.nicoisetarn.proofs.batch.run_image.Lts as lts
-use Rattle.nicoisetarn.proofs.answers.coded.Reads as coded-reads
-use Rattle.nicoisetarn.proofs.batch.batch_fits.Reads as batch-fits-reads
-use Rattle.nicoisetarn.proofs.batch.run_fitting.Reads as run-fitting-reads
 
 batch-fits-requires : tie.Need-batch-fits-requires
 batch-fits-requires c κs = search needs
