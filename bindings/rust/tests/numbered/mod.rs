@@ -90,7 +90,12 @@ pub fn run(
 }
 
 /// A batch whose lengths fit: its answers.
-pub fn run_list(image: &mut Image, cache: &mut [u8], memory: &mut [u8], calls: &[Listed]) -> Vec<Listed> {
+pub fn run_list(
+    image: &mut Image,
+    cache: &mut [u8],
+    memory: &mut [u8],
+    calls: &[Listed],
+) -> Vec<Listed> {
     let mut answers = vec![UNTOUCHED; calls.len() * 6];
     let ran = run(image, &calls.concat(), &mut answers, cache, memory);
     assert_eq!(ran, RAN);
