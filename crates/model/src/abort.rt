@@ -4,7 +4,7 @@ ghost use mathlib.Core.List.{List};
 ghost use Prim.Native.Nat.{ℕ, _<_};
 ghost use Rattle.rules.specs.Calls.{abortRule};
 ghost use Rattle.rules.specs.Calls as rules;
-ghost use Rattle.model.specs.State.{queuesOf, hierarchyOf, outcomeOf, Does, worldOf, Formed};
+ghost use Rattle.model.specs.State.{queuesOf, hierarchyOf, outcomeOf, Does, DoesWith, worldOf};
 use crate::Answer;
 use crate::State;
 use crate::Step;
@@ -31,9 +31,8 @@ impl State {
     }
 
     // An abort on a well-formed state: check 16, then the abort.
-    pub(crate) fn abort_formed(self, cache: &[u8], memory: &[u8], n: u32) -> Step
-        requires { ⌜ Formed self (now cache) (now memory) ⌝ }
-        ensures { λ r. ⌜ Does (rules.abort n) (worldOf self (now (cache .entry)) (now (memory .entry))) r (now (cache .entry)) (now (memory .entry)) ⌝ }
+    pub(crate) fn abort_formed(self, n: u32) -> Step
+        ensures { λ r. ⌜ ((c : List ℕ) → DoesWith (rules.abort n) self r c) ⌝ }
     {
         if n <= self.committed {
             return self.refused(BAD_ABORT);
@@ -52,6 +51,6 @@ impl State {
         if k != 0 {
             return self.refused(k);
         }
-        self.abort_formed(cache, memory, n)
+        self.abort_formed(n)
     }
 }

@@ -3,6 +3,7 @@
 ghost use mathlib.Core.Path.{_≡_};
 ghost use mathlib.Core.Bool.{_&&_};
 ghost use Prim.Native.Nat.{_*_};
+ghost use Rattle.rules.specs.Lines.{present};
 ghost use Rattle.rules.specs.Calls.{guarded};
 ghost use Rattle.rules.specs.WellFormed.{requestAbsent, requestInside, requestWanted, wellFormed};
 ghost use Rattle.rules.specs.Runs.{stateChecks};
@@ -17,28 +18,34 @@ use rules::NOT_WELL_FORMED;
 use rules::Request;
 
 impl State {
+    // The line is present.
+    pub(crate) fn has_line(self, line: u32) -> bool
+        requires { ⌜ Shaped self (self .figures .sets * self .figures .ways * 16) ⌝ }
+        ensures { λ r. ⌜ r ≡ present (tabled (self .figures) (self .tags)) line ⌝ }
+    {
+        let tags = self.tags;
+        let figures = self.figures;
+        records::is_present(tags, figures, line)
+    }
+
     // A requested line is absent, lies in memory, and is wanted.
     fn is_request_good(self) -> bool
         requires { ⌜ Shaped self (self .figures .sets * self .figures .ways * 16) ⌝ }
         ensures { λ r. ⌜ r ≡ (requestAbsent (self .request) (tabled (self .figures) (self .tags)) && (requestInside (self .request) (sized (self .size)) && requestWanted (self .request) (queuesOf self))) ⌝ }
     {
         let request = self.request;
-        match request {
-            Request::Free => true,
-            Request::Line(line) => {
-                let tags = self.tags;
-                let figures = self.figures;
-                if records::is_present(tags, figures, line) {
-                    return false;
-                }
-                if self.size as u64 <= (LINE_BYTES as u64) * (line as u64) {
-                    return false;
-                }
-                let stores = self.stores;
-                let loads = self.loads;
-                queue_checks::request_wanted(request, stores, loads, self.committed)
-            }
+        let Request::Line(line) = request else {
+            return true;
+        };
+        if self.has_line(line) {
+            return false;
         }
+        if self.size as u64 <= (LINE_BYTES as u64) * (line as u64) {
+            return false;
+        }
+        let stores = self.stores;
+        let loads = self.loads;
+        queue_checks::request_wanted(request, stores, loads, self.committed)
     }
 
     // 0 where checks 1 and 10 pass, else the refusal's number.
@@ -53,10 +60,11 @@ impl State {
         if k != 0 {
             return k;
         }
-        if queue_checks::queues_good(stores, loads, self.last, self.committed, self.size) {
-            if self.is_request_good() {
-                return 0;
-            }
+        if !queue_checks::queues_good(stores, loads, self.last, self.committed, self.size) {
+            return NOT_WELL_FORMED;
+        }
+        if self.is_request_good() {
+            return 0;
         }
         NOT_WELL_FORMED
     }
@@ -85,6 +93,16 @@ impl State {
             stores,
             loads,
             tags,
+        }
+    }
+
+    // Nothing is done.
+    pub(crate) fn idled(self) -> Step
+        ensures { λ r. ⌜ r ≡ record { answer = Answer.Idled; next = self } ⌝ }
+    {
+        Step {
+            answer: Answer::Idled,
+            next: self,
         }
     }
 

@@ -18,12 +18,15 @@ returns c =
     rw (c .refused .ensures) (sym (state-refuses _ _ _ _ (state-refusal .ensures) (if1 .taken) tt))
 
 abort-formed-requires : tie.Need-abort-formed-requires
-abort-formed-requires c κs =
-    let state-refusal = c .before .state-refusal in
-    state-formed _ _ _ (state-refusal .ensures) (c .if1 .left)
+abort-formed-requires c κs = search needs
 
 returns-2 : tie.Need-returns-2
-returns-2 c = c .abort-formed .ensures
+returns-2 c =
+    let state-refusal = c .before .before .state-refusal in
+    let if1 = c .before .if1 in
+    c .abort-formed .ensures _ _ (state-formed _ _ _ (state-refusal .ensures) (if1 .left))
 
 pub abort-spec : {M : Type 1} → statement M
-abort-spec = tie.close (tie.spec state-refusal-requires refused-requires returns abort-formed-requires returns-2)
+abort-spec =
+    tie.close
+    (tie.spec state-refusal-requires refused-requires returns abort-formed-requires returns-2)

@@ -18,12 +18,15 @@ returns c =
     rw (c .refused .ensures) (sym (state-refuses _ _ _ _ (state-refusal .ensures) (if1 .taken) tt))
 
 store-formed-requires : tie.Need-store-formed-requires
-store-formed-requires c κs =
-    let state-refusal = c .before .state-refusal in
-    state-formed _ _ _ (state-refusal .ensures) (c .if1 .left)
+store-formed-requires c κs = search needs
 
 returns-2 : tie.Need-returns-2
-returns-2 c = c .store-formed .ensures
+returns-2 c =
+    let state-refusal = c .before .before .state-refusal in
+    let if1 = c .before .if1 in
+    c .store-formed .ensures _ _ (state-formed _ _ _ (state-refusal .ensures) (if1 .left))
 
 pub store-spec : {M : Type 1} → statement M
-store-spec = tie.close (tie.spec state-refusal-requires refused-requires returns store-formed-requires returns-2)
+store-spec =
+    tie.close
+    (tie.spec state-refusal-requires refused-requires returns store-formed-requires returns-2)
