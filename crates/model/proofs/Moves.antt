@@ -1,5 +1,5 @@
 -- What the code makes of records and bytes is what the rules make of the hierarchy: idle, reply, flush, show line, start.
-use Prim.Native.Nat.{ℕ, zero, suc, _+_, _*_, _%_, _<_, _≤_}
+use Prim.Native.Nat.{ℕ, zero, suc, _+_, _*_, _-_, _%_, _<_, _≤_}
 use mathlib.Core.Path.{_≡_, refl, sym, _∙_, ap}
 use mathlib.Core.Bool.{Bool, true, false, cond, not, _&&_}
 use mathlib.Core.List.{List, [], _∷_}
@@ -138,12 +138,13 @@ fill-parts b l v e =
 
 -- the fill, from what each function made
 pub filled-whole :
-    (b : Hierarchy) (l f v n : ℕ) (tags : List Tag) (cache memory : List ℕ) → Fillable (b .figures) (b .tags) l (length (b .cache)) (length (b .memory)) → Chosen b l f v
+    (b : Hierarchy) (l f v : ℕ) (tags : List Tag) (cache memory : List ℕ) → Fillable (b .figures) (b .tags) l (length (b .cache)) (length (b .memory)) → Chosen b l f v
     → memory ≡ lineWritten (tagAt (b .tags) v) v (b .cache) (b .memory)
-    → n ≡ 16 → cache ≡ lineFilled v (take n (drop (16 * l) memory)) (b .cache)
+    → cache ≡ lineFilled v (take (16 * l + 16 - 16 * l) (drop (16 * l) memory)) (b .cache)
     → tags ≡ cond (inSet f (b .figures .ways) v && ltb l 65536) (installedIn f (b .figures .ways) v l (b .tags)) (b .tags)
     → holding b tags cache memory ≡ fillLine l b
-filled-whole b l f v n tags cache memory g h m e c t =
+filled-whole b l f v tags cache memory g h m c t =
+    let e : 16 * l + 16 - 16 * l ≡ 16 = omega arith in
     let slot : 16 * v + 16 ≤ length (b .cache) = omega (arith, h .high, h .within, g .cache-long) in
     let written : memory ≡ eachFrom (writtenBackAt (tagAt (b .tags) v) (b .cache) v) 0 (b .memory) =
     m ∙ written-inside (tagAt (b .tags) v) v (b .cache) (b .memory) slot (g .dirty-lines v (omega (arith, h .high, h .within, h .room))) in
