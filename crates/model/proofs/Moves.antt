@@ -51,6 +51,10 @@ each-used g size cache memory (l ∷ ls) tags =
 
 -- ---- idle
 
+and-true : (t : Bool) → (t && true) ≡ t
+and-true true = refl
+and-true false = refl
+
 first-none : {A : Type 0} (p : A → Bool) (d : A) (l : List A) → any p l ≡ false → first p d l ≡ d
 unfolding any first
 first-none p d [] e = refl
@@ -65,6 +69,17 @@ wanting-none : (b : Hierarchy) (h : ℕ) (ls : List LoadEntry) → isFreeLoad (f
 unfolding wantsLine
 wanting-none b h ls e = cases (any (wantsLine b h) ls)
     (λ t. wrong e (not-true _ (and-left _ _ (any-first (wantsLine b h) noLoad ls t)))) (λ t. t)
+
+-- where nothing drains, the oldest store is ready exactly if it is ready and its line is absent
+module _ (s : State) (r : Bool) (told : r ≡ storeReady (queuesOf s)) where
+  abbrev absent : Bool
+  absent = not (present (tabled (s .figures) (s .tags)) (lineOf (oldestStore (queuesOf s) .address)))
+
+  pub missing-absent : present (tabled (s .figures) (s .tags)) (lineOf (oldestStore (queuesOf s) .address)) ≡ false → r ≡ (storeReady (queuesOf s) && absent)
+  missing-absent h = rw h (told ∙ sym (and-true (storeReady (queuesOf s))))
+
+  pub missing-unready : r ≡ false → r ≡ (storeReady (queuesOf s) && absent)
+  missing-unready f = f ∙ sym (rw (sym told ∙ f))
 
 module _ (s : State) (cache memory : List ℕ) where
   -- the records once each load of a list has used its line

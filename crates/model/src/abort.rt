@@ -6,6 +6,7 @@ ghost use Rattle.rules.specs.Calls.{abortRule};
 ghost use Rattle.rules.specs.Calls as rules;
 ghost use Rattle.model.specs.State.{queuesOf, hierarchyOf, outcomeOf, Does, DoesWith, worldOf};
 use crate::Answer;
+use crate::Call;
 use crate::State;
 use crate::Step;
 use rules::BAD_ABORT;
@@ -47,10 +48,6 @@ impl State {
     pub fn abort(self, cache: &[u8], memory: &[u8], n: u32) -> Step
         ensures { λ r. ⌜ Does (rules.abort n) (worldOf self (now (cache .entry)) (now (memory .entry))) r (now (cache .entry)) (now (memory .entry)) ⌝ }
     {
-        let k = self.state_refusal(cache, memory);
-        if k != 0 {
-            return self.refused(k);
-        }
-        self.abort_formed(n)
+        self.read_checked(Call::Abort(n), cache, memory)
     }
 }

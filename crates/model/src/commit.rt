@@ -6,6 +6,7 @@ ghost use Rattle.rules.specs.Calls.{commitRule};
 ghost use Rattle.rules.specs.Calls as rules;
 ghost use Rattle.model.specs.State.{queuesOf, hierarchyOf, outcomeOf, Shaped, Does, DoesWith, worldOf};
 use crate::Answer;
+use crate::Call;
 use crate::State;
 use crate::Step;
 use rules::BAD_COMMIT;
@@ -48,10 +49,6 @@ impl State {
     pub fn commit(self, cache: &[u8], memory: &[u8], k: u32) -> Step
         ensures { λ r. ⌜ Does (rules.commit k) (worldOf self (now (cache .entry)) (now (memory .entry))) r (now (cache .entry)) (now (memory .entry)) ⌝ }
     {
-        let n = self.state_refusal(cache, memory);
-        if n != 0 {
-            return self.refused(n);
-        }
-        self.commit_formed(k)
+        self.read_checked(Call::Commit(k), cache, memory)
     }
 }

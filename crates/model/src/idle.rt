@@ -104,13 +104,13 @@ impl State {
         let stores = self.stores;
         let loads = self.loads;
         let s = stores[0];
-        if queue_checks::store_ready(stores, loads, self.committed) {
+        let ready = queue_checks::store_ready(stores, loads, self.committed);
+        if ready {
             if self.has_line(s.address / LINE_BYTES) {
                 return self.drain_oldest(cache, s);
             }
-            return self.idle_request(true, s.address);
         }
-        self.idle_request(false, s.address)
+        self.idle_request(ready, s.address)
     }
 
     // "Idle does the first that applies." Refused: 1, 10. (Memory is lent to be written, and is left as it was.)

@@ -7,6 +7,7 @@ ghost use Rattle.rules.specs.Shape.{topNumber};
 ghost use Rattle.rules.specs.Calls.{loadRule};
 ghost use Rattle.rules.specs.Calls as rules;
 ghost use Rattle.model.specs.State.{queuesOf, hierarchyOf, outcomeOf, Shaped, InOneLine, Does, DoesWith, worldOf, Sound};
+use crate::Call;
 use crate::State;
 use crate::Step;
 use crate::read;
@@ -62,10 +63,6 @@ impl State {
     pub fn load(self, cache: &[u8], memory: &[u8], address: u32, width: u32) -> Step
         ensures { λ r. ⌜ Does (rules.load address width) (worldOf self (now (cache .entry)) (now (memory .entry))) r (now (cache .entry)) (now (memory .entry)) ⌝ }
     {
-        let k = self.state_refusal(cache, memory);
-        if k != 0 {
-            return self.refused(k);
-        }
-        self.load_formed(cache, address, width)
+        self.read_checked(Call::Load(address, width), cache, memory)
     }
 }

@@ -9,6 +9,7 @@ ghost use Rattle.rules.specs.Calls.{waitingAt, answerLoad, retryRule};
 ghost use Rattle.rules.specs.Calls as rules;
 ghost use Rattle.model.specs.State.{queuesOf, hierarchyOf, outcomeOf, Shaped, InOneLine, Does, DoesWith, worldOf, Sound};
 use crate::Answer;
+use crate::Call;
 use crate::State;
 use crate::Step;
 use line_bytes::Read;
@@ -72,10 +73,6 @@ impl State {
     pub fn retry(self, cache: &[u8], memory: &[u8], i: u32) -> Step
         ensures { λ r. ⌜ Does (rules.retry i) (worldOf self (now (cache .entry)) (now (memory .entry))) r (now (cache .entry)) (now (memory .entry)) ⌝ }
     {
-        let k = self.state_refusal(cache, memory);
-        if k != 0 {
-            return self.refused(k);
-        }
-        self.retry_formed(cache, i)
+        self.read_checked(Call::Retry(i), cache, memory)
     }
 }

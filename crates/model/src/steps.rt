@@ -43,6 +43,17 @@ impl State {
         self.idled()
     }
 
+    // A call that only reads the lent bytes, on any state: checks 1 and 10, then the call.
+    pub(crate) fn read_checked(self, call: Call, cache: &[u8], memory: &[u8]) -> Step
+        ensures { λ r. ⌜ (readsOnly call ≡ true → Does (callOf call) (worldOf self (now (cache .entry)) (now (memory .entry))) r (now (cache .entry)) (now (memory .entry))) ⌝ }
+    {
+        let k = self.state_refusal(cache, memory);
+        if k != 0 {
+            return self.refused_call(call, k);
+        }
+        self.read_formed(call, cache)
+    }
+
     // Any call of a run on a state that is known to be well formed: checks 1 and 10 are not made. Of all public routines this one alone
     // asks something of its caller: to have tested the state once (`is_formed`), since when every call has kept it well formed.
     pub fn step_formed(self, call: Call, cache: &mut [u8], memory: &mut [u8]) -> Step

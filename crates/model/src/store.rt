@@ -7,6 +7,7 @@ ghost use Rattle.rules.specs.Calls.{storeRule};
 ghost use Rattle.rules.specs.Calls as rules;
 ghost use Rattle.model.specs.State.{queuesOf, hierarchyOf, outcomeOf, storeRest, Does, DoesWith, worldOf};
 use crate::Answer;
+use crate::Call;
 use crate::State;
 use crate::Step;
 use access::Access;
@@ -70,10 +71,6 @@ impl State {
     pub fn store(self, cache: &[u8], memory: &[u8], address: u32, width: u32, value: u32) -> Step
         ensures { λ r. ⌜ Does (rules.store address width value) (worldOf self (now (cache .entry)) (now (memory .entry))) r (now (cache .entry)) (now (memory .entry)) ⌝ }
     {
-        let k = self.state_refusal(cache, memory);
-        if k != 0 {
-            return self.refused(k);
-        }
-        self.store_formed(address, width, value)
+        self.read_checked(Call::Store(address, width, value), cache, memory)
     }
 }

@@ -1,13 +1,14 @@
 -- `State::idle_formed` meets its contract.
 use borrow.Author.Needs.{needs}
 use mathlib.Core.Path.{refl, sym, _∙_}
+use mathlib.Core.Logic.{⊎-elim}
 use Rattle.rules.specs.Calls as rules
 use denote.Ref.{now}
 use Rattle.rules.specs.Shape.{lineOf}
 use Rattle.model.specs.State.{queuesOf, hierarchyOf}
 use Rattle.rules.proofs.QueueView.{parts}
 use Rattle.model.proofs.Checking.{ready-at}
-use Rattle.model.proofs.Moves.{idle-drains, idle-absent, idle-unready}
+use Rattle.model.proofs.Moves.{idle-drains, idle-absent, idle-unready, missing-absent, missing-unready}
 use Rattle.model.proofs.Calls.{formed-opens, none-does}
 use Rattle.model.proofs.Facts.{formed-sound, formed-shaped, oldest-fine}
 use Rattle.model.proofs.State.idle_formed.Statement.{statement}
@@ -37,9 +38,9 @@ drain-oldest-requires c κs =
     let s = args .self in
     let cache = now (args .cache) in
     let memory = now (args .memory) in
-    let ready = sym (store-ready .ensures ∙ ready-at s cache memory) ∙ if1 .taken in
+    let told = store-ready .ensures ∙ ready-at s cache memory in
     let sound = formed-sound s cache memory pre in
-    (sound .shaped, oldest-fine (queuesOf s) (hierarchyOf s cache memory) (sound .small) (parts _ _ pre) ready, refl, (sym (has-line .ensures) ∙ if2 .taken))
+    (sound .shaped, oldest-fine (queuesOf s) (hierarchyOf s cache memory) (sound .small) (parts _ _ pre) (sym told ∙ if1 .taken), refl, (sym (has-line .ensures) ∙ if2 .taken))
 
 same-length : tie.Need-same-length
 same-length c = search needs
@@ -57,49 +58,24 @@ returns c =
     let s = args .self in
     let cache = now (args .cache) in
     let memory = now (args .memory) in
-    let ready = sym (store-ready .ensures ∙ ready-at s cache memory) ∙ if1 .taken in
-    drain-oldest .ensures _ ∙ sym (none-does rules.idle _ _ (formed-opens rules.idle _ _ pre tt) refl ∙ idle-drains s cache memory ready (sym (has-line .ensures) ∙ if2 .taken))
+    let told = store-ready .ensures ∙ ready-at s cache memory in
+    drain-oldest .ensures _ ∙ sym (none-does rules.idle _ _ (formed-opens rules.idle _ _ pre tt) refl ∙ idle-drains s cache memory (sym told ∙ if1 .taken) (sym (has-line .ensures) ∙ if2 .taken))
 
 idle-request-requires : tie.Need-idle-request-requires
 unfolding lineOf
 idle-request-requires c κs =
-    let args = c .before .before .before .before .before .before .before .before .before .before .args in
-    let pre = c .before .before .before .before .before .before .before .before .before .before .pre in
-    let store-ready = c .before .before .before .before .store-ready in
-    let if1 = c .before .before .before .if1 in
-    let has-line = c .before .has-line in
-    let s = args .self in
-    let cache = now (args .cache) in
-    let memory = now (args .memory) in
-    let ready = sym (store-ready .ensures ∙ ready-at s cache memory) ∙ if1 .taken in
-    (formed-shaped s cache memory pre, refl, sym (rw (ready, sym (has-line .ensures) ∙ c .if2 .left)))
-
-returns-2 : tie.Need-returns-2
-unfolding lineOf
-returns-2 c =
-    let args = c .before .before .before .before .before .before .before .before .before .before .before .args in
-    let pre = c .before .before .before .before .before .before .before .before .before .before .before .pre in
-    let has-line = c .before .before .has-line in
-    let if2 = c .before .if2 in
-    let s = args .self in
-    let cache = now (args .cache) in
-    let memory = now (args .memory) in
-    c .idle-request .ensures _ _ ∙ sym (none-does rules.idle _ _ (formed-opens rules.idle _ _ pre tt) refl ∙ idle-absent s cache memory (sym (has-line .ensures) ∙ if2 .left))
-
-idle-request-requires-2 : tie.Need-idle-request-requires-2
-unfolding lineOf
-idle-request-requires-2 c κs =
     let args = c .before .before .before .before .before .before .before .args in
     let pre = c .before .before .before .before .before .before .before .pre in
     let store-ready = c .before .store-ready in
     let s = args .self in
     let cache = now (args .cache) in
     let memory = now (args .memory) in
-    let unready = sym (store-ready .ensures ∙ ready-at s cache memory) ∙ c .if1 .left in
-    (formed-shaped s cache memory pre, refl, sym (rw unready))
+    let told = store-ready .ensures ∙ ready-at s cache memory in
+    (formed-shaped s cache memory pre, refl, ⊎-elim (λ w. missing-absent s _ told (sym (w .2 .ensures) ∙ w .3 .left)) (λ w. missing-unready s _ told (w .left)) (c .if1 .came))
 
-returns-3 : tie.Need-returns-3
-returns-3 c =
+returns-2 : tie.Need-returns-2
+unfolding lineOf
+returns-2 c =
     let args = c .before .before .before .before .before .before .before .before .args in
     let pre = c .before .before .before .before .before .before .before .before .pre in
     let store-ready = c .before .before .store-ready in
@@ -107,8 +83,9 @@ returns-3 c =
     let s = args .self in
     let cache = now (args .cache) in
     let memory = now (args .memory) in
-    let unready = sym (store-ready .ensures ∙ ready-at s cache memory) ∙ if1 .left in
-    c .idle-request2 .ensures _ _ ∙ sym (none-does rules.idle _ _ (formed-opens rules.idle _ _ pre tt) refl ∙ idle-unready s cache memory unready)
+    let told = store-ready .ensures ∙ ready-at s cache memory in
+    let rest = ⊎-elim (λ w. idle-absent s cache memory (sym (w .2 .ensures) ∙ w .3 .left)) (λ w. idle-unready s cache memory (sym told ∙ w .left)) (if1 .came) in
+    c .idle-request .ensures _ _ ∙ sym (none-does rules.idle _ _ (formed-opens rules.idle _ _ pre tt) refl ∙ rest)
 
 pub idle-formed-spec : {M : Type 1} → statement M
 idle-formed-spec =
@@ -121,6 +98,4 @@ idle-formed-spec =
     same-length
     returns
     idle-request-requires
-    returns-2
-    idle-request-requires-2
-    returns-3)
+    returns-2)
