@@ -3,7 +3,6 @@
 ghost use mathlib.Core.Path.{_≡_};
 ghost use mathlib.Core.Bool.{_&&_};
 ghost use Prim.Native.Nat.{_*_};
-ghost use Rattle.rules.specs.Lines.{present};
 ghost use Rattle.rules.specs.Calls.{guarded};
 ghost use Rattle.rules.specs.WellFormed.{requestAbsent, requestInside, requestWanted, wellFormed};
 ghost use Rattle.rules.specs.Runs.{stateChecks};
@@ -18,16 +17,6 @@ use rules::NOT_WELL_FORMED;
 use rules::Request;
 
 impl State {
-    // The line is present.
-    pub(crate) fn has_line(self, line: u32) -> bool
-        requires { ⌜ Shaped self (self .figures .sets * self .figures .ways * 16) ⌝ }
-        ensures { λ r. ⌜ r ≡ present (tabled (self .figures) (self .tags)) line ⌝ }
-    {
-        let tags = self.tags;
-        let figures = self.figures;
-        records::is_present(tags, figures, line)
-    }
-
     // A requested line is absent, lies in memory, and is wanted.
     fn is_request_good(self) -> bool
         requires { ⌜ Shaped self (self .figures .sets * self .figures .ways * 16) ⌝ }
@@ -37,7 +26,9 @@ impl State {
         let Request::Line(line) = request else {
             return true;
         };
-        if self.has_line(line) {
+        let tags = self.tags;
+        let figures = self.figures;
+        if records::is_present(tags, figures, line) {
             return false;
         }
         if self.size as u64 <= (LINE_BYTES as u64) * (line as u64) {
@@ -93,16 +84,6 @@ impl State {
             stores,
             loads,
             tags,
-        }
-    }
-
-    // Nothing is done.
-    pub(crate) fn idled(self) -> Step
-        ensures { λ r. ⌜ r ≡ record { answer = Answer.Idled; next = self } ⌝ }
-    {
-        Step {
-            answer: Answer::Idled,
-            next: self,
         }
     }
 

@@ -81,7 +81,10 @@ impl State {
     {
         let request = self.request;
         if let Request::Line(_) = request {
-            return self.idled();
+            return Step {
+                answer: Answer::Idled,
+                next: self,
+            };
         }
         let tags = self.tags;
         let figures = self.figures;
@@ -93,7 +96,10 @@ impl State {
         if missing {
             return self.request_line(address);
         }
-        self.idled()
+        Step {
+            answer: Answer::Idled,
+            next: self,
+        }
     }
 
     // Idle on a well-formed state.
@@ -106,7 +112,9 @@ impl State {
         let s = stores[0];
         let ready = queue_checks::store_ready(stores, loads, self.committed);
         if ready {
-            if self.has_line(s.address / LINE_BYTES) {
+            let tags = self.tags;
+            let figures = self.figures;
+            if records::is_present(tags, figures, s.address / LINE_BYTES) {
                 return self.drain_oldest(cache, s);
             }
         }

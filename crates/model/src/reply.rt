@@ -1,11 +1,10 @@
 // Reply: a line comes from memory.
 ghost use mathlib.Core.Path.{_≡_};
-ghost use Prim.Native.Nat.{_*_, _<_};
 ghost use lib.ListN.{length};
 ghost use Rattle.rules.specs.Lines.{fillLine};
 ghost use Rattle.rules.specs.Calls as rules;
 ghost use Rattle.line_checks.specs.Refusal.{hierarchy};
-ghost use Rattle.model.specs.State.{withRegister, withRecords, Fillable, Does, worldOf, Formed};
+ghost use Rattle.model.specs.State.{Fillable, Does, worldOf, Formed};
 use crate::Answer;
 use crate::Call;
 use crate::State;
@@ -44,19 +43,6 @@ fn fill_line(
 }
 
 impl State {
-    // What the fill of the line leaves: these records, and a free register.
-    fn filled(self, line: u32, tags: [Tag; TAG_RECORDS]) -> Step
-        requires { ⌜ line < 4096 ⌝ }
-        ensures { λ r. ⌜ r ≡ record { answer = Answer.Filled (line * 16); next = withRecords tags (withRegister Request.Free self) } ⌝ }
-    {
-        let mut next = self.with_request(Request::Free);
-        next.tags = tags;
-        Step {
-            answer: Answer::Filled(line * LINE_BYTES),
-            next,
-        }
-    }
-
     // A reply on a well-formed state: check 17, then the fill.
     pub(crate) fn reply_formed(self, cache: &mut [u8], memory: &mut [u8]) -> Step
         requires { ⌜ Formed self (now cache) (now memory) ⌝ }
@@ -69,7 +55,12 @@ impl State {
         let tags = self.tags;
         let figures = self.figures;
         let table = fill_line(tags, figures, line, cache, memory);
-        self.filled(line, table)
+        let mut next = self.with_request(Request::Free);
+        next.tags = table;
+        Step {
+            answer: Answer::Filled(line * LINE_BYTES),
+            next,
+        }
     }
 
     // The memory reply: the requested line is filled. Refused: 1, 10, 17.

@@ -40,7 +40,10 @@ impl State {
             Call::Show(address) => return self.show_formed(address),
             _ => {}
         }
-        self.idled()
+        Step {
+            answer: Answer::Idled,
+            next: self,
+        }
     }
 
     // A call that only reads the lent bytes, on any state: checks 1 and 10, then the call.

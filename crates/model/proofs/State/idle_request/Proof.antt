@@ -10,13 +10,8 @@ use Rattle.model.proofs.State.idle_request.Tie as tie
 enum-told : tie.Need-enum-told
 enum-told c = search needs
 
-idled-requires : tie.Need-idled-requires
-idled-requires c κs = search needs
-
 returns : tie.Need-returns
-returns c =
-    let enum-told = c .before .enum-told in
-    λ k m. rw (c .idled .ensures) (idle-busy _ _ _ _ (enum-told .given .1))
+returns c = λ k m. idle-busy _ _ _ _ (c .enum-told .given .1)
 
 enum-told-2 : tie.Need-enum-told-2
 enum-told-2 c = search needs
@@ -47,24 +42,19 @@ returns-3 c =
     let if2 = c .before .if2 in
     λ k m. c .request-line2 .ensures k m ∙ rw (pre .1) (idle-store _ _ _ (enum-told2 .given .1) _ (lowest-wanting .ensures ∙ sym (cond-then _ _ (shaped-room _ _ (pre .0)))) (if1 .left) (rw (← (pre .1)) (sym (pre .2) ∙ if2 .taken)))
 
-idled-requires-2 : tie.Need-idled-requires-2
-idled-requires-2 c κs = search needs
-
 returns-4 : tie.Need-returns-4
 returns-4 c =
-    let pre = c .before .before .before .before .before .before .before .before .before .before .pre in
-    let enum-told2 = c .before .before .before .before .before .before .before .before .enum-told2 in
-    let lowest-wanting = c .before .before .before .before .lowest-wanting in
-    let if1 = c .before .before .if1 in
-    let if2 = c .before .if2 in
-    λ k m. rw (c .idled2 .ensures) (idle-nothing _ _ _ (enum-told2 .given .1) _ (lowest-wanting .ensures ∙ sym (cond-then _ _ (shaped-room _ _ (pre .0)))) (if1 .left) (rw (← (pre .1)) (sym (pre .2) ∙ if2 .left)))
+    let pre = c .before .before .before .before .before .before .before .before .before .pre in
+    let enum-told2 = c .before .before .before .before .before .before .before .enum-told2 in
+    let lowest-wanting = c .before .before .before .lowest-wanting in
+    let if1 = c .before .if1 in
+    λ k m. idle-nothing _ _ _ (enum-told2 .given .1) _ (lowest-wanting .ensures ∙ sym (cond-then _ _ (shaped-room _ _ (pre .0)))) (if1 .left) (rw (← (pre .1)) (sym (pre .2) ∙ c .if2 .left))
 
 pub idle-request-spec : {M : Type 1} → statement M
 idle-request-spec =
     tie.close
     (tie.spec
     enum-told
-    idled-requires
     returns
     enum-told-2
     lowest-wanting-requires
@@ -72,5 +62,4 @@ idle-request-spec =
     returns-2
     request-line-requires-2
     returns-3
-    idled-requires-2
     returns-4)

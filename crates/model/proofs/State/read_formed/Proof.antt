@@ -103,14 +103,10 @@ returns-6 c =
     let call6 = c .before .before .call6 in
     λ reads memory formed. rw (call6 .given .1) (c .show-formed .ensures _ memory formed)
 
-idled-requires : tie.Need-idled-requires
-idled-requires c κs = search needs
-
 returns-7 : tie.Need-returns-7
 returns-7 c =
-    let args = c .before .before .before .args in
-    let match = c .before .match in
-    λ reads. absurd (none-reads (args .call) (match .keys7) reads)
+    let args = c .before .before .args in
+    λ reads. absurd (none-reads (args .call) (c .match .keys7) reads)
 
 pub read-formed-spec : {M : Type 1} → statement M
 read-formed-spec =
@@ -134,5 +130,4 @@ read-formed-spec =
     enum-known-call-6
     show-formed-requires
     returns-6
-    idled-requires
     returns-7)

@@ -1,6 +1,7 @@
 -- `State::reply_formed` meets its contract.
 use borrow.Author.Needs.{needs}
 use mathlib.Core.Path.{refl, sym, _∙_, ap}
+use native.Mathlib.Omega.{arith}
 use denote.Ref.{now}
 use Rattle.rules.specs.Shape.{isFree}
 use Rattle.model.proofs.Calls.{formed-opens, one-refuses, one-does}
@@ -31,12 +32,16 @@ fill-line-requires c κs =
     let request = c .before .before .before .before .before .request in
     (formed-fillable (args .self) (now (args .cache)) (now (args .memory)) _ pre (request .given .1))
 
-filled-requires : tie.Need-filled-requires
-filled-requires c κs =
-    let args = c .before .before .before .before .before .before .before .before .before .before .before .before .before .before .args in
-    let pre = c .before .before .before .before .before .before .before .before .before .before .before .before .before .before .pre in
-    let request = c .before .before .before .before .before .before .before .before .before .before .request in
-    (formed-fillable (args .self) (now (args .cache)) (now (args .memory)) _ pre (request .given .1)) .low
+with-request-requires : tie.Need-with-request-requires
+with-request-requires c κs = search needs
+
+mul-t15 : tie.Need-mul-t15
+mul-t15 c =
+    let args = c .before .before .before .before .before .before .before .before .before .before .before .before .before .before .before .args in
+    let pre = c .before .before .before .before .before .before .before .before .before .before .before .before .before .before .before .pre in
+    let request = c .before .before .before .before .before .before .before .before .before .before .before .request in
+    let low = (formed-fillable (args .self) (now (args .cache)) (now (args .memory)) _ pre (request .given .1)) .low in
+    omega (arith, low)
 
 same-length : tie.Need-same-length
 same-length c = search needs
@@ -50,7 +55,7 @@ returns-2 c =
     let pre = c .before .before .before .before .before .before .before .before .before .before .before .before .before .before .before .pre in
     let request = c .before .before .before .before .before .before .before .before .before .before .before .request in
     let fill-line = c .before .before .before .before .before .fill-line in
-    rw (c .filled .ensures)
+    rw (c .with-request .ensures)
     (filled-state (args .self) (now (args .cache)) (now (args .memory)) _ _ _ _ (request .given .1) (fill-line .ensures)
     ∙ sym (one-does _ _ _ (formed-opens _ _ _ pre tt) _ _ refl (ap isFree (request .given .1))))
 
@@ -63,7 +68,8 @@ reply-formed-spec =
     refused-requires
     returns
     fill-line-requires
-    filled-requires
+    with-request-requires
+    mul-t15
     same-length
     same-length-2
     returns-2)
