@@ -15,7 +15,9 @@ use Rattle.rules.specs.Runs.{stateChecks, refusal, outcome}
 use Rattle.rules.proofs.Checks.{EachPasses, shut, malformed, opened, checked, guarded-append, guarded-passes}
 use Rattle.access.specs.AccessChecks.{sized, checkedAccess}
 use Rattle.access.proofs.AccessChecks.{checks-refuse, checks-pass}
-use Rattle.model.specs.State.{storeRest}
+use Rattle.model.specs.State.{callOf, storeRest}
+use Rattle.model.specs.declared.Call as coded
+use Rattle.model.specs.declared.Call.the-variants.{Load, Store, Retry, Commit, Abort, Idle, Reply, Flush, Show}
 use Rattle.access.specs.declared.Access.{Access}
 use Rattle.access.specs.declared.Checked.the-variants.{Passed, Failed}
 
@@ -59,6 +61,18 @@ module _ (c : Call) (q : Queues) (b : Hierarchy) where
   pub formed-opens : wellFormed q b ≡ true → EachPasses (earlyChecks c b) → Open
   unfolding wellFormed
   formed-opens e early = let f = and-left (fits b) _ e in record { fit = f; formed = e; does = opened c q b early f e }
+
+-- no call of a run has a check between 1 and 10
+pub early : (c : coded.Call) (b : Hierarchy) → EachPasses (earlyChecks (callOf c) b)
+early (Load a w) b = tt
+early (Store a w v) b = tt
+early (Retry i) b = tt
+early (Commit k) b = tt
+early (Abort n) b = tt
+early Idle b = tt
+early Reply b = tt
+early Flush b = tt
+early (Show a) b = tt
 
 -- ---- load, store: the access, then the rest of the checks
 

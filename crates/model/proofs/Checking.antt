@@ -1,6 +1,6 @@
 -- Checks 1 and 10 in the order of the code: the lines with the figures and the lent lengths, the queues' entries, the register.
 use Prim.Native.Nat.{ℕ, _≤_}
-use mathlib.Core.Path.{_≡_, refl, _∙_, ap}
+use mathlib.Core.Path.{_≡_, refl, sym, _∙_, ap}
 use mathlib.Core.Bool.{Bool, true, false, _&&_}
 use mathlib.Core.List.{List, [], _∷_, _++_}
 use lib.ListN.{length}
@@ -49,6 +49,13 @@ and-true false b c = refl
 abbrev pub requestGood : Queues → Hierarchy → Bool
 requestGood q b = requestAbsent (q .request) b && (requestInside (q .request) b && requestWanted (q .request) q)
 
+-- the number of checks 1 and 10, by what the code finds in the lines
+pub state-lines : (q : Queues) (b : Hierarchy) (k : ℕ) → k ≡ linesRefusal b → (k ≡ 0 → ⊥) → k ≡ guarded (stateChecks q b) (λ k. k) 0
+unfolding linesRefusal wellFormed guarded
+state-lines q b k e n = cases (fits b)
+    (λ f. cases (linesFormed b) (λ l. absurd (n (rw (f, l) at e))) (λ l. (rw (f, l) at e) ∙ rw (f, l)))
+    (λ f. (rw f at e) ∙ rw f)
+
 module _ (q : Queues) (b : Hierarchy) (ss : length (q .stores) ≡ 16) (ls : length (q .loads) ≡ 8) (top : q .last ≤ topNumber) where
   -- the queues' clauses are those of their entries and those of the register
   queues-parted : queuesFormed q b ≡ (queuesGood q b && requestGood q b)
@@ -75,20 +82,13 @@ module _ (q : Queues) (b : Hierarchy) (ss : length (q .stores) ≡ 16) (ls : len
   unfolding wellFormed
   formed-parted f l = rw (f, l) queues-parted
 
-  -- the number of checks 1 and 10, by what the code finds: in the lines
-  pub state-lines : (k : ℕ) → k ≡ linesRefusal b → (k ≡ 0 → ⊥) → k ≡ guarded (stateChecks q b) (λ k. k) 0
-  unfolding linesRefusal wellFormed guarded
-  state-lines k e n = cases (fits b)
-      (λ f. cases (linesFormed b) (λ l. absurd (n (rw (f, l) at e))) (λ l. (rw (f, l) at e) ∙ rw (f, l)))
-      (λ f. (rw f at e) ∙ rw f)
-
-  -- in the queues and the register, where the lines pass
+  -- the number of checks 1 and 10, by what the code finds in the queues and the register, where the lines pass
   module _ (e : linesRefusal b ≡ 0) where
-    pub state-fits : (queuesGood q b && requestGood q b) ≡ true → 0 ≡ guarded (stateChecks q b) (λ k. k) 0
+    state-fits : (queuesGood q b && requestGood q b) ≡ true → 0 ≡ guarded (stateChecks q b) (λ k. k) 0
     unfolding guarded
     state-fits g = rw (lines-fit b e, formed-parted (lines-fit b e) (lines-formed b e) ∙ g)
 
-    pub state-malformed : (queuesGood q b && requestGood q b) ≡ false → 10 ≡ guarded (stateChecks q b) (λ k. k) 0
+    state-malformed : (queuesGood q b && requestGood q b) ≡ false → 10 ≡ guarded (stateChecks q b) (λ k. k) 0
     unfolding guarded
     state-malformed g = rw (lines-fit b e, formed-parted (lines-fit b e) (lines-formed b e) ∙ g)
 
@@ -125,3 +125,31 @@ module _ (s : State) (cache memory : List ℕ) where
   -- the records of a used line
   pub used-at : (l : ℕ) → useLine l (hierarchyOf s cache memory) ≡ record { figures = s .figures; size = s .size; tags = usedTags (s .figures) l (s .tags); cache = cache; memory = memory }
   used-at l = used-line l (hierarchyOf s cache memory)
+
+-- ---- what the code finds, in the order in which it looks
+
+module _ (s : State) (cache memory : List ℕ) (ss : length (s .stores) ≡ 16) (ls : length (s .loads) ≡ 8) (top : s .last ≤ topNumber) (k : ℕ)
+    (e : k ≡ linesRefusal (hierarchyOf s cache memory)) (z : k ≡ 0) (good : Bool)
+    (g : good ≡ queuesGood (record { last = s .last; committed = s .committed; request = Free; stores = s .stores; loads = s .loads }) (sized (s .size))) where
+  abbrev pub Judged : ℕ → Type 0
+  Judged n = n ≡ guarded (stateChecks (queuesOf s) (hierarchyOf s cache memory)) (λ k. k) 0
+
+  entries : good ≡ queuesGood (queuesOf s) (hierarchyOf s cache memory)
+  entries = g ∙ entries-at s cache memory
+
+  pub found-entries : good ≡ false → Judged 10
+  found-entries t =
+      state-malformed (queuesOf s) (hierarchyOf s cache memory) ss ls top (sym e ∙ z) (rw (sym entries ∙ t))
+
+  module _ (t : good ≡ true) (asked : Bool)
+      (r : asked ≡ (requestAbsent (s .request) (tabled (s .figures) (s .tags)) && (requestInside (s .request) (sized (s .size)) && requestWanted (s .request) (queuesOf s)))) where
+    register : asked ≡ requestGood (queuesOf s) (hierarchyOf s cache memory)
+    register = r ∙ request-at s cache memory (s .request)
+
+    pub found-request : asked ≡ false → Judged 10
+    found-request f =
+        state-malformed (queuesOf s) (hierarchyOf s cache memory) ss ls top (sym e ∙ z) (rw (sym entries ∙ t, sym register ∙ f))
+
+    pub found-nothing : asked ≡ true → Judged 0
+    found-nothing f =
+        state-fits (queuesOf s) (hierarchyOf s cache memory) ss ls top (sym e ∙ z) (rw (sym entries ∙ t, sym register ∙ f))

@@ -17,10 +17,9 @@ use Rattle.rules.specs.Shape.{Queues, Hierarchy, figuresAllowed, fits, noLoad, 
 use Rattle.rules.specs.Calls.{widthAllowed, passes, accessChecks, waitingAt, committedStore, oldestStore, storeReady}
 use Rattle.rules.specs.WellFormed.{loadPasses, storePasses, freeStoreZero, freeLoadZero, committedWaitAt, waitingUncoveredAt, requestAbsent, requestInside, requestWanted}
 use Rattle.rules.proofs.QueueView.{Parts, parts, goodLoad, goodStore, goodRequest, load-passes, store-passes, good-load, good-store}
-use Rattle.model.specs.State.{queuesOf, hierarchyOf, Formed, Shaped, InOneLine}
-use Rattle.rules.proofs.LineFacts.{Fits, fits-tells, good-tells}
+use Rattle.model.specs.State.{queuesOf, hierarchyOf, Formed, Shaped, InOneLine, Sound, Fillable}
+use Rattle.rules.proofs.LineFacts.{fits-tells, good-tells}
 use Rattle.line_checks.proofs.Figures.{Figured, figures-tell}
-use Rattle.line_bytes.specs.Writes.{DirtyInside}
 use Rattle.records.specs.Records.{hasRoom}
 use Rattle.records.proofs.Places.{has-room}
 use Rattle.model.specs.declared.State.{State}
@@ -119,24 +118,36 @@ module _ (q : Queues) (b : Hierarchy) (small : b .size ≤ 65536) (p : Parts q b
       let w : (requestAbsent (Line l) b && (requestInside (Line l) b && requestWanted (Line l) q)) ≡ true = subst (λ (r : Request). (requestAbsent r b && (requestInside r b && requestWanted r q)) ≡ true) e (p .wanted) in
       ltb-true (16 * l) (b .size) (and-left _ _ (and-right (requestAbsent (Line l) b) _ w))
 
--- what a well-formed state that requests line l leaves to the fill
-pub record Filling (b : Hierarchy) (l : ℕ) : Type 0 where
-  pub fit : Fits b
-  pub room : hasRoom (b .figures) ≡ true
-  pub inside : 16 * l + 16 ≤ length (b .memory)
-  pub low : l < 4096
-  pub dirty-lines : DirtyInside (b .tags) 256 (length (b .memory))
+-- ---- what a well-formed state leaves
 
-pub filling :
-    (s : State) (cache memory : List ℕ) (l : ℕ) → Formed s cache memory → s .request ≡ Line l → Filling (hierarchyOf s cache memory) l
-filling s cache memory l g e =
+-- to the calls that only read the lent bytes
+pub formed-sound : (s : State) (cache memory : List ℕ) → Formed s cache memory → Sound s (length cache)
+formed-sound s cache memory g =
+    let b = hierarchyOf s cache memory in
+    let p = parts (queuesOf s) b g in
+    let f = fit-figures s cache memory (p .fit) in
+    record {
+      shaped = fit-shaped s cache memory (p .fit);
+      small = f .most-size;
+      waiting = waiting-fine (queuesOf s) b (f .most-size) p;
+    }
+
+-- to the functions of the table
+pub formed-shaped : (s : State) (cache memory : List ℕ) → Formed s cache memory → Shaped s (s .figures .sets * s .figures .ways * 16)
+formed-shaped s cache memory g = shaped-self s (length cache) (formed-sound s cache memory g .shaped)
+
+-- to the fill of the line that it requests
+pub formed-fillable :
+    (s : State) (cache memory : List ℕ) (l : ℕ) → Formed s cache memory → s .request ≡ Line l
+    → Fillable (s .figures) (s .tags) l (length cache) (length memory)
+formed-fillable s cache memory l g e =
     let b = hierarchyOf s cache memory in
     let p = parts (queuesOf s) b g in
     let f = fit-figures s cache memory (p .fit) in
     let asked = request-inside (queuesOf s) b (f .most-size) p l e in
     record {
-      fit = fits-tells _ (p .fit);
       room = has-room (s .figures) (f .some-set) (f .some-way) (f .room);
+      cache-long = fit-cache s cache memory (p .fit);
       inside = omega (arith, asked, f .whole-lines, fit-memory s cache memory (p .fit));
       low = omega (arith, asked, f .most-size);
       dirty-lines = dirty-inside b (fits-tells _ (p .fit)) (good-tells _ (p .lines)) 256;

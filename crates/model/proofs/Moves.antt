@@ -1,7 +1,7 @@
 -- What the code makes of records and bytes is what the rules make of the hierarchy: idle, reply, flush, show line, start.
-use Prim.Native.Nat.{ℕ, zero, suc, _+_, _*_, _%_, _<_, _≤_}
+use Prim.Native.Nat.{ℕ, zero, suc, _+_, _*_, _-_, _%_, _<_, _≤_}
 use mathlib.Core.Path.{_≡_, refl, sym, _∙_, ap}
-use mathlib.Core.Bool.{Bool, true, false, cond, _&&_}
+use mathlib.Core.Bool.{Bool, true, false, cond, not, _&&_}
 use mathlib.Core.List.{List, [], _∷_}
 use native.Mathlib.Omega.{arith}
 use lib.Dec.{ltb}
@@ -31,8 +31,7 @@ use Rattle.line_bytes.specs.Writes.{flushedMemory, lineWritten, lineFilled, sto
 use Rattle.line_bytes.proofs.Writing.{written-inside, written-length, fill-copies, put-inside}
 use Rattle.records.proofs.Answers.{used-line}
 use Rattle.model.proofs.Leaves.{Located, Chosen, present-slot, slot-in-set, flushed-all}
-use Rattle.model.proofs.Facts.{Filling}
-use Rattle.model.specs.State.{bytesFrom, queuesOf, hierarchyOf, worldOf, outcomeOf, idleRequest}
+use Rattle.model.specs.State.{bytesFrom, queuesOf, hierarchyOf, withRegister, withRecords, worldOf, outcomeOf, Fillable, idleRequest}
 use Rattle.model.specs.Shows.{partIn, shownPart}
 use Rattle.model.specs.declared.State.{State}
 use Rattle.model.specs.declared.show_line.Part.{Part}
@@ -52,6 +51,10 @@ each-used g size cache memory (l ∷ ls) tags =
 
 -- ---- idle
 
+and-true : (t : Bool) → (t && true) ≡ t
+and-true true = refl
+and-true false = refl
+
 first-none : {A : Type 0} (p : A → Bool) (d : A) (l : List A) → any p l ≡ false → first p d l ≡ d
 unfolding any first
 first-none p d [] e = refl
@@ -66,6 +69,17 @@ wanting-none : (b : Hierarchy) (h : ℕ) (ls : List LoadEntry) → isFreeLoad (f
 unfolding wantsLine
 wanting-none b h ls e = cases (any (wantsLine b h) ls)
     (λ t. wrong e (not-true _ (and-left _ _ (any-first (wantsLine b h) noLoad ls t)))) (λ t. t)
+
+-- where nothing drains, the oldest store is ready exactly if it is ready and its line is absent
+module _ (s : State) (r : Bool) (told : r ≡ storeReady (queuesOf s)) where
+  abbrev absent : Bool
+  absent = not (present (tabled (s .figures) (s .tags)) (lineOf (oldestStore (queuesOf s) .address)))
+
+  pub missing-absent : present (tabled (s .figures) (s .tags)) (lineOf (oldestStore (queuesOf s) .address)) ≡ false → r ≡ (storeReady (queuesOf s) && absent)
+  missing-absent h = rw h (told ∙ sym (and-true (storeReady (queuesOf s))))
+
+  pub missing-unready : r ≡ false → r ≡ (storeReady (queuesOf s) && absent)
+  missing-unready f = f ∙ sym (rw (sym told ∙ f))
 
 module _ (s : State) (cache memory : List ℕ) where
   -- the records once each load of a list has used its line
@@ -108,15 +122,11 @@ module _ (s : State) (cache memory : List ℕ) where
       none : any (wantsLine table (s .committed)) (s .loads) ≡ false
       none = wanting-none table (s .committed) (s .loads) (ap isFreeLoad (sym lowest) ∙ eq-eqb (l .number) 0 z)
 
-      pub idle-store : storeReady q ≡ true → present table (lineOf (oldestStore q .address)) ≡ false → requestLine (oldestStore q .address) q b ≡ idleRequest q b
+      pub idle-store : (storeReady q && not (present table (lineOf (oldestStore q .address)))) ≡ true → requestLine (oldestStore q .address) q b ≡ idleRequest q b
       unfolding idleRequest wantsLine present slotOf
-      idle-store r h = rw (none, r, h, free)
+      idle-store r = rw (none, r, free)
 
-      pub idle-here : present table (lineOf (oldestStore q .address)) ≡ true → unchanged idled q b ≡ idleRequest q b
-      unfolding idleRequest wantsLine present slotOf
-      idle-here h = cases (storeReady q) (λ t. rw (none, t, h, free)) (λ t. rw (none, t, free))
-
-      pub idle-nothing : storeReady q ≡ false → unchanged idled q b ≡ idleRequest q b
+      pub idle-nothing : (storeReady q && not (present table (lineOf (oldestStore q .address)))) ≡ false → unchanged idled q b ≡ idleRequest q b
       unfolding idleRequest wantsLine present slotOf
       idle-nothing r = rw (none, r, free)
 
@@ -143,13 +153,14 @@ fill-parts b l v e =
 
 -- the fill, from what each function made
 pub filled-whole :
-    (b : Hierarchy) (l f v n : ℕ) (tags : List Tag) (cache memory : List ℕ) → Filling b l → Chosen b l f v
+    (b : Hierarchy) (l f v : ℕ) (tags : List Tag) (cache memory : List ℕ) → Fillable (b .figures) (b .tags) l (length (b .cache)) (length (b .memory)) → Chosen b l f v
     → memory ≡ lineWritten (tagAt (b .tags) v) v (b .cache) (b .memory)
-    → n ≡ 16 → cache ≡ lineFilled v (take n (drop (16 * l) memory)) (b .cache)
+    → cache ≡ lineFilled v (take (16 * l + 16 - 16 * l) (drop (16 * l) memory)) (b .cache)
     → tags ≡ cond (inSet f (b .figures .ways) v && ltb l 65536) (installedIn f (b .figures .ways) v l (b .tags)) (b .tags)
     → holding b tags cache memory ≡ fillLine l b
-filled-whole b l f v n tags cache memory g h m e c t =
-    let slot : 16 * v + 16 ≤ length (b .cache) = omega (arith, h .high, h .within, g .fit .cache-long) in
+filled-whole b l f v tags cache memory g h m c t =
+    let e : 16 * l + 16 - 16 * l ≡ 16 = omega arith in
+    let slot : 16 * v + 16 ≤ length (b .cache) = omega (arith, h .high, h .within, g .cache-long) in
     let written : memory ≡ eachFrom (writtenBackAt (tagAt (b .tags) v) (b .cache) v) 0 (b .memory) =
     m ∙ written-inside (tagAt (b .tags) v) v (b .cache) (b .memory) slot (g .dirty-lines v (omega (arith, h .high, h .within, h .room))) in
     let long : 16 * l + 16 ≤ length memory = rw (m, written-length) (g .inside) in
@@ -159,15 +170,26 @@ filled-whole b l f v n tags cache memory g h m e c t =
     let installed : tags ≡ installedIn f (b .figures .ways) v l (b .tags) = t ∙ sym (cond-then _ _ in-range) in
     rw (fill-parts b l v (h .slot), installed, copied, written, ← (h .first))
 
+-- the memory length plays no part in a fill
+fill-sized :
+    (l : ℕ) (b : Hierarchy)
+    → (let f : Hierarchy = fillLine l (hierarchy (b .figures) 0 (b .tags) (b .cache) (b .memory)) in holding b (f .tags) (f .cache) (f .memory))
+    ≡ fillLine l b
+unfolding fillLine install writeBackSlot useSlot victim
+fill-sized l b = refl
+
 -- the whole reply
 pub filled-state :
     (s : State) (cache memory : List ℕ) (l : ℕ) (tags : List Tag) (cache′ memory′ : List ℕ)
     → s .request ≡ Line l
-    → holding (hierarchyOf s cache memory) tags cache′ memory′ ≡ fillLine l (hierarchyOf s cache memory)
-    → outcomeOf (record { answer = Filled (l * 16); next = record { figures = s .figures; size = s .size; last = s .last; committed = s .committed; request = Free; stores = s .stores; loads = s .loads; tags = tags } }) cache′ memory′
+    → hierarchy (s .figures) 0 tags cache′ memory′ ≡ fillLine l (hierarchy (s .figures) 0 (s .tags) cache memory)
+    → outcomeOf (record { answer = Filled (l * 16); next = withRecords tags (withRegister Free s) }) cache′ memory′
     ≡ replyRule (queuesOf s) (hierarchyOf s cache memory)
 unfolding replyRule
-filled-state s cache memory l tags cache′ memory′ r e = rw (r, ← e)
+filled-state s cache memory l tags cache′ memory′ r e =
+    let whole : hierarchy (s .figures) (s .size) tags cache′ memory′ ≡ fillLine l (hierarchyOf s cache memory) =
+    ap (λ (f : Hierarchy). hierarchy (s .figures) (s .size) (f .tags) (f .cache) (f .memory)) e ∙ fill-sized l (hierarchyOf s cache memory) in
+    rw (r, ← whole)
 
 -- ---- drain
 

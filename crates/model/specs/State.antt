@@ -5,7 +5,7 @@ use mathlib.Core.Bool.{Bool, true, false, cond, not}
 use mathlib.Core.List.{List, [], _∷_}
 use lib.ListN.{getD, replicate}
 use Rattle.lists.specs.Counted.{eachFrom}
-use Rattle.lists.specs.Padded.{any}
+use Rattle.lists.specs.Padded.{any, first}
 use Rattle.rules.specs.declared.Figures.{Figures}
 use Rattle.rules.specs.declared.Tag.{Tag}
 use Rattle.rules.specs.declared.StoreEntry.{StoreEntry}
@@ -13,11 +13,12 @@ use Rattle.rules.specs.declared.Request.{Request}
 use Rattle.rules.specs.declared.Request.the-variants.{Free}
 use Rattle.rules.specs.Shape.{Queues, Hierarchy, World, world, tableSize, storePlaces, loadPlaces, noStore, noLoad, noTag, noFigures, isFreeStore, lineOf}
 use Rattle.rules.specs.Lines.{present}
-use Rattle.rules.specs.Calls.{Outcome, guarded}
+use Rattle.rules.specs.Calls.{Outcome, waitingAt, guarded}
 use Rattle.rules.specs.Calls as rules
 use Rattle.rules.specs.WellFormed.{wellFormed}
 use Rattle.rules.specs.Runs.{outcome}
-use Rattle.records.specs.Records.{tabled}
+use Rattle.records.specs.Records.{hasRoom, tabled}
+use Rattle.line_bytes.specs.Writes.{DirtyInside}
 use Rattle.line_bytes.specs.declared.Read.{Read}
 use Rattle.line_bytes.specs.declared.Read.the-variants.{Whole, Lacking}
 use Rattle.model.specs.declared.State.{State}
@@ -80,6 +81,19 @@ withRegister r s = record {
   tags = s .tags;
 }
 
+-- the same state with other records
+abbrev pub withRecords : List Tag → State → State
+withRecords tags s = record {
+  figures = s .figures;
+  size = s .size;
+  last = s .last;
+  committed = s .committed;
+  request = s .request;
+  stores = s .stores;
+  loads = s .loads;
+  tags = tags;
+}
+
 -- ---- answers, with 01's numbers and values for each case
 
 -- n bytes of the cache from place p on. (Behind its end there are none: 0 stands for each, so that the bytes tell the length.)
@@ -116,6 +130,10 @@ outcomeOf r cache memory =
 -- the call c of the rules, made on w: it handed back r and left this cache and this memory
 abbrev pub Does : rules.Call → World → Step → List ℕ → List ℕ → Type 0
 Does c w r cache memory = outcomeOf r cache memory ≡ outcome c (w .queues) (w .hierarchy)
+
+-- the same on a state that is well formed with this cache and some memory, which the call leaves as they were
+abbrev pub DoesWith : rules.Call → State → Step → List ℕ → Type 0
+DoesWith c s r cache = (memory : List ℕ) → Formed s cache memory → Does c (worldOf s cache memory) r cache memory
 
 abbrev pub callOf : Call → rules.Call
 callOf (Load a w) = rules.load a w
@@ -164,6 +182,20 @@ pub record InOneLine (a w : ℕ) : Type 0 where
   pub narrow : w ≤ 4
   pub one-line : a % 16 + w ≤ 16
   pub inside : a + w ≤ 65536
+
+-- what is left to the calls that only read the lent bytes
+pub record Sound (s : State) (cacheLength : ℕ) : Type 0 where
+  pub shaped : Shaped s cacheLength
+  pub small : s .size ≤ 65536
+  pub waiting : (i : ℕ) → any (waitingAt i) (s .loads) ≡ true → InOneLine (first (waitingAt i) noLoad (s .loads) .address) (first (waitingAt i) noLoad (s .loads) .width)
+
+-- what is left to the fill of line l
+pub record Fillable (g : Figures) (tags : List Tag) (l cacheLength memoryLength : ℕ) : Type 0 where
+  pub room : hasRoom g ≡ true
+  pub cache-long : cacheLength ≡ g .sets * g .ways * 16
+  pub inside : 16 * l + 16 ≤ memoryLength
+  pub low : l < 4096
+  pub dirty-lines : DirtyInside tags 256 memoryLength
 
 -- ---- what follows the access checks of a store: checks 5, 13 and 11, then the rule
 

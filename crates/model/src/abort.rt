@@ -4,8 +4,9 @@ ghost use mathlib.Core.List.{List};
 ghost use Prim.Native.Nat.{ℕ, _<_};
 ghost use Rattle.rules.specs.Calls.{abortRule};
 ghost use Rattle.rules.specs.Calls as rules;
-ghost use Rattle.model.specs.State.{queuesOf, hierarchyOf, outcomeOf, Does, worldOf, Formed};
+ghost use Rattle.model.specs.State.{queuesOf, hierarchyOf, outcomeOf, Does, DoesWith, worldOf};
 use crate::Answer;
+use crate::Call;
 use crate::State;
 use crate::Step;
 use rules::BAD_ABORT;
@@ -31,9 +32,8 @@ impl State {
     }
 
     // An abort on a well-formed state: check 16, then the abort.
-    pub(crate) fn abort_formed(self, cache: &[u8], memory: &[u8], n: u32) -> Step
-        requires { ⌜ Formed self (now cache) (now memory) ⌝ }
-        ensures { λ r. ⌜ Does (rules.abort n) (worldOf self (now (cache .entry)) (now (memory .entry))) r (now (cache .entry)) (now (memory .entry)) ⌝ }
+    pub(crate) fn abort_formed(self, n: u32) -> Step
+        ensures { λ r. ⌜ ((c : List ℕ) → DoesWith (rules.abort n) self r c) ⌝ }
     {
         if n <= self.committed {
             return self.refused(BAD_ABORT);
@@ -48,10 +48,6 @@ impl State {
     pub fn abort(self, cache: &[u8], memory: &[u8], n: u32) -> Step
         ensures { λ r. ⌜ Does (rules.abort n) (worldOf self (now (cache .entry)) (now (memory .entry))) r (now (cache .entry)) (now (memory .entry)) ⌝ }
     {
-        let k = self.state_refusal(cache, memory);
-        if k != 0 {
-            return self.refused(k);
-        }
-        self.abort_formed(cache, memory, n)
+        self.read_checked(Call::Abort(n), cache, memory)
     }
 }

@@ -23,22 +23,20 @@ impl State {
         ensures { λ r. ⌜ r ≡ (requestAbsent (self .request) (tabled (self .figures) (self .tags)) && (requestInside (self .request) (sized (self .size)) && requestWanted (self .request) (queuesOf self))) ⌝ }
     {
         let request = self.request;
-        match request {
-            Request::Free => true,
-            Request::Line(line) => {
-                let tags = self.tags;
-                let figures = self.figures;
-                if records::is_present(tags, figures, line) {
-                    return false;
-                }
-                if self.size as u64 <= (LINE_BYTES as u64) * (line as u64) {
-                    return false;
-                }
-                let stores = self.stores;
-                let loads = self.loads;
-                queue_checks::request_wanted(request, stores, loads, self.committed)
-            }
+        let Request::Line(line) = request else {
+            return true;
+        };
+        let tags = self.tags;
+        let figures = self.figures;
+        if records::is_present(tags, figures, line) {
+            return false;
         }
+        if self.size as u64 <= (LINE_BYTES as u64) * (line as u64) {
+            return false;
+        }
+        let stores = self.stores;
+        let loads = self.loads;
+        queue_checks::request_wanted(request, stores, loads, self.committed)
     }
 
     // 0 where checks 1 and 10 pass, else the refusal's number.
@@ -53,10 +51,11 @@ impl State {
         if k != 0 {
             return k;
         }
-        if queue_checks::queues_good(stores, loads, self.last, self.committed, self.size) {
-            if self.is_request_good() {
-                return 0;
-            }
+        if !queue_checks::queues_good(stores, loads, self.last, self.committed, self.size) {
+            return NOT_WELL_FORMED;
+        }
+        if self.is_request_good() {
+            return 0;
         }
         NOT_WELL_FORMED
     }

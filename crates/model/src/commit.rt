@@ -4,8 +4,9 @@ ghost use mathlib.Core.List.{List};
 ghost use Prim.Native.Nat.{ℕ, _*_};
 ghost use Rattle.rules.specs.Calls.{commitRule};
 ghost use Rattle.rules.specs.Calls as rules;
-ghost use Rattle.model.specs.State.{queuesOf, hierarchyOf, outcomeOf, Shaped, Does, worldOf, Formed};
+ghost use Rattle.model.specs.State.{queuesOf, hierarchyOf, outcomeOf, Shaped, Does, DoesWith, worldOf};
 use crate::Answer;
+use crate::Call;
 use crate::State;
 use crate::Step;
 use rules::BAD_COMMIT;
@@ -31,9 +32,9 @@ impl State {
     }
 
     // A commit on a well-formed state: check 15, then the commit.
-    pub(crate) fn commit_formed(self, cache: &[u8], memory: &[u8], k: u32) -> Step
-        requires { ⌜ Formed self (now cache) (now memory) ⌝ }
-        ensures { λ r. ⌜ Does (rules.commit k) (worldOf self (now (cache .entry)) (now (memory .entry))) r (now (cache .entry)) (now (memory .entry)) ⌝ }
+    pub(crate) fn commit_formed(self, k: u32) -> Step
+        requires { ⌜ Shaped self (self .figures .sets * self .figures .ways * 16) ⌝ }
+        ensures { λ r. ⌜ ((c : List ℕ) → DoesWith (rules.commit k) self r c) ⌝ }
     {
         if k < self.committed {
             return self.refused(BAD_COMMIT);
@@ -48,10 +49,6 @@ impl State {
     pub fn commit(self, cache: &[u8], memory: &[u8], k: u32) -> Step
         ensures { λ r. ⌜ Does (rules.commit k) (worldOf self (now (cache .entry)) (now (memory .entry))) r (now (cache .entry)) (now (memory .entry)) ⌝ }
     {
-        let n = self.state_refusal(cache, memory);
-        if n != 0 {
-            return self.refused(n);
-        }
-        self.commit_formed(cache, memory, k)
+        self.read_checked(Call::Commit(k), cache, memory)
     }
 }

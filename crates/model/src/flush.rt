@@ -1,19 +1,22 @@
 // Flush.
-ghost use mathlib.Core.Path.{_≡_};
-ghost use Rattle.rules.specs.Calls.{flushRule};
 ghost use Rattle.rules.specs.Calls as rules;
-ghost use Rattle.model.specs.State.{queuesOf, hierarchyOf, outcomeOf, Does, worldOf, Formed};
+ghost use Rattle.model.specs.State.{Does, worldOf, Formed};
 use crate::Answer;
 use crate::State;
 use crate::Step;
 use rules::COMMITTED_STORE_HELD;
 
 impl State {
-    // "Flush writes every dirty line to memory, marks it clean and answers the number of lines written. Ages stay."
-    fn flush_accepted(mut self, cache: &[u8], memory: &mut [u8]) -> Step
+    // A flush on a well-formed state: check 18, then "Flush writes every dirty line to memory, marks it clean and answers the number of
+    // lines written. Ages stay."
+    pub(crate) fn flush_formed(mut self, cache: &[u8], memory: &mut [u8]) -> Step
         requires { ⌜ Formed self (now cache) (now memory) ⌝ }
-        ensures { λ r. ⌜ outcomeOf r (now (cache .entry)) (now (memory .exit)) ≡ flushRule (queuesOf self) (hierarchyOf self (now (cache .entry)) (now (memory .entry))) ⌝ }
+        ensures { λ r. ⌜ Does rules.flush (worldOf self (now (cache .entry)) (now (memory .entry))) r (now (cache .entry)) (now (memory .exit)) ⌝ }
     {
+        let stores = self.stores;
+        if store_queue::has_committed_store(stores, self.committed) {
+            return self.refused(COMMITTED_STORE_HELD);
+        }
         let tags = self.tags;
         let figures = self.figures;
         let count = (figures.sets * figures.ways) as usize;
@@ -25,18 +28,6 @@ impl State {
             answer: Answer::Flushed(written),
             next: self,
         }
-    }
-
-    // A flush on a well-formed state: check 18, then the flush.
-    pub(crate) fn flush_formed(self, cache: &[u8], memory: &mut [u8]) -> Step
-        requires { ⌜ Formed self (now cache) (now memory) ⌝ }
-        ensures { λ r. ⌜ Does rules.flush (worldOf self (now (cache .entry)) (now (memory .entry))) r (now (cache .entry)) (now (memory .exit)) ⌝ }
-    {
-        let stores = self.stores;
-        if store_queue::has_committed_store(stores, self.committed) {
-            return self.refused(COMMITTED_STORE_HELD);
-        }
-        self.flush_accepted(cache, memory)
     }
 
     // Flush: every dirty line goes to memory. Refused: 1, 10, 18.

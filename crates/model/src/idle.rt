@@ -1,6 +1,6 @@
 // The idle call.
 ghost use mathlib.Core.Path.{_≡_};
-ghost use mathlib.Core.Bool.{true};
+ghost use mathlib.Core.Bool.{true, not, _&&_};
 ghost use mathlib.Core.List.{List, []};
 ghost use Prim.Native.Nat.{ℕ, _*_};
 ghost use lib.ListN.{length};
@@ -12,6 +12,7 @@ ghost use Rattle.rules.specs.Calls as rules;
 ghost use Rattle.records.specs.Records.{tabled};
 ghost use Rattle.model.specs.State.{queuesOf, hierarchyOf, outcomeOf, Shaped, Writable, InOneLine, idleRequest, Does, worldOf, Formed};
 use crate::Answer;
+use crate::Call;
 use crate::State;
 use crate::Step;
 use rules::Figures;
@@ -73,39 +74,31 @@ impl State {
         }
     }
 
-    // (b), (c) and (d): what follows where nothing drains. The oldest store is ready, its line is here, as told.
-    fn idle_request(self, ready: bool, here: bool, s: StoreEntry) -> Step
-        requires { ⌜ Shaped self (self .figures .sets * self .figures .ways * 16) × (ready ≡ storeReady (queuesOf self)) × (s ≡ oldestStore (queuesOf self)) × (here ≡ present (tabled (self .figures) (self .tags)) (lineOf (s .address))) ⌝ }
+    // (b), (c) and (d): what follows where nothing drains. Whether the oldest store is ready and its line is absent, and its address, are told.
+    fn idle_request(self, missing: bool, address: u32) -> Step
+        requires { ⌜ Shaped self (self .figures .sets * self .figures .ways * 16) × (address ≡ oldestStore (queuesOf self) .address) × (missing ≡ (storeReady (queuesOf self) && not (present (tabled (self .figures) (self .tags)) (lineOf address)))) ⌝ }
         ensures { λ r. ⌜ ((c m : List ℕ) → outcomeOf r c m ≡ idleRequest (queuesOf self) (hierarchyOf self c m)) ⌝ }
     {
         let request = self.request;
-        match request {
-            Request::Line(_) => Step {
+        if let Request::Line(_) = request {
+            return Step {
                 answer: Answer::Idled,
                 next: self,
-            },
-            Request::Free => {
-                let tags = self.tags;
-                let figures = self.figures;
-                let loads = self.loads;
-                let l = records::lowest_wanting(tags, figures, self.committed, loads);
-                if l.number != 0 {
-                    return self.request_line(l.address);
-                }
-                if ready {
-                    if here {
-                        return Step {
-                            answer: Answer::Idled,
-                            next: self,
-                        };
-                    }
-                    return self.request_line(s.address);
-                }
-                Step {
-                    answer: Answer::Idled,
-                    next: self,
-                }
-            }
+            };
+        }
+        let tags = self.tags;
+        let figures = self.figures;
+        let loads = self.loads;
+        let l = records::lowest_wanting(tags, figures, self.committed, loads);
+        if l.number != 0 {
+            return self.request_line(l.address);
+        }
+        if missing {
+            return self.request_line(address);
+        }
+        Step {
+            answer: Answer::Idled,
+            next: self,
         }
     }
 
@@ -118,26 +111,20 @@ impl State {
         let loads = self.loads;
         let s = stores[0];
         let ready = queue_checks::store_ready(stores, loads, self.committed);
-        let tags = self.tags;
-        let figures = self.figures;
-        let here = records::is_present(tags, figures, s.address / LINE_BYTES);
         if ready {
-            if here {
+            let tags = self.tags;
+            let figures = self.figures;
+            if records::is_present(tags, figures, s.address / LINE_BYTES) {
                 return self.drain_oldest(cache, s);
             }
-            return self.idle_request(ready, here, s);
         }
-        self.idle_request(ready, here, s)
+        self.idle_request(ready, s.address)
     }
 
     // "Idle does the first that applies." Refused: 1, 10. (Memory is lent to be written, and is left as it was.)
     pub fn idle(self, cache: &mut [u8], memory: &mut [u8]) -> Step
         ensures { λ r. ⌜ Does rules.idle (worldOf self (now (cache .entry)) (now (memory .entry))) r (now (cache .exit)) (now (memory .exit)) ⌝ }
     {
-        let k = self.state_refusal(cache, memory);
-        if k != 0 {
-            return self.refused(k);
-        }
-        self.idle_formed(cache, memory)
+        self.step(Call::Idle, cache, memory)
     }
 }

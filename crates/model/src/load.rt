@@ -6,7 +6,8 @@ ghost use lib.ListN.{length};
 ghost use Rattle.rules.specs.Shape.{topNumber};
 ghost use Rattle.rules.specs.Calls.{loadRule};
 ghost use Rattle.rules.specs.Calls as rules;
-ghost use Rattle.model.specs.State.{queuesOf, hierarchyOf, outcomeOf, Shaped, InOneLine, Does, worldOf, Formed};
+ghost use Rattle.model.specs.State.{queuesOf, hierarchyOf, outcomeOf, Shaped, InOneLine, Does, DoesWith, worldOf, Sound};
+use crate::Call;
 use crate::State;
 use crate::Step;
 use crate::read;
@@ -40,9 +41,9 @@ impl State {
     }
 
     // A load on a well-formed state: checks 2, 3, 4, 13 and 12, then the load.
-    pub(crate) fn load_formed(self, cache: &[u8], memory: &[u8], address: u32, width: u32) -> Step
-        requires { ⌜ Formed self (now cache) (now memory) ⌝ }
-        ensures { λ r. ⌜ Does (rules.load address width) (worldOf self (now (cache .entry)) (now (memory .entry))) r (now (cache .entry)) (now (memory .entry)) ⌝ }
+    pub(crate) fn load_formed(self, cache: &[u8], address: u32, width: u32) -> Step
+        requires { ⌜ Sound self (length (now cache)) ⌝ }
+        ensures { λ r. ⌜ DoesWith (rules.load address width) self r (now (cache .entry)) ⌝ }
     {
         let checked = access::check_access(address, width, self.size);
         let Checked::Passed(a) = checked else {
@@ -53,20 +54,15 @@ impl State {
         }
         let loads = self.loads;
         if load_queue::has_free_load(loads) {
-            self.load_accepted(cache, a)
-        } else {
-            self.refused(LOAD_QUEUE_FULL)
+            return self.load_accepted(cache, a);
         }
+        self.refused(LOAD_QUEUE_FULL)
     }
 
     // Load: the operation takes the next number, and answers its value or that it waits. Refused: 1, 10, 2, 3, 4, 13, 12.
     pub fn load(self, cache: &[u8], memory: &[u8], address: u32, width: u32) -> Step
         ensures { λ r. ⌜ Does (rules.load address width) (worldOf self (now (cache .entry)) (now (memory .entry))) r (now (cache .entry)) (now (memory .entry)) ⌝ }
     {
-        let k = self.state_refusal(cache, memory);
-        if k != 0 {
-            return self.refused(k);
-        }
-        self.load_formed(cache, memory, address, width)
+        self.read_checked(Call::Load(address, width), cache, memory)
     }
 }

@@ -7,8 +7,9 @@ ghost use Rattle.lists.specs.Padded.{first};
 ghost use Rattle.rules.specs.Shape.{noLoad};
 ghost use Rattle.rules.specs.Calls.{waitingAt, answerLoad, retryRule};
 ghost use Rattle.rules.specs.Calls as rules;
-ghost use Rattle.model.specs.State.{queuesOf, hierarchyOf, outcomeOf, Shaped, InOneLine, Does, worldOf, Formed};
+ghost use Rattle.model.specs.State.{queuesOf, hierarchyOf, outcomeOf, Shaped, InOneLine, Does, DoesWith, worldOf, Sound};
 use crate::Answer;
+use crate::Call;
 use crate::State;
 use crate::Step;
 use line_bytes::Read;
@@ -18,29 +19,23 @@ use rules::NO_WAITING_LOAD;
 
 impl State {
     // "Once answered, a committed load leaves the list and uses its line if present; an uncommitted one is marked answered."
-    fn answer_load(mut self, i: u32, v: u32, l: LoadEntry) -> Step
+    fn answer_load(mut self, i: u32, l: LoadEntry) -> State
         requires { ⌜ Shaped self (self .figures .sets * self .figures .ways * 16) ⌝ }
-        ensures { λ r. ⌜ ((c m : List ℕ) → outcomeOf r c m ≡ answerLoad i v l (queuesOf self) (hierarchyOf self c m)) ⌝ }
+        ensures { λ r. ⌜ ((v : ℕ) (c m : List ℕ) → outcomeOf (record { answer = Answer.Value i v; next = r }) c m ≡ answerLoad i v l (queuesOf self) (hierarchyOf self c m)) ⌝ }
     {
         let loads = self.loads;
-        let tags = self.tags;
-        let figures = self.figures;
         if i <= self.committed {
+            let tags = self.tags;
+            let figures = self.figures;
             let rest = load_queue::remove_waiting(loads, i);
             let used = records::use_line(tags, figures, l.address / LINE_BYTES);
             self.loads = rest;
             self.tags = used;
-            return Step {
-                answer: Answer::Value(i, v),
-                next: self,
-            };
+            return self;
         }
         let marked = load_queue::answer_waiting(loads, i);
         self.loads = marked;
-        Step {
-            answer: Answer::Value(i, v),
-            next: self,
-        }
+        self
     }
 
     // "tries a waiting load again by the same rule"
@@ -49,37 +44,35 @@ impl State {
         ensures { λ r. ⌜ ((m : List ℕ) → outcomeOf r (now (cache .entry)) m ≡ retryRule i (queuesOf self) (hierarchyOf self (now (cache .entry)) m)) ⌝ }
     {
         let r = self.read(cache, i, l.address, l.width);
-        match r {
-            Read::Lacking => Step {
+        let Read::Whole(v) = r else {
+            return Step {
                 answer: Answer::Waits(i),
                 next: self,
-            },
-            Read::Whole(v) => self.answer_load(i, v, l),
+            };
+        };
+        Step {
+            answer: Answer::Value(i, v),
+            next: self.answer_load(i, l),
         }
     }
 
     // An inquiry on a well-formed state: check 14, then the inquiry.
-    pub(crate) fn retry_formed(self, cache: &[u8], memory: &[u8], i: u32) -> Step
-        requires { ⌜ Formed self (now cache) (now memory) ⌝ }
-        ensures { λ r. ⌜ Does (rules.retry i) (worldOf self (now (cache .entry)) (now (memory .entry))) r (now (cache .entry)) (now (memory .entry)) ⌝ }
+    pub(crate) fn retry_formed(self, cache: &[u8], i: u32) -> Step
+        requires { ⌜ Sound self (length (now cache)) ⌝ }
+        ensures { λ r. ⌜ DoesWith (rules.retry i) self r (now (cache .entry)) ⌝ }
     {
         let loads = self.loads;
         if load_queue::has_waiting(loads, i) {
             let l = load_queue::waiting_load(loads, i);
-            self.retry_accepted(cache, i, l)
-        } else {
-            self.refused(NO_WAITING_LOAD)
+            return self.retry_accepted(cache, i, l);
         }
+        self.refused(NO_WAITING_LOAD)
     }
 
     // Inquiry about number i: a waiting load is tried again. Refused: 1, 10, 14.
     pub fn retry(self, cache: &[u8], memory: &[u8], i: u32) -> Step
         ensures { λ r. ⌜ Does (rules.retry i) (worldOf self (now (cache .entry)) (now (memory .entry))) r (now (cache .entry)) (now (memory .entry)) ⌝ }
     {
-        let k = self.state_refusal(cache, memory);
-        if k != 0 {
-            return self.refused(k);
-        }
-        self.retry_formed(cache, memory, i)
+        self.read_checked(Call::Retry(i), cache, memory)
     }
 }

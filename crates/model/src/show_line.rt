@@ -1,9 +1,10 @@
 // Show line.
 ghost use mathlib.Core.Path.{_≡_};
-ghost use Prim.Native.Nat.{_+_, _*_, _≤_};
+ghost use mathlib.Core.List.{List};
+ghost use Prim.Native.Nat.{ℕ, _+_, _*_, _≤_};
 ghost use lib.ListN.{length};
 ghost use Rattle.rules.specs.Calls as rules;
-ghost use Rattle.model.specs.State.{Does, worldOf, Formed};
+ghost use Rattle.model.specs.State.{Shaped, Does, DoesWith, worldOf, Formed};
 ghost use Rattle.model.specs.Shows.{shownPart, PartOf};
 use crate::Answer;
 use crate::State;
@@ -24,9 +25,9 @@ const EMPTY_PART: Part = Part {
 
 impl State {
     // Where the present line's bytes stand, in a well-formed state.
-    fn part_formed(self, cache: &[u8], memory: &[u8], address: u32) -> Part
-        requires { ⌜ Formed self (now cache) (now memory) ⌝ }
-        ensures { λ r. ⌜ (r ≡ shownPart address (worldOf self (now (cache .entry)) (now (memory .entry)))) × (r .start + r .length ≤ length (now (cache .entry))) ⌝ }
+    fn part_formed(self, address: u32) -> Part
+        requires { ⌜ Shaped self (self .figures .sets * self .figures .ways * 16) ⌝ }
+        ensures { λ r. ⌜ ((c m : List ℕ) → Formed self c m → (r ≡ shownPart address (worldOf self c m)) × (r .start + r .length ≤ length c)) ⌝ }
     {
         if self.size <= address {
             return EMPTY_PART;
@@ -53,7 +54,7 @@ impl State {
         if self.state_refusal(cache, memory) != 0 {
             return EMPTY_PART;
         }
-        self.part_formed(cache, memory, address)
+        self.part_formed(address)
     }
 
     // "gives the present line's bytes as a part of the lent cache", or an empty part.
@@ -67,11 +68,11 @@ impl State {
     }
 
     // Show line as a step on a well-formed state.
-    pub(crate) fn show_formed(self, cache: &[u8], memory: &[u8], address: u32) -> Step
-        requires { ⌜ Formed self (now cache) (now memory) ⌝ }
-        ensures { λ r. ⌜ Does (rules.show address) (worldOf self (now (cache .entry)) (now (memory .entry))) r (now (cache .entry)) (now (memory .entry)) ⌝ }
+    pub(crate) fn show_formed(self, address: u32) -> Step
+        requires { ⌜ Shaped self (self .figures .sets * self .figures .ways * 16) ⌝ }
+        ensures { λ r. ⌜ ((c : List ℕ) → DoesWith (rules.show address) self r c) ⌝ }
     {
-        let part = self.part_formed(cache, memory, address);
+        let part = self.part_formed(address);
         Step {
             answer: Answer::Shown(part.start, part.length),
             next: self,

@@ -3,9 +3,10 @@ ghost use mathlib.Core.Path.{_≡_};
 ghost use mathlib.Core.Bool.{true};
 ghost use mathlib.Core.List.{List};
 ghost use Prim.Native.Nat.{ℕ};
+ghost use lib.ListN.{length};
 ghost use Rattle.rules.specs.Calls.{unchanged};
 ghost use Rattle.rules.specs.Runs.{refusal};
-ghost use Rattle.model.specs.State.{callOf, readsOnly, queuesOf, hierarchyOf, outcomeOf, Does, worldOf, Formed};
+ghost use Rattle.model.specs.State.{callOf, readsOnly, queuesOf, hierarchyOf, outcomeOf, Does, DoesWith, worldOf, Formed, Sound};
 use crate::Answer;
 use crate::Call;
 use crate::State;
@@ -26,28 +27,34 @@ impl State {
     }
 
     // A call that only reads the lent bytes, on a well-formed state. (Of the others nothing is promised.)
-    fn read_formed(self, call: Call, cache: &[u8], memory: &[u8]) -> Step
-        requires { ⌜ Formed self (now cache) (now memory) ⌝ }
-        ensures { λ r. ⌜ (readsOnly call ≡ true → Does (callOf call) (worldOf self (now (cache .entry)) (now (memory .entry))) r (now (cache .entry)) (now (memory .entry))) ⌝ }
+    fn read_formed(self, call: Call, cache: &[u8]) -> Step
+        requires { ⌜ Sound self (length (now cache)) ⌝ }
+        ensures { λ r. ⌜ (readsOnly call ≡ true → DoesWith (callOf call) self r (now (cache .entry))) ⌝ }
     {
         match call {
-            Call::Load(address, width) => self.load_formed(cache, memory, address, width),
-            Call::Store(address, width, value) => self.store_formed(
-                cache,
-                memory,
-                address,
-                width,
-                value,
-            ),
-            Call::Retry(i) => self.retry_formed(cache, memory, i),
-            Call::Commit(k) => self.commit_formed(cache, memory, k),
-            Call::Abort(n) => self.abort_formed(cache, memory, n),
-            Call::Show(address) => self.show_formed(cache, memory, address),
-            _ => Step {
-                answer: Answer::Idled,
-                next: self,
-            },
+            Call::Load(address, width) => return self.load_formed(cache, address, width),
+            Call::Store(address, width, value) => return self.store_formed(address, width, value),
+            Call::Retry(i) => return self.retry_formed(cache, i),
+            Call::Commit(k) => return self.commit_formed(k),
+            Call::Abort(n) => return self.abort_formed(n),
+            Call::Show(address) => return self.show_formed(address),
+            _ => {}
         }
+        Step {
+            answer: Answer::Idled,
+            next: self,
+        }
+    }
+
+    // A call that only reads the lent bytes, on any state: checks 1 and 10, then the call.
+    pub(crate) fn read_checked(self, call: Call, cache: &[u8], memory: &[u8]) -> Step
+        ensures { λ r. ⌜ (readsOnly call ≡ true → Does (callOf call) (worldOf self (now (cache .entry)) (now (memory .entry))) r (now (cache .entry)) (now (memory .entry))) ⌝ }
+    {
+        let k = self.state_refusal(cache, memory);
+        if k != 0 {
+            return self.refused_call(call, k);
+        }
+        self.read_formed(call, cache)
     }
 
     // Any call of a run on a state that is known to be well formed: checks 1 and 10 are not made. Of all public routines this one alone
@@ -57,11 +64,12 @@ impl State {
         ensures { λ r. ⌜ Does (callOf call) (worldOf self (now (cache .entry)) (now (memory .entry))) r (now (cache .exit)) (now (memory .exit)) ⌝ }
     {
         match call {
-            Call::Idle => self.idle_formed(cache, memory),
-            Call::Reply => self.reply_formed(cache, memory),
-            Call::Flush => self.flush_formed(cache, memory),
-            _ => self.read_formed(call, cache, memory),
+            Call::Idle => return self.idle_formed(cache, memory),
+            Call::Reply => return self.reply_formed(cache, memory),
+            Call::Flush => return self.flush_formed(cache, memory),
+            _ => {}
         }
+        self.read_formed(call, cache)
     }
 
     // Any call of a run, by the enum: what the method of that call answers, hands back and leaves.

@@ -5,8 +5,9 @@ ghost use Prim.Native.Nat.{ℕ, _<_};
 ghost use Rattle.rules.specs.Shape.{topNumber};
 ghost use Rattle.rules.specs.Calls.{storeRule};
 ghost use Rattle.rules.specs.Calls as rules;
-ghost use Rattle.model.specs.State.{queuesOf, hierarchyOf, outcomeOf, storeRest, Does, worldOf, Formed};
+ghost use Rattle.model.specs.State.{queuesOf, hierarchyOf, outcomeOf, storeRest, Does, DoesWith, worldOf};
 use crate::Answer;
+use crate::Call;
 use crate::State;
 use crate::Step;
 use access::Access;
@@ -56,16 +57,8 @@ impl State {
     }
 
     // A store on a well-formed state: checks 2, 3 and 4, then the others and the store.
-    pub(crate) fn store_formed(
-        self,
-        cache: &[u8],
-        memory: &[u8],
-        address: u32,
-        width: u32,
-        value: u32,
-    ) -> Step
-        requires { ⌜ Formed self (now cache) (now memory) ⌝ }
-        ensures { λ r. ⌜ Does (rules.store address width value) (worldOf self (now (cache .entry)) (now (memory .entry))) r (now (cache .entry)) (now (memory .entry)) ⌝ }
+    pub(crate) fn store_formed(self, address: u32, width: u32, value: u32) -> Step
+        ensures { λ r. ⌜ ((c : List ℕ) → DoesWith (rules.store address width value) self r c) ⌝ }
     {
         let checked = access::check_access(address, width, self.size);
         let Checked::Passed(a) = checked else {
@@ -78,10 +71,6 @@ impl State {
     pub fn store(self, cache: &[u8], memory: &[u8], address: u32, width: u32, value: u32) -> Step
         ensures { λ r. ⌜ Does (rules.store address width value) (worldOf self (now (cache .entry)) (now (memory .entry))) r (now (cache .entry)) (now (memory .entry)) ⌝ }
     {
-        let k = self.state_refusal(cache, memory);
-        if k != 0 {
-            return self.refused(k);
-        }
-        self.store_formed(cache, memory, address, width, value)
+        self.read_checked(Call::Store(address, width, value), cache, memory)
     }
 }

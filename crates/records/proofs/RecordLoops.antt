@@ -1,21 +1,24 @@
--- Laws for the loops over the records: what each turn does, and what the loop amounts to in the rules.
-use mathlib.Core.Path.{_≡_, refl}
-use mathlib.Core.Bool.{false, cond, not, _&&_}
+-- Laws for the loops over the records and over the loads: what each turn does, and what the loop amounts to in the rules.
+use mathlib.Core.Path.{_≡_, refl, sym, _∙_}
+use mathlib.Core.Bool.{Bool, true, false, cond, not, _&&_}
 use mathlib.Core.List.{List}
 use Prim.Native.Nat.{ℕ, zero, suc, _+_, _*_, _%_, _<_, _≤_}
 use native.Mathlib.Nat.{mod-le}
 use native.Mathlib.Omega.{arith}
 use lib.Dec.{ltb, leb, eqb}
-use lib.ListN.{replicate}
+use lib.ListN.{length, drop, getD, replicate}
 use mir.Val.{Fits}
 use mir.Syntax.{w8}
 use borrow.Author.Tests.{ltb-true, leb-true, eqb-true, lt-ltb, le-ltb, le-leb, eq-eqb, ne-eqb}
 use Rattle.lists.specs.Counted.{firstFrom, greatestFrom, stepsFrom, eachFrom}
+use Rattle.lists.specs.Padded.{first}
 use Rattle.lists.proofs.Cond.{either, and-left, and-right}
+use Rattle.lists.proofs.Loops.{rest-cons}
 use Rattle.lists.proofs.CountedLoops.{change, changes-each}
 use Rattle.rules.specs.declared.Figures.{Figures}
 use Rattle.rules.specs.declared.Tag.{Tag}
-use Rattle.rules.specs.Shape.{Hierarchy, noTag, tagAt, withAge, withDirty}
+use Rattle.rules.specs.declared.LoadEntry.{LoadEntry}
+use Rattle.rules.specs.Shape.{Hierarchy, noLoad, noTag, tagAt, withAge, withDirty}
 use Rattle.rules.specs.Lines.{agedAt, writeBackSlot}
 use Rattle.rules.specs.Runs.{startTags}
 use Rattle.records.specs.Records.{victimIn, flushedTags}
@@ -94,3 +97,14 @@ start-each g =
 
 pub start-at : (count ways k : ℕ) (t : Tag) → k < count → startAt count ways k t ≡ withAge (k % ways) t
 start-at count ways k t h = rw (lt-ltb k count h)
+
+-- ---- a search for a load, that was told of entry j whether it is the one
+
+module _ (p : LoadEntry → Bool) (loads : List LoadEntry) (j : ℕ) (within : j < length loads) (told : Bool) (tells : told ≡ p (getD loads j noLoad)) where
+  pub search-hit : told ≡ true → first p noLoad (drop j loads) ≡ getD loads j noLoad
+  unfolding first
+  search-hit t = rw (rest-cons p noLoad loads j within, sym tells ∙ t)
+
+  pub search-miss : told ≡ false → first p noLoad (drop j loads) ≡ first p noLoad (drop (j + 1) loads)
+  unfolding first
+  search-miss t = rw (rest-cons p noLoad loads j within, sym tells ∙ t)

@@ -7,11 +7,12 @@ use Prim.Native.Nat.{_+_, _-_, _≤_}
 use lib.ListN.{length, drop}
 use Rattle.lists.specs.Padded.{first}
 use Rattle.lists.proofs.Cond.{cond-then, cond-else}
-use Rattle.lists.proofs.Loops.{rest-cons, rest-none}
+use Rattle.lists.proofs.Loops.{rest-none}
 use Rattle.rules.specs.Shape.{noLoad}
 use Rattle.rules.specs.Calls.{wantsLine}
 use Rattle.records.specs.Records.{hasRoom, tabled}
 use Rattle.records.proofs.Places.{test-failed, test-passed}
+use Rattle.records.proofs.RecordLoops.{search-hit, search-miss}
 use Rattle.records.proofs.lowest_wanting.Statement.{statement}
 use Rattle.records.proofs.lowest_wanting.Tie as tie
 
@@ -43,13 +44,12 @@ wants-line-requires : tie.Need-wants-line-requires Inv-loop μ-loop
 wants-line-requires c κs = search needs
 
 returns-2 : tie.Need-returns-2 Inv-loop μ-loop
-unfolding first
 returns-2 c =
     let long : length (c .before .before .before .before .before .before .before .args .t4) ≡ 8 = search needs in
     let args = c .before .before .before .before .before .before .before .args in
     let loop = c .before .before .before .before .loop in
     let wanting = wantsLine (tabled (args .figures) (args .tags)) (args .h) in
-    sym (loop .inv .2 ∙ rw (rest-cons wanting noLoad (args .t4) (loop .j) (omega arith), sym (c .before .wants-line .ensures) ∙ c .if2 .taken))
+    sym (loop .inv .2 ∙ search-hit wanting (args .t4) (loop .j) (omega arith) _ (c .before .wants-line .ensures) (c .if2 .taken))
     ∙ cond-then _ _ (loop .inv .1)
 
 add-j : tie.Need-add-j Inv-loop μ-loop
@@ -59,14 +59,13 @@ loop-less : tie.Need-loop-less Inv-loop μ-loop
 loop-less c = search needs
 
 loop-again : tie.Need-loop-again Inv-loop μ-loop
-unfolding first
 loop-again c =
     let long : length (c .before .before .before .before .before .before .before .args .t4) ≡ 8 = search needs in
     let small : c .before .before .before .before .loop .j + 1 ≤ 8 = search needs in
     let args = c .before .before .before .before .before .before .before .args in
     let loop = c .before .before .before .before .loop in
     let wanting = wantsLine (tabled (args .figures) (args .tags)) (args .h) in
-    (small, loop .inv .1, loop .inv .2 ∙ rw (rest-cons wanting noLoad (args .t4) (loop .j) (omega arith), sym (c .before .wants-line .ensures) ∙ c .if2 .left))
+    (small, loop .inv .1, loop .inv .2 ∙ search-miss wanting (args .t4) (loop .j) (omega arith) _ (c .before .wants-line .ensures) (c .if2 .left))
 
 returns-3 : tie.Need-returns-3 Inv-loop μ-loop
 unfolding first

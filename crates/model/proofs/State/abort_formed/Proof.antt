@@ -13,9 +13,8 @@ refused-requires c κs = search needs
 
 returns : tie.Need-returns
 returns c =
-    let pre = c .before .before .before .before .before .pre in
     let if1 = c .before .if1 in
-    rw (c .refused .ensures) (sym (one-refuses _ _ _ (formed-opens _ _ _ pre tt) _ _ refl (rw (le-leb _ _ (if1 .taken)))))
+    λ cache memory formed. rw (c .refused .ensures) (sym (one-refuses _ _ _ (formed-opens _ _ _ formed tt) _ _ refl (rw (le-leb _ _ (if1 .taken)))))
 
 sub-if2 : tie.Need-sub-if2
 sub-if2 c = search needs
@@ -25,20 +24,20 @@ refused-requires-2 c κs = search needs
 
 returns-2 : tie.Need-returns-2
 returns-2 c =
-    let pre = c .before .before .before .before .before .before .before .pre in
-    let args = c .before .before .before .before .before .before .before .args in
+    let args = c .before .before .before .before .before .args in
     let if1 = c .before .before .before .if1 in
-    rw (c .refused2 .ensures) (sym (one-refuses _ _ _ (formed-opens _ _ _ pre tt) _ _ refl (rw (lt-leb _ _ (if1 .left), lt-ltb (args .self .last + 1) (args .n) (omega arith)))))
+    let if2 = c .before .if2 in
+    λ cache memory formed. rw (c .refused2 .ensures) (sym (one-refuses _ _ _ (formed-opens _ _ _ formed tt) _ _ refl (rw (lt-leb _ _ (if1 .left), lt-ltb (args .self .last + 1) (args .n) (omega (arith, if1 .left, if2 .taken))))))
 
 abort-accepted-requires : tie.Need-abort-accepted-requires
 abort-accepted-requires c κs = search needs
 
 returns-3 : tie.Need-returns-3
 returns-3 c =
-    let pre = c .before .before .before .before .before .before .before .pre in
-    let args = c .before .before .before .before .before .before .before .args in
+    let args = c .before .before .before .before .before .args in
     let if1 = c .before .before .before .if1 in
-    c .abort-accepted .ensures _ _ ∙ sym (one-does _ _ _ (formed-opens _ _ _ pre tt) _ _ refl (rw (lt-leb _ _ (if1 .left), le-ltb (args .self .last + 1) (args .n) (omega arith))))
+    let if2 = c .before .if2 in
+    λ cache memory formed. c .abort-accepted .ensures _ _ ∙ sym (one-does _ _ _ (formed-opens _ _ _ formed tt) _ _ refl (rw (lt-leb _ _ (if1 .left), le-ltb (args .self .last + 1) (args .n) (omega (arith, if1 .left, if2 .left)))))
 
 pub abort-formed-spec : {M : Type 1} → statement M
 abort-formed-spec =

@@ -16,9 +16,9 @@ returns : tie.Need-returns
 unfolding lineOf
 returns c =
     let pre = c .before .before .before .before .before .before .before .before .pre in
-    let if1 = c .before .before .before .if1 in
+    let if1 = c .before .before .before .before .before .if1 in
     let remove-waiting = c .before .before .remove-waiting in
-    answered-leaves _ _ _ _ _ _ (shaped-room _ _ pre) (if1 .taken) (remove-waiting .ensures) (c .use-line .ensures)
+    λ v. answered-leaves _ _ v _ _ _ (shaped-room _ _ pre) (if1 .taken) (remove-waiting .ensures) (c .use-line .ensures)
 
 answer-waiting-requires : tie.Need-answer-waiting-requires
 answer-waiting-requires c κs = search needs
@@ -26,14 +26,9 @@ answer-waiting-requires c κs = search needs
 returns-2 : tie.Need-returns-2
 returns-2 c =
     let if1 = c .before .if1 in
-    answered-stays _ _ _ _ _ (if1 .left) (c .answer-waiting .ensures)
+    λ v. answered-stays _ _ v _ _ (if1 .left) (c .answer-waiting .ensures)
 
 pub answer-load-spec : {M : Type 1} → statement M
 answer-load-spec =
     tie.close
-    (tie.spec
-    remove-waiting-requires
-    use-line-requires
-    returns
-    answer-waiting-requires
-    returns-2)
+    (tie.spec remove-waiting-requires use-line-requires returns answer-waiting-requires returns-2)

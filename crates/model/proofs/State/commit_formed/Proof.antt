@@ -2,11 +2,7 @@
 use borrow.Author.Needs.{needs}
 use mathlib.Core.Path.{refl, sym, _∙_}
 use borrow.Author.Tests.{lt-ltb, le-ltb}
-use Rattle.rules.specs.Calls as rules
-use denote.Ref.{now}
-use lib.ListN.{length}
 use Rattle.model.proofs.Calls.{formed-opens, one-refuses, one-does}
-use Rattle.model.proofs.Facts.{fit-shaped, shaped-self}
 use Rattle.model.proofs.State.commit_formed.Statement.{statement}
 use Rattle.model.proofs.State.commit_formed.Tie as tie
 
@@ -15,32 +11,26 @@ refused-requires c κs = search needs
 
 returns : tie.Need-returns
 returns c =
-    let pre = c .before .before .before .before .before .pre in
     let if1 = c .before .if1 in
-    rw (c .refused .ensures) (sym (one-refuses _ _ _ (formed-opens _ _ _ pre tt) _ _ refl (rw (lt-ltb _ _ (if1 .taken)))))
+    λ cache memory formed. rw (c .refused .ensures) (sym (one-refuses _ _ _ (formed-opens _ _ _ formed tt) _ _ refl (rw (lt-ltb _ _ (if1 .taken)))))
 
 refused-requires-2 : tie.Need-refused-requires-2
 refused-requires-2 c κs = search needs
 
 returns-2 : tie.Need-returns-2
 returns-2 c =
-    let pre = c .before .before .before .before .before .before .before .pre in
     let if1 = c .before .before .before .if1 in
     let if2 = c .before .if2 in
-    rw (c .refused2 .ensures) (sym (one-refuses _ _ _ (formed-opens _ _ _ pre tt) _ _ refl (rw (le-ltb _ _ (if1 .left), lt-ltb _ _ (if2 .taken)))))
+    λ cache memory formed. rw (c .refused2 .ensures) (sym (one-refuses _ _ _ (formed-opens _ _ _ formed tt) _ _ refl (rw (le-ltb _ _ (if1 .left), lt-ltb _ _ (if2 .taken)))))
 
 commit-accepted-requires : tie.Need-commit-accepted-requires
-commit-accepted-requires c κs =
-    let args = c .before .before .before .before .before .before .args in
-    let pre = c .before .before .before .before .before .before .pre in
-    shaped-self _ (length (now (args .cache))) (fit-shaped _ _ (now (args .memory)) ((formed-opens rules.idle _ _ pre tt) .fit))
+commit-accepted-requires c κs = search needs
 
 returns-3 : tie.Need-returns-3
 returns-3 c =
-    let pre = c .before .before .before .before .before .before .before .pre in
     let if1 = c .before .before .before .if1 in
     let if2 = c .before .if2 in
-    c .commit-accepted .ensures _ _ ∙ sym (one-does _ _ _ (formed-opens _ _ _ pre tt) _ _ refl (rw (le-ltb _ _ (if1 .left), le-ltb _ _ (if2 .left))))
+    λ cache memory formed. c .commit-accepted .ensures _ _ ∙ sym (one-does _ _ _ (formed-opens _ _ _ formed tt) _ _ refl (rw (le-ltb _ _ (if1 .left), le-ltb _ _ (if2 .left))))
 
 pub commit-formed-spec : {M : Type 1} → statement M
 commit-formed-spec =

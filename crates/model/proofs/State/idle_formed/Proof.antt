@@ -1,16 +1,17 @@
 -- `State::idle_formed` meets its contract.
 use borrow.Author.Needs.{needs}
 use mathlib.Core.Path.{refl, sym, _∙_}
+use mathlib.Core.Logic.{⊎-elim}
 use Rattle.rules.specs.Calls as rules
 use denote.Ref.{now}
 use Rattle.rules.specs.Shape.{lineOf}
 use Rattle.model.specs.State.{queuesOf, hierarchyOf}
-use Rattle.model.proofs.Checking.{ready-at}
 use Rattle.records.proofs.Answers.{present-known}
-use Rattle.model.proofs.Moves.{idle-drains, idle-absent, idle-unready}
-use Rattle.model.proofs.Calls.{formed-opens, none-does}
-use Rattle.model.proofs.Facts.{fit-shaped, fit-figures, shaped-self, shaped-room, oldest-fine}
 use Rattle.rules.proofs.QueueView.{parts}
+use Rattle.model.proofs.Checking.{ready-at}
+use Rattle.model.proofs.Moves.{idle-drains, idle-absent, idle-unready, missing-absent, missing-unready}
+use Rattle.model.proofs.Calls.{formed-opens, none-does}
+use Rattle.model.proofs.Facts.{formed-sound, formed-shaped, shaped-room, oldest-fine}
 use Rattle.model.proofs.State.idle_formed.Statement.{statement}
 use Rattle.model.proofs.State.idle_formed.Tie as tie
 
@@ -29,17 +30,16 @@ drain-oldest-requires c κs =
     let args = c .before .before .before .before .before .before .before .before .before .before .before .before .before .args in
     let pre = c .before .before .before .before .before .before .before .before .before .before .before .before .before .pre in
     let store-ready = c .before .before .before .before .before .before .before .store-ready in
-    let is-present = c .before .before .before .is-present in
-    let if1 = c .before .before .if1 in
+    let if1 = c .before .before .before .before .before .before .if1 in
+    let is-present = c .before .before .is-present in
     let if2 = c .before .if2 in
     let s = args .self in
     let cache = now (args .cache) in
     let memory = now (args .memory) in
-    let here = present-known _ _ _ _ (shaped-room _ _ (fit-shaped s cache memory ((formed-opens rules.idle _ _ pre tt) .fit))) (is-present .ensures) in
-    let ready = sym (store-ready .ensures ∙ ready-at s cache memory) ∙ if1 .taken in
-    let o = (formed-opens rules.idle _ _ pre tt) in
-    let f = fit-figures s cache memory (o .fit) in
-    (fit-shaped s cache memory (o .fit), oldest-fine (queuesOf s) (hierarchyOf s cache memory) (f .most-size) (parts _ _ (o .formed)) ready, refl, (sym here ∙ if2 .taken))
+    let told = store-ready .ensures ∙ ready-at s cache memory in
+    let room = shaped-room _ _ (formed-shaped s cache memory pre) in
+    let sound = formed-sound s cache memory pre in
+    (sound .shaped, oldest-fine (queuesOf s) (hierarchyOf s cache memory) (sound .small) (parts _ _ pre) (sym told ∙ if1 .taken), refl, (sym (present-known _ _ _ _ room (is-present .ensures)) ∙ if2 .taken))
 
 same-length : tie.Need-same-length
 same-length c = search needs
@@ -50,70 +50,44 @@ returns c =
     let args = c .before .before .before .before .before .before .before .before .before .before .before .before .before .before .before .before .args in
     let pre = c .before .before .before .before .before .before .before .before .before .before .before .before .before .before .before .before .pre in
     let store-ready = c .before .before .before .before .before .before .before .before .before .before .store-ready in
-    let is-present = c .before .before .before .before .before .before .is-present in
-    let if1 = c .before .before .before .before .before .if1 in
+    let if1 = c .before .before .before .before .before .before .before .before .before .if1 in
+    let is-present = c .before .before .before .before .before .is-present in
     let if2 = c .before .before .before .before .if2 in
     let drain-oldest = c .before .before .drain-oldest in
     let s = args .self in
     let cache = now (args .cache) in
     let memory = now (args .memory) in
-    let here = present-known _ _ _ _ (shaped-room _ _ (fit-shaped s cache memory ((formed-opens rules.idle _ _ pre tt) .fit))) (is-present .ensures) in
-    let ready = sym (store-ready .ensures ∙ ready-at s cache memory) ∙ if1 .taken in
-    let o = (formed-opens rules.idle _ _ pre tt) in
-    drain-oldest .ensures _ ∙ sym (none-does rules.idle _ _ o refl ∙ idle-drains s cache memory ready (sym here ∙ if2 .taken))
+    let told = store-ready .ensures ∙ ready-at s cache memory in
+    let room = shaped-room _ _ (formed-shaped s cache memory pre) in
+    drain-oldest .ensures _ ∙ sym (none-does rules.idle _ _ (formed-opens rules.idle _ _ pre tt) refl ∙ idle-drains s cache memory (sym told ∙ if1 .taken) (sym (present-known _ _ _ _ room (is-present .ensures)) ∙ if2 .taken))
 
 idle-request-requires : tie.Need-idle-request-requires
 unfolding lineOf
 idle-request-requires c κs =
-    let args = c .before .before .before .before .before .before .before .before .before .before .before .before .args in
-    let pre = c .before .before .before .before .before .before .before .before .before .before .before .before .pre in
-    let store-ready = c .before .before .before .before .before .before .store-ready in
-    let is-present = c .before .before .is-present in
+    let args = c .before .before .before .before .before .before .before .args in
+    let pre = c .before .before .before .before .before .before .before .pre in
+    let store-ready = c .before .store-ready in
     let s = args .self in
     let cache = now (args .cache) in
     let memory = now (args .memory) in
-    let here = present-known _ _ _ _ (shaped-room _ _ (fit-shaped s cache memory ((formed-opens rules.idle _ _ pre tt) .fit))) (is-present .ensures) in
-    (shaped-self _ _ (fit-shaped s cache memory ((formed-opens rules.idle _ _ pre tt) .fit)), (store-ready .ensures ∙ ready-at s cache memory), refl, here)
+    let told = store-ready .ensures ∙ ready-at s cache memory in
+    let room = shaped-room _ _ (formed-shaped s cache memory pre) in
+    (formed-shaped s cache memory pre, refl, ⊎-elim (λ w. missing-absent s _ told (sym (present-known _ _ _ _ room (w .4 .ensures)) ∙ w .5 .left)) (λ w. missing-unready s _ told (w .left)) (c .if1 .came))
 
 returns-2 : tie.Need-returns-2
 unfolding lineOf
 returns-2 c =
-    let args = c .before .before .before .before .before .before .before .before .before .before .before .before .before .args in
-    let pre = c .before .before .before .before .before .before .before .before .before .before .before .before .before .pre in
-    let is-present = c .before .before .before .is-present in
-    let if2 = c .before .if2 in
-    let s = args .self in
-    let cache = now (args .cache) in
-    let memory = now (args .memory) in
-    let here = present-known _ _ _ _ (shaped-room _ _ (fit-shaped s cache memory ((formed-opens rules.idle _ _ pre tt) .fit))) (is-present .ensures) in
-    let o = (formed-opens rules.idle _ _ pre tt) in
-    c .idle-request .ensures _ _ ∙ sym (none-does rules.idle _ _ o refl ∙ idle-absent s cache memory (sym here ∙ if2 .left))
-
-idle-request-requires-2 : tie.Need-idle-request-requires-2
-unfolding lineOf
-idle-request-requires-2 c κs =
-    let args = c .before .before .before .before .before .before .before .before .before .before .before .args in
-    let pre = c .before .before .before .before .before .before .before .before .before .before .before .pre in
-    let store-ready = c .before .before .before .before .before .store-ready in
-    let is-present = c .before .is-present in
-    let s = args .self in
-    let cache = now (args .cache) in
-    let memory = now (args .memory) in
-    let here = present-known _ _ _ _ (shaped-room _ _ (fit-shaped s cache memory ((formed-opens rules.idle _ _ pre tt) .fit))) (is-present .ensures) in
-    (shaped-self _ _ (fit-shaped s cache memory ((formed-opens rules.idle _ _ pre tt) .fit)), (store-ready .ensures ∙ ready-at s cache memory), refl, here)
-
-returns-3 : tie.Need-returns-3
-returns-3 c =
-    let args = c .before .before .before .before .before .before .before .before .before .before .before .before .args in
-    let pre = c .before .before .before .before .before .before .before .before .before .before .before .before .pre in
-    let store-ready = c .before .before .before .before .before .before .store-ready in
+    let args = c .before .before .before .before .before .before .before .before .args in
+    let pre = c .before .before .before .before .before .before .before .before .pre in
+    let store-ready = c .before .before .store-ready in
     let if1 = c .before .if1 in
     let s = args .self in
     let cache = now (args .cache) in
     let memory = now (args .memory) in
-    let unready = sym (store-ready .ensures ∙ ready-at s cache memory) ∙ if1 .left in
-    let o = (formed-opens rules.idle _ _ pre tt) in
-    c .idle-request2 .ensures _ _ ∙ sym (none-does rules.idle _ _ o refl ∙ idle-unready s cache memory unready)
+    let told = store-ready .ensures ∙ ready-at s cache memory in
+    let room = shaped-room _ _ (formed-shaped s cache memory pre) in
+    let rest = ⊎-elim (λ w. idle-absent s cache memory (sym (present-known _ _ _ _ room (w .4 .ensures)) ∙ w .5 .left)) (λ w. idle-unready s cache memory (sym told ∙ w .left)) (if1 .came) in
+    c .idle-request .ensures _ _ ∙ sym (none-does rules.idle _ _ (formed-opens rules.idle _ _ pre tt) refl ∙ rest)
 
 pub idle-formed-spec : {M : Type 1} → statement M
 idle-formed-spec =
@@ -126,6 +100,4 @@ idle-formed-spec =
     same-length
     returns
     idle-request-requires
-    returns-2
-    idle-request-requires-2
-    returns-3)
+    returns-2)

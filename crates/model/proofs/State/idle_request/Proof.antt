@@ -1,14 +1,17 @@
 -- `State::idle_request` meets its contract.
 use borrow.Author.Needs.{needs}
 use mathlib.Core.Path.{sym, _∙_}
-use Rattle.model.proofs.Moves.{idle-busy, idle-load, idle-store, idle-here, idle-nothing}
 use Rattle.lists.proofs.Cond.{cond-then}
+use Rattle.model.proofs.Moves.{idle-busy, idle-load, idle-store, idle-nothing}
 use Rattle.model.proofs.Facts.{shaped-room}
 use Rattle.model.proofs.State.idle_request.Statement.{statement}
 use Rattle.model.proofs.State.idle_request.Tie as tie
 
 enum-told : tie.Need-enum-told
 enum-told c = search needs
+
+returns : tie.Need-returns
+returns c = λ k m. idle-busy _ _ _ _ (c .enum-told .given .1)
 
 enum-told-2 : tie.Need-enum-told-2
 enum-told-2 c = search needs
@@ -19,57 +22,44 @@ lowest-wanting-requires c κs = search needs
 request-line-requires : tie.Need-request-line-requires
 request-line-requires c κs = search needs
 
-returns : tie.Need-returns
-returns c =
+returns-2 : tie.Need-returns-2
+returns-2 c =
     let pre = c .before .before .before .before .before .before .before .before .before .pre in
     let enum-told2 = c .before .before .before .before .before .before .before .enum-told2 in
     let lowest-wanting = c .before .before .before .lowest-wanting in
     let if1 = c .before .if1 in
     λ k m. c .request-line .ensures k m ∙ idle-load _ _ _ (enum-told2 .given .1) _ (lowest-wanting .ensures ∙ sym (cond-then _ _ (shaped-room _ _ (pre .0)))) (if1 .taken)
 
-returns-2 : tie.Need-returns-2
-returns-2 c =
-    let pre = c .before .before .before .before .before .before .before .before .before .before .pre in
-    let enum-told2 = c .before .before .before .before .before .before .before .before .enum-told2 in
-    let lowest-wanting = c .before .before .before .before .lowest-wanting in
-    let if1 = c .before .before .if1 in
-    λ k m. idle-here _ _ _ (enum-told2 .given .1) _ (lowest-wanting .ensures ∙ sym (cond-then _ _ (shaped-room _ _ (pre .0)))) (if1 .left) (rw (← (pre .2)) (sym (pre .3) ∙ c .if3 .taken))
-
 request-line-requires-2 : tie.Need-request-line-requires-2
 request-line-requires-2 c κs = search needs
 
 returns-3 : tie.Need-returns-3
 returns-3 c =
-    let pre = c .before .before .before .before .before .before .before .before .before .before .before .pre in
-    let enum-told2 = c .before .before .before .before .before .before .before .before .before .enum-told2 in
-    let lowest-wanting = c .before .before .before .before .before .lowest-wanting in
-    let if1 = c .before .before .before .if1 in
-    let if2 = c .before .before .if2 in
-    let if3 = c .before .if3 in
-    λ k m. c .request-line2 .ensures k m ∙ rw (pre .2) (idle-store _ _ _ (enum-told2 .given .1) _ (lowest-wanting .ensures ∙ sym (cond-then _ _ (shaped-room _ _ (pre .0)))) (if1 .left) (sym (pre .1) ∙ if2 .taken) (rw (← (pre .2)) (sym (pre .3) ∙ if3 .left)))
+    let pre = c .before .before .before .before .before .before .before .before .before .before .pre in
+    let enum-told2 = c .before .before .before .before .before .before .before .before .enum-told2 in
+    let lowest-wanting = c .before .before .before .before .lowest-wanting in
+    let if1 = c .before .before .if1 in
+    let if2 = c .before .if2 in
+    λ k m. c .request-line2 .ensures k m ∙ rw (pre .1) (idle-store _ _ _ (enum-told2 .given .1) _ (lowest-wanting .ensures ∙ sym (cond-then _ _ (shaped-room _ _ (pre .0)))) (if1 .left) (rw (← (pre .1)) (sym (pre .2) ∙ if2 .taken)))
 
 returns-4 : tie.Need-returns-4
-returns-4 c = λ k m. idle-busy _ _ _ _ (c .enum-told .given .1)
-
-returns-5 : tie.Need-returns-5
-returns-5 c =
+returns-4 c =
     let pre = c .before .before .before .before .before .before .before .before .before .pre in
     let enum-told2 = c .before .before .before .before .before .before .before .enum-told2 in
     let lowest-wanting = c .before .before .before .lowest-wanting in
     let if1 = c .before .if1 in
-    λ k m. idle-nothing _ _ _ (enum-told2 .given .1) _ (lowest-wanting .ensures ∙ sym (cond-then _ _ (shaped-room _ _ (pre .0)))) (if1 .left) (sym (pre .1) ∙ c .if2 .left)
+    λ k m. idle-nothing _ _ _ (enum-told2 .given .1) _ (lowest-wanting .ensures ∙ sym (cond-then _ _ (shaped-room _ _ (pre .0)))) (if1 .left) (rw (← (pre .1)) (sym (pre .2) ∙ c .if2 .left))
 
 pub idle-request-spec : {M : Type 1} → statement M
 idle-request-spec =
     tie.close
     (tie.spec
     enum-told
+    returns
     enum-told-2
     lowest-wanting-requires
     request-line-requires
-    returns
     returns-2
     request-line-requires-2
     returns-3
-    returns-4
-    returns-5)
+    returns-4)

@@ -1,13 +1,12 @@
 -- `State::load_formed` meets its contract: each refusal by its check, else what an accepted load does.
 use borrow.Author.Needs.{needs}
 use mathlib.Core.Path.{refl, sym, _∙_}
+use Prim.Native.Nat.{_<_}
 use native.Mathlib.Omega.{arith}
-use Rattle.rules.specs.Calls as rules
-use denote.Ref.{now}
+use Rattle.rules.specs.Shape.{topNumber}
 use Rattle.access.specs.AccessChecks.{sized}
 use Rattle.model.proofs.Calls.{formed-opens, access-refuses, load-numbers, load-full, load-does, passed-access}
-use Rattle.model.proofs.Facts.{access-fine, fit-shaped, fit-figures}
-use Rattle.rules.proofs.QueueView.{parts}
+use Rattle.model.proofs.Facts.{access-fine}
 use Rattle.model.proofs.State.load_formed.Statement.{statement}
 use Rattle.model.proofs.State.load_formed.Tie as tie
 
@@ -28,64 +27,63 @@ refused-requires c κs = search needs
 
 returns : tie.Need-returns
 returns c =
-    let pre = c .before .before .before .before .before .before .before .pre in
     let check-access = c .before .before .before .before .check-access in
     let enum-told = c .before .before .enum-told in
     let failure = c .before .failure in
+    λ memory formed.
     rw (c .refused .ensures, failure .ensures, enum-told .given .1)
-    (sym (access-refuses _ _ _ _ _ _ refl (formed-opens _ _ _ pre tt) _ (sym (check-access .ensures) ∙ enum-told .given .1)))
+    (sym (access-refuses _ _ _ _ _ _ refl (formed-opens _ _ _ formed tt) _ (sym (check-access .ensures) ∙ enum-told .given .1)))
 
 refused-requires-2 : tie.Need-refused-requires-2
 refused-requires-2 c κs = search needs
 
 returns-2 : tie.Need-returns-2
 returns-2 c =
-    let pre = c .before .before .before .before .before .before .before .before .before .pre in
     let check-access = c .before .before .before .before .before .before .check-access in
     let checked = c .before .before .before .before .checked in
     let if1 = c .before .if1 in
+    λ memory formed.
     rw (c .refused2 .ensures)
-    (sym (load-numbers _ _ _ _ (formed-opens _ _ _ pre tt) _ (sym (check-access .ensures) ∙ checked .given .1) (if1 .taken)))
+    (sym (load-numbers _ _ _ _ (formed-opens _ _ _ formed tt) _ (sym (check-access .ensures) ∙ checked .given .1) (if1 .taken)))
 
 has-free-load-requires : tie.Need-has-free-load-requires
 has-free-load-requires c κs = search needs
 
 load-accepted-requires : tie.Need-load-accepted-requires
 load-accepted-requires c κs =
-    let pre = c .before .before .before .before .before .before .before .before .before .before .before .pre in
-    let args = c .before .before .before .before .before .before .before .before .before .before .before .args in
+    let args = c .before .before .before .before .before .before .before .before .before .before .args in
+    let pre = c .before .before .before .before .before .before .before .before .before .before .pre in
     let check-access = c .before .before .before .before .before .before .before .before .check-access in
     let checked = c .before .before .before .before .before .before .checked in
     let if1 = c .before .before .before .if1 in
-    let o = (formed-opens rules.idle _ _ pre tt) in
     let p = passed-access _ _ _ _ (sym (check-access .ensures) ∙ checked .given .1) in
-    (fit-shaped (args .self) (now (args .cache)) (now (args .memory)) (o .fit), rw (p .1) (access-fine (sized (args .self .size)) _ _ (fit-figures (args .self) (now (args .cache)) (now (args .memory)) (o .fit) .most-size) (p .0)), omega (arith, parts _ _ (o .formed) .last-fits, if1 .left))
+    let low : args .self .last < topNumber = omega (arith, if1 .left) in
+    (pre .shaped, rw (p .1) (access-fine (sized (args .self .size)) _ _ (pre .small) (p .0)), low)
+
+returns-3 : tie.Need-returns-3
+returns-3 c =
+    let check-access = c .before .before .before .before .before .before .before .before .before .check-access in
+    let checked = c .before .before .before .before .before .before .before .checked in
+    let if1 = c .before .before .before .before .if1 in
+    let has-free-load = c .before .before .has-free-load in
+    let if2 = c .before .if2 in
+    λ memory formed.
+    let e = sym (check-access .ensures) ∙ checked .given .1 in
+    c .load-accepted .ensures _ ∙ rw (passed-access _ _ _ _ e .1) (sym (load-does _ _ _ _ (formed-opens _ _ _ formed tt) _ e (if1 .left) (sym (has-free-load .ensures) ∙ if2 .taken)))
 
 refused-requires-3 : tie.Need-refused-requires-3
 refused-requires-3 c κs = search needs
 
-returns-3 : tie.Need-returns-3
-returns-3 c =
-    let pre = c .before .before .before .before .before .before .before .before .before .before .before .before .pre in
-    let check-access = c .before .before .before .before .before .before .before .before .before .check-access in
-    let checked = c .before .before .before .before .before .before .before .checked in
-    let if1 = c .before .before .before .before .if1 in
-    let has-free-load = c .before .before .has-free-load in
-    let if2 = c .before .if2 in
-    let o = (formed-opens _ _ _ pre tt) in
-    let e = sym (check-access .ensures) ∙ checked .given .1 in
-    c .load-accepted .ensures _ ∙ rw (passed-access _ _ _ _ e .1) (sym (load-does _ _ _ _ o _ e (if1 .left) (sym (has-free-load .ensures) ∙ if2 .taken)))
-
 returns-4 : tie.Need-returns-4
 returns-4 c =
-    let pre = c .before .before .before .before .before .before .before .before .before .before .before .before .pre in
     let check-access = c .before .before .before .before .before .before .before .before .before .check-access in
     let checked = c .before .before .before .before .before .before .before .checked in
     let if1 = c .before .before .before .before .if1 in
     let has-free-load = c .before .before .has-free-load in
     let if2 = c .before .if2 in
+    λ memory formed.
     rw (c .refused3 .ensures)
-    (sym (load-full _ _ _ _ (formed-opens _ _ _ pre tt) _ (sym (check-access .ensures) ∙ checked .given .1) (if1 .left) (sym (has-free-load .ensures) ∙ if2 .left)))
+    (sym (load-full _ _ _ _ (formed-opens _ _ _ formed tt) _ (sym (check-access .ensures) ∙ checked .given .1) (if1 .left) (sym (has-free-load .ensures) ∙ if2 .left)))
 
 pub load-formed-spec : {M : Type 1} → statement M
 load-formed-spec =
@@ -101,6 +99,6 @@ load-formed-spec =
     returns-2
     has-free-load-requires
     load-accepted-requires
-    refused-requires-3
     returns-3
+    refused-requires-3
     returns-4)

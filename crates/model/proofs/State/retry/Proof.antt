@@ -1,29 +1,14 @@
--- `State::retry` meets its contract: checks 1 and 10, then the call on a well-formed state.
+-- `State::retry` meets its contract.
 use borrow.Author.Needs.{needs}
-use mathlib.Core.Path.{sym}
-use Rattle.model.proofs.Calls.{state-refuses, state-formed}
+use mathlib.Core.Path.{refl}
 use Rattle.model.proofs.State.retry.Statement.{statement}
 use Rattle.model.proofs.State.retry.Tie as tie
 
-state-refusal-requires : tie.Need-state-refusal-requires
-state-refusal-requires c κs = search needs
-
-refused-requires : tie.Need-refused-requires
-refused-requires c κs = search needs
+read-checked-requires : tie.Need-read-checked-requires
+read-checked-requires c κs = search needs
 
 returns : tie.Need-returns
-returns c =
-    let state-refusal = c .before .before .state-refusal in
-    let if1 = c .before .if1 in
-    rw (c .refused .ensures) (sym (state-refuses _ _ _ _ (state-refusal .ensures) (if1 .taken) tt))
-
-retry-formed-requires : tie.Need-retry-formed-requires
-retry-formed-requires c κs =
-    let state-refusal = c .before .state-refusal in
-    state-formed _ _ _ (state-refusal .ensures) (c .if1 .left)
-
-returns-2 : tie.Need-returns-2
-returns-2 c = c .retry-formed .ensures
+returns c = c .read-checked .ensures refl
 
 pub retry-spec : {M : Type 1} → statement M
-retry-spec = tie.close (tie.spec state-refusal-requires refused-requires returns retry-formed-requires returns-2)
+retry-spec = tie.close (tie.spec read-checked-requires returns)

@@ -12,14 +12,11 @@ use Rattle.model.proofs.State.retry_accepted.Tie as tie
 read-requires : tie.Need-read-requires
 read-requires c κs = search needs
 
-enum-told : tie.Need-enum-told
-enum-told c = search needs
-
 enum-known-r : tie.Need-enum-known-r
 enum-known-r c = search needs
 
-answer-load-requires : tie.Need-answer-load-requires
-answer-load-requires c κs = search needs
+enum-told : tie.Need-enum-told
+enum-told c = search needs
 
 returns : tie.Need-returns
 unfolding retryRule retryWith
@@ -29,6 +26,9 @@ returns c =
     let read = c .before .before .read in
     λ m. rw (← (pre .2), lacks (loadValue (args .i) (args .l .address) (args .l .width) (args .self .stores) (hierarchyOf (args .self) (now (args .cache)) m)) (sym (read .ensures m) ∙ c .enum-told .given .1))
 
+answer-load-requires : tie.Need-answer-load-requires
+answer-load-requires c κs = search needs
+
 returns-2 : tie.Need-returns-2
 unfolding retryRule retryWith
 returns-2 c =
@@ -36,9 +36,9 @@ returns-2 c =
     let args = c .before .before .before .before .before .before .args in
     let read = c .before .before .before .before .read in
     let r = c .before .before .r in
-    λ m. c .answer-load .ensures _ m ∙ rw (← (pre .2), whole-of (loadValue (args .i) (args .l .address) (args .l .width) (args .self .stores) (hierarchyOf (args .self) (now (args .cache)) m)) _ (sym (read .ensures m) ∙ r .given .1))
+    λ m. c .answer-load .ensures _ _ m ∙ rw (← (pre .2), whole-of (loadValue (args .i) (args .l .address) (args .l .width) (args .self .stores) (hierarchyOf (args .self) (now (args .cache)) m)) _ (sym (read .ensures m) ∙ r .given .1))
 
 pub retry-accepted-spec : {M : Type 1} → statement M
 retry-accepted-spec =
     tie.close
-    (tie.spec read-requires enum-told enum-known-r answer-load-requires returns returns-2)
+    (tie.spec read-requires enum-known-r enum-told returns answer-load-requires returns-2)

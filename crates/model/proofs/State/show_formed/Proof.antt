@@ -8,7 +8,9 @@ part-formed-requires : tie.Need-part-formed-requires
 part-formed-requires c κs = search needs
 
 returns : tie.Need-returns
-returns c = show-answers _ _ _ _ (c .part-formed .result) (c .part-formed .ensures .0) (c .part-formed .ensures .1)
+returns c = λ cache memory formed.
+    let shows = c .part-formed .ensures cache memory formed in
+    show-answers _ _ _ _ (c .part-formed .result) (shows .0) (shows .1)
 
 pub show-formed-spec : {M : Type 1} → statement M
 show-formed-spec = tie.close (tie.spec part-formed-requires returns)

@@ -2,27 +2,10 @@
 use borrow.Author.Needs.{needs}
 use mathlib.Core.Path.{sym, _∙_}
 use denote.Ref.{now}
-use Rattle.model.proofs.Calls.{state-refuses, state-formed}
-use Rattle.rules.specs.Shape.{Hierarchy}
-use Rattle.rules.specs.Calls.{earlyChecks}
-use Rattle.rules.proofs.Checks.{EachPasses}
-use Rattle.model.specs.State.{callOf, hierarchyOf}
-use Rattle.model.specs.declared.Call.{Call}
-use Rattle.model.specs.declared.Call.the-variants.{Load, Store, Retry, Commit, Abort, Idle, Reply, Flush, Show}
+use Rattle.model.proofs.Calls.{state-refuses, state-formed, early}
+use Rattle.model.specs.State.{hierarchyOf}
 use Rattle.model.proofs.State.step.Statement.{statement}
 use Rattle.model.proofs.State.step.Tie as tie
-
--- no call has a check between 1 and 10
-early : (c : Call) (b : Hierarchy) → EachPasses (earlyChecks (callOf c) b)
-early (Load a w) b = tt
-early (Store a w v) b = tt
-early (Retry i) b = tt
-early (Commit k) b = tt
-early (Abort n) b = tt
-early Idle b = tt
-early Reply b = tt
-early Flush b = tt
-early (Show a) b = tt
 
 state-refusal-requires : tie.Need-state-refusal-requires
 state-refusal-requires c κs = search needs

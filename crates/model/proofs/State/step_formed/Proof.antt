@@ -4,12 +4,14 @@ use Prim.Native.Nat.{ℕ}
 use mathlib.Core.Path.{_≡_, refl}
 use mathlib.Core.Bool.{true}
 use mathlib.Core.List.{List, [], _∷_}
+use denote.Ref.{now}
 use types.Run.{OneOf, miss}
 use denote.Enum.Declared.{tagOf}
 use Rattle.model.specs.State.{readsOnly}
 use Rattle.model.specs.declared.Call.{Call}
 use Rattle.model.specs.declared.Call.the-variants.{Load, Store, Retry, Commit, Abort, Idle, Reply, Flush, Show}
 use Rattle.model.proofs.Call as call
+use Rattle.model.proofs.Facts.{formed-sound}
 use Rattle.model.proofs.State.step_formed.Statement.{statement}
 use Rattle.model.proofs.State.step_formed.Tie as tie
 
@@ -34,21 +36,6 @@ enum-told c = search needs
 idle-formed-requires : tie.Need-idle-formed-requires
 idle-formed-requires c κs = search needs
 
-enum-told-2 : tie.Need-enum-told-2
-enum-told-2 c = search needs
-
-reply-formed-requires : tie.Need-reply-formed-requires
-reply-formed-requires c κs = search needs
-
-enum-told-3 : tie.Need-enum-told-3
-enum-told-3 c = search needs
-
-flush-formed-requires : tie.Need-flush-formed-requires
-flush-formed-requires c κs = search needs
-
-read-formed-requires : tie.Need-read-formed-requires
-read-formed-requires c κs = search needs
-
 same-length : tie.Need-same-length
 same-length c = search needs
 
@@ -60,6 +47,12 @@ returns c =
     let enum-told = c .before .before .before .before .before .before .before .enum-told in
     let idle-formed = c .before .before .before .before .idle-formed in
     rw (enum-told .given .1) (idle-formed .ensures)
+
+enum-told-2 : tie.Need-enum-told-2
+enum-told-2 c = search needs
+
+reply-formed-requires : tie.Need-reply-formed-requires
+reply-formed-requires c κs = search needs
 
 same-length-3 : tie.Need-same-length-3
 same-length-3 c = search needs
@@ -73,6 +66,12 @@ returns-2 c =
     let reply-formed = c .before .before .before .before .reply-formed in
     rw (enum-told2 .given .1) (reply-formed .ensures)
 
+enum-told-3 : tie.Need-enum-told-3
+enum-told-3 c = search needs
+
+flush-formed-requires : tie.Need-flush-formed-requires
+flush-formed-requires c κs = search needs
+
 same-length-5 : tie.Need-same-length-5
 same-length-5 c = search needs
 
@@ -85,17 +84,21 @@ returns-3 c =
     let flush-formed = c .before .before .flush-formed in
     rw (enum-told3 .given .1) (flush-formed .ensures)
 
+read-formed-requires : tie.Need-read-formed-requires
+read-formed-requires c κs =
+    let args = c .before .before .before .before .args in
+    let pre = c .before .before .before .before .pre in
+    formed-sound (args .self) (now (args .cache)) (now (args .memory)) pre
+
 same-length-7 : tie.Need-same-length-7
 same-length-7 c = search needs
 
-same-length-8 : tie.Need-same-length-8
-same-length-8 c = search needs
-
 returns-4 : tie.Need-returns-4
 returns-4 c =
-    let args = c .before .before .before .before .before .before .args in
-    let match = c .before .before .before .match in
-    c .read-formed .ensures (all-read (args .call) (match .keys4))
+    let args = c .before .before .before .before .before .args in
+    let pre = c .before .before .before .before .before .pre in
+    let match = c .before .before .match in
+    c .read-formed .ensures (all-read (args .call) (match .keys4)) _ pre
 
 pub step-formed-spec : {M : Type 1} → statement M
 step-formed-spec =
@@ -103,20 +106,19 @@ step-formed-spec =
     (tie.spec
     enum-told
     idle-formed-requires
-    enum-told-2
-    reply-formed-requires
-    enum-told-3
-    flush-formed-requires
-    read-formed-requires
     same-length
     same-length-2
     returns
+    enum-told-2
+    reply-formed-requires
     same-length-3
     same-length-4
     returns-2
+    enum-told-3
+    flush-formed-requires
     same-length-5
     same-length-6
     returns-3
+    read-formed-requires
     same-length-7
-    same-length-8
     returns-4)

@@ -22,23 +22,23 @@ refused-requires c κs = search needs
 
 returns : tie.Need-returns
 returns c =
-    let pre = c .before .before .before .before .before .before .before .pre in
     let check-access = c .before .before .before .before .check-access in
     let enum-told = c .before .before .enum-told in
     let failure = c .before .failure in
+    λ cache memory formed.
     rw (c .refused .ensures, failure .ensures, enum-told .given .1)
-    (sym (access-refuses _ _ _ _ _ _ refl (formed-opens _ _ _ pre tt) _ (sym (check-access .ensures) ∙ enum-told .given .1)))
+    (sym (access-refuses _ _ _ _ _ _ refl (formed-opens _ _ _ formed tt) _ (sym (check-access .ensures) ∙ enum-told .given .1)))
 
 store-checked-requires : tie.Need-store-checked-requires
 store-checked-requires c κs = search needs
 
 returns-2 : tie.Need-returns-2
 returns-2 c =
-    let pre = c .before .before .before .before .before .before .before .pre in
     let check-access = c .before .before .before .before .check-access in
     let checked = c .before .before .checked in
+    λ cache memory formed.
     let e = sym (check-access .ensures) ∙ checked .given .1 in
-    c .store-checked .ensures _ _ ∙ rw (passed-access _ _ _ _ e .1) (store-goes _ _ _ _ _ (formed-opens _ _ _ pre tt) _ e)
+    c .store-checked .ensures _ _ ∙ rw (passed-access _ _ _ _ e .1) (store-goes _ _ _ _ _ (formed-opens _ _ _ formed tt) _ e)
 
 pub store-formed-spec : {M : Type 1} → statement M
 store-formed-spec =
