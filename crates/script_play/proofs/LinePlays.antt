@@ -7,7 +7,7 @@ use mathlib.Core.Option.{Option, some, none}
 use native.Mathlib.Nat.{mul-le-mul}
 use native.Mathlib.Omega.{arith}
 use lib.Dec.{leb, eqb}
-use lib.ListN.{length, take, drop, replicate, length-replicate, take-append-drop}
+use lib.ListN.{length, take, drop, replicate, length-append, length-drop, length-replicate, take-append-drop}
 use lib.Seq.{sets, sets-eq, take-at, length-take-le}
 use borrow.Author.Tests.{ne-eqb, le-leb, lt-leb, leb-true, leb-false}
 use Rattle.lists.proofs.Cond.{cases, either, and-left, and-right, wrong}
@@ -80,6 +80,9 @@ module _ (front whole : List ℕ) (n : ℕ) (len : length front ≡ n) (fits : n
 
   front-taken : take n (front ++ drop n whole) ≡ front
   front-taken = take-at front (drop n whole) n len
+
+  pub front-length : length (front ++ drop n whole) ≡ length whole
+  front-length = simp (length-append, length-drop) (omega arith)
 
 -- the front of a buffer laid where it stands
 laid-self : (n : ℕ) (l : List ℕ) → n ≤ length l → l ≡ sets l 0 (take n l)

@@ -105,7 +105,8 @@ pub struct Ran {
     at: usize,
 }
 
-// Plays each line that ends in the input. The run is kept in locals: a line that does not change it copies nothing of it.
+// Plays each line that ends in the input. The run is kept in locals: a line that does not change it copies nothing of it. A call on a
+// run that is known to be well formed is made here, and not in a function of its own, which would copy the state once more.
 fn run_lines(
     player: Player,
     formed: bool,
@@ -141,11 +142,22 @@ fn run_lines(
             }
             Command::Make(call) => {
                 if started {
-                    let r = line::make_call(formed, state, call, cache, memory);
-                    let answer = r.answer;
-                    let next = r.next;
-                    state = next;
-                    at = writer::write_answer(out, at, answer);
+                    if formed {
+                        let figures = state.figures;
+                        let c = line::cache_used(figures);
+                        let m = line::memory_used(state.size);
+                        let r = state.step_formed(call, &mut cache[..c], &mut memory[..m]);
+                        let answer = r.answer;
+                        let next = r.next;
+                        state = next;
+                        at = writer::write_answer(out, at, answer);
+                    } else {
+                        let r = line::make_call(state, call, cache, memory);
+                        let answer = r.answer;
+                        let next = r.next;
+                        state = next;
+                        at = writer::write_answer(out, at, answer);
+                    }
                 } else {
                     at = line::refuse_line(MALFORMED_LINE, out, at);
                 }

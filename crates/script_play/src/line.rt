@@ -29,7 +29,7 @@ pub struct AfterLine {
 }
 
 // How much of the lent cache a run uses.
-fn cache_used(figures: Figures) -> usize
+pub(crate) fn cache_used(figures: Figures) -> usize
     ensures { λ r. ⌜ (r ≡ cacheUsed figures) × (r ≤ largestCache) ⌝ }
 {
     if MAX_SETS < figures.sets {
@@ -42,7 +42,7 @@ fn cache_used(figures: Figures) -> usize
 }
 
 // How much of the lent memory a run uses.
-fn memory_used(size: u32) -> usize
+pub(crate) fn memory_used(size: u32) -> usize
     ensures { λ r. ⌜ (r ≡ memoryUsed size) × (r ≤ largestMemory) ⌝ }
 {
     let length = size as usize;
@@ -66,25 +66,15 @@ pub(crate) fn run_formed(started: bool, state: State, cache: &[u8], memory: &[u8
     true
 }
 
-// A call on the run. Of a run that is known to be well formed checks 1 and 10 are not made.
-pub(crate) fn make_call(
-    formed: bool,
-    state: State,
-    call: Call,
-    cache: &mut [u8],
-    memory: &mut [u8],
-) -> Step
-    requires { ⌜ (largestCache ≤ length (now cache)) × (largestMemory ≤ length (now memory))
-        × (formed ≡ true → runFormed (runOf true state (now cache) (now memory)) ≡ true) ⌝ }
+// A call on a run that is not known to be well formed: checks 1 and 10 are made.
+pub(crate) fn make_call(state: State, call: Call, cache: &mut [u8], memory: &mut [u8]) -> Step
+    requires { ⌜ (largestCache ≤ length (now cache)) × (largestMemory ≤ length (now memory)) ⌝ }
     ensures { λ r. ⌜ MakesCall (callOf call) (runOf true state (now (cache .entry)) (now (memory .entry)))
         (lentOf (now (cache .entry)) (now (memory .entry))) r (lentOf (now (cache .exit)) (now (memory .exit))) ⌝ }
 {
     let figures = state.figures;
     let c = cache_used(figures);
     let m = memory_used(state.size);
-    if formed {
-        return state.step_formed(call, &mut cache[..c], &mut memory[..m]);
-    }
     state.step(call, &mut cache[..c], &mut memory[..m])
 }
 

@@ -8,12 +8,12 @@ use Rattle.script.specs.Commands.{heldBytes}
 use Rattle.script_text.specs.Reader.{askedOf}
 use Rattle.script_text.specs.Written.{lineRoom}
 use mathlib.Core.Logic.{⊎-elim}
-use mathlib.Core.Path.{_≡_, refl, _∙_, ap}
+use mathlib.Core.Path.{_≡_, refl, sym, _∙_, ap}
 use native.Mathlib.Omega.{arith}
 use Rattle.script_play.specs.Player.{largestCache, largestMemory, runAt, playerAt, isFeed, PlaysCommand, Plays}
 use Rattle.script_play.specs.declared.Player.{Player}
 use Rattle.script.specs.Play.{malformedLine}
-use Rattle.script_play.proofs.LinePlays.{line-met, answered, stays, malformed, not-begun}
+use Rattle.script_play.proofs.LinePlays.{front-length, front-formed, made, line-met, answered, stays, malformed, not-begun}
 use Rattle.script_play.proofs.RunKept.{plays-kept}
 use Rattle.script_play.proofs.InputPlays.{plays-none, plays-on, end-bounds, line-played}
 use borrow.Author.Needs.{needs}
@@ -76,16 +76,58 @@ play-start-requires c κs =
 enum-known-command-2 : tie.Need-enum-known-command-2 Inv-loop μ-loop
 enum-known-command-2 c = search needs
 
-make-call-requires : tie.Need-make-call-requires Inv-loop μ-loop
-make-call-requires c κs =
-    let pre = c .before .before .before .before .before .before .before .before .before .before .before .before .before .before .before .before .pre in
-    let loop = c .before .before .before .before .before .before .before .before .loop in
-    let if1 = c .before .before .if1 in
-    let inv = loop .inv in
-    (omega (arith, pre .1, inv .4), omega (arith, pre .2, inv .5), λ e. rw (if1 .taken) at (plays-kept (inv .7) (pre .4 e)))
+cache-used-requires : tie.Need-cache-used-requires Inv-loop μ-loop
+cache-used-requires c κs = search needs
+
+memory-used-requires : tie.Need-memory-used-requires Inv-loop μ-loop
+memory-used-requires c κs = search needs
+
+slice-relend-prefix-step-formed : tie.Need-slice-relend-prefix-step-formed Inv-loop μ-loop
+slice-relend-prefix-step-formed c =
+    let pre = c .before .before .before .before .before .before .before .before .before .before .before .before .before .before .before .before .before .before .pre in
+    let inv = c .before .before .before .before .before .before .before .before .before .before .loop .inv in
+    omega (arith, c .before .cache-used .ensures .1, pre .1, inv .4)
+
+slice-aggregate-step-formed : tie.Need-slice-aggregate-step-formed Inv-loop μ-loop
+slice-aggregate-step-formed c =
+    let pre = c .before .before .before .before .before .before .before .before .before .before .before .before .before .before .before .before .before .before .before .pre in
+    let inv = c .before .before .before .before .before .before .before .before .before .before .before .loop .inv in
+    sym (length-take-le _ _ (omega (arith, c .before .before .cache-used .ensures .1, pre .1, inv .4)))
+
+slice-relend-prefix-step-formed-2 : tie.Need-slice-relend-prefix-step-formed-2 Inv-loop μ-loop
+slice-relend-prefix-step-formed-2 c =
+    let pre = c .before .before .before .before .before .before .before .before .before .before .before .before .before .before .before .before .before .before .before .pre in
+    let inv = c .before .before .before .before .before .before .before .before .before .before .before .loop .inv in
+    omega (arith, c .before .memory-used .ensures .1, pre .2, inv .5)
+
+slice-aggregate-step-formed-2 : tie.Need-slice-aggregate-step-formed-2 Inv-loop μ-loop
+slice-aggregate-step-formed-2 c =
+    let pre = c .before .before .before .before .before .before .before .before .before .before .before .before .before .before .before .before .before .before .before .before .pre in
+    let inv = c .before .before .before .before .before .before .before .before .before .before .before .before .loop .inv in
+    sym (length-take-le _ _ (omega (arith, c .before .before .memory-used .ensures .1, pre .2, inv .5)))
+
+step-formed-requires : tie.Need-step-formed-requires Inv-loop μ-loop
+step-formed-requires c κs =
+    let pre = c .before .before .before .before .before .before .before .before .before .before .before .before .before .before .before .before .before .before .before .before .pre in
+    let loop = c .before .before .before .before .before .before .before .before .before .before .before .before .loop in
+    let if1 = c .before .before .before .before .before .before .if1 in
+    let if2 = c .before .before .before .before .before .if2 in
+    let cache-used = c .before .before .before .cache-used in
+    let memory-used = c .before .before .memory-used in
+    front-formed (loop .state) (loop .cache) (loop .memory) (cache-used .result) (memory-used .result)
+    (cache-used .ensures .0) (memory-used .ensures .0) ∙ (rw (if1 .taken) at (plays-kept (loop .inv .7) (pre .4 (if2 .taken))))
 
 write-answer-requires : tie.Need-write-answer-requires Inv-loop μ-loop
 write-answer-requires c κs = search needs
+
+make-call-requires : tie.Need-make-call-requires Inv-loop μ-loop
+make-call-requires c κs =
+    let pre = c .before .before .before .before .before .before .before .before .before .before .before .before .before .before .before .before .before .pre in
+    let inv = c .before .before .before .before .before .before .before .before .before .loop .inv in
+    (omega (arith, pre .1, inv .4), omega (arith, pre .2, inv .5))
+
+write-answer-requires-2 : tie.Need-write-answer-requires-2 Inv-loop μ-loop
+write-answer-requires-2 c κs = search needs
 
 refuse-line-requires-2 : tie.Need-refuse-line-requires-2 Inv-loop μ-loop
 refuse-line-requires-2 c κs =
@@ -155,12 +197,26 @@ loop-again c =
       line-met before (ap askedOf (w .1 .given .1)) (w .14) (w .15) (w .16) (w .17) (w .18) (w .19) (w .6 .ensures),
     ))
     (λ u. ⊎-elim
+    (λ w.
+    let cused : w .6 .result ≤ length (loop .cache) = omega (arith, w .6 .ensures .1, cfit) in
+    let mused : w .7 .result ≤ length (loop .memory) = omega (arith, w .7 .ensures .1, mfit) in
+    let clen = w .10 .kept .1 .1 .0 ∙ length-take-le (w .6 .result) (loop .cache) cused in
+    let mlen = w .10 .kept .1 .1 .1 .0 ∙ length-take-le (w .7 .result) (loop .memory) mused in (
+      ap length (w .20) ∙ front-length (w .10 .last .1 .1 .0) (loop .cache) (w .6 .result) clen cused,
+      ap length (w .21) ∙ front-length (w .10 .last .1 .1 .1 .0) (loop .memory) (w .7 .result) mlen mused,
+      ap length (w .22) ∙ w .17 .kept .0,
+      line-met before (ap askedOf (w .1 .given .1)) (w .20) (w .21) (w .22) (w .23) (w .24) (w .25)
+          (answered _ (loop .started) (w .3 .taken)
+          (made (loop .state) (w .1 .given .0 .0) (loop .cache) (loop .memory) (w .6 .result) (w .7 .result) (w .10 .result) _ _ (w .6 .ensures .0) (w .7 .ensures .0)
+          (w .10 .ensures) clen mlen cused mused) room (w .17 .ensures)),
+    ))
+    (λ t. ⊎-elim
     (λ w. (
-      ap length (w .16) ∙ w .6 .kept .1 .1 .1 .0,
-      ap length (w .17) ∙ w .6 .kept .1 .1 .1 .1 .0,
-      ap length (w .18) ∙ w .13 .kept .0,
-      line-met before (ap askedOf (w .1 .given .1)) (w .16) (w .17) (w .18) (w .19) (w .20) (w .21)
-          (answered _ (loop .started) (w .3 .taken) (w .6 .ensures) room (w .13 .ensures)),
+      ap length (w .17) ∙ w .7 .kept .1 .1 .0,
+      ap length (w .18) ∙ w .7 .kept .1 .1 .1 .0,
+      ap length (w .19) ∙ w .14 .kept .0,
+      line-met before (ap askedOf (w .1 .given .1)) (w .17) (w .18) (w .19) (w .20) (w .21) (w .22)
+          (answered _ (loop .started) (w .3 .taken) (w .7 .ensures) room (w .14 .ensures)),
     ))
     (λ w. (
       ap length (w .8),
@@ -170,7 +226,7 @@ loop-again c =
           (stays asked (loop .started) (loop .state) (loop .cache) (loop .memory) (loop .out) (loop .at) cfit mfit malformedLine
           (not-begun asked (loop .started) (loop .state) (loop .cache) (loop .memory) (loop .out) (loop .at) cfit mfit _ (ap askedOf (w .1 .given .1)) (w .3 .left))
           (w .5 .ensures)),
-    )) u) v) (m .came) in
+    )) t) u) v) (m .came) in
     let played = line-played input (loop .i) (loop .end) (inv .3) (inv .0) old (loop .cache) (loop .memory) (loop .out) (loop .at)
     (m .started) (m .state) (m .cache) (m .memory) (m .out) (m .at) asked (loop-test .taken) (line-command .ensures) (line .3) in (
       omega (arith, loop-test .taken),
@@ -214,8 +270,16 @@ run-lines-spec =
     enum-known-command
     play-start-requires
     enum-known-command-2
-    make-call-requires
+    cache-used-requires
+    memory-used-requires
+    slice-relend-prefix-step-formed
+    slice-aggregate-step-formed
+    slice-relend-prefix-step-formed-2
+    slice-aggregate-step-formed-2
+    step-formed-requires
     write-answer-requires
+    make-call-requires
+    write-answer-requires-2
     refuse-line-requires-2
     add-i
     line-end-requires-2

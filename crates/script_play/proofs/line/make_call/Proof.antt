@@ -4,7 +4,7 @@ use lib.ListN.{length}
 use lib.Seq.{length-take-le}
 use mathlib.Core.Path.{sym, _∙_}
 use native.Mathlib.Omega.{arith}
-use Rattle.script_play.proofs.LinePlays.{front-formed, made}
+use Rattle.script_play.proofs.LinePlays.{made}
 use borrow.Author.Needs.{needs}
 use Rattle.script_play.proofs.line.make_call.Statement.{statement}
 use Rattle.script_play.proofs.line.make_call.Tie as tie
@@ -14,50 +14,6 @@ cache-used-requires c κs = search needs
 
 memory-used-requires : tie.Need-memory-used-requires
 memory-used-requires c κs = search needs
-
-slice-relend-prefix-step-formed : tie.Need-slice-relend-prefix-step-formed
-slice-relend-prefix-step-formed c = search needs
-
-slice-aggregate-step-formed : tie.Need-slice-aggregate-step-formed
-slice-aggregate-step-formed c = sym (length-take-le _ _ (search needs))
-
-slice-relend-prefix-step-formed-2 : tie.Need-slice-relend-prefix-step-formed-2
-slice-relend-prefix-step-formed-2 c = search needs
-
-slice-aggregate-step-formed-2 : tie.Need-slice-aggregate-step-formed-2
-slice-aggregate-step-formed-2 c = sym (length-take-le _ _ (search needs))
-
-step-formed-requires : tie.Need-step-formed-requires
-step-formed-requires c κs =
-    let args = c .before .before .before .before .before .before .before .before .args in
-    let pre = c .before .before .before .before .before .before .before .before .pre in
-    let cache-used = c .before .before .before .before .cache-used in
-    let memory-used = c .before .before .before .memory-used in
-    let if1 = c .before .before .if1 in
-    front-formed (args .state) (args .cache .now) (args .memory .now) (cache-used .result) (memory-used .result)
-    (cache-used .ensures .0) (memory-used .ensures .0) ∙ pre .2 (if1 .taken)
-
-same-length : tie.Need-same-length
-same-length c = search needs
-
-same-length-2 : tie.Need-same-length-2
-same-length-2 c = search needs
-
-returns : tie.Need-returns
-returns c =
-    let args = c .before .before .before .before .before .before .before .before .before .before .before .before .before .args in
-    let pre = c .before .before .before .before .before .before .before .before .before .before .before .before .before .pre in
-    let cache-used = c .before .before .before .before .before .before .before .before .before .cache-used in
-    let memory-used = c .before .before .before .before .before .before .before .before .memory-used in
-    let step-formed = c .before .before .before .before .step-formed in
-    let cache = args .cache .now in
-    let memory = args .memory .now in
-    let cfit : cache-used .result ≤ length cache = omega (arith, cache-used .ensures .1, pre .0) in
-    let mfit : memory-used .result ≤ length memory = omega (arith, memory-used .ensures .1, pre .1) in
-    made (args .state) (args .call) cache memory (cache-used .result) (memory-used .result)
-    (step-formed .result) _ _ (cache-used .ensures .0) (memory-used .ensures .0) (step-formed .ensures)
-    (step-formed .kept .1 .1 .0 ∙ length-take-le (cache-used .result) cache cfit)
-    (step-formed .kept .1 .1 .1 .0 ∙ length-take-le (memory-used .result) memory mfit) cfit mfit
 
 slice-relend-prefix-step : tie.Need-slice-relend-prefix-step
 slice-relend-prefix-step c = search needs
@@ -74,18 +30,18 @@ slice-aggregate-step-2 c = sym (length-take-le _ _ (search needs))
 step-requires : tie.Need-step-requires
 step-requires c κs = search needs
 
-same-length-3 : tie.Need-same-length-3
-same-length-3 c = search needs
+same-length : tie.Need-same-length
+same-length c = search needs
 
-same-length-4 : tie.Need-same-length-4
-same-length-4 c = search needs
+same-length-2 : tie.Need-same-length-2
+same-length-2 c = search needs
 
-returns-2 : tie.Need-returns-2
-returns-2 c =
-    let args = c .before .before .before .before .before .before .before .before .before .before .before .before .before .args in
-    let pre = c .before .before .before .before .before .before .before .before .before .before .before .before .before .pre in
-    let cache-used = c .before .before .before .before .before .before .before .before .before .cache-used in
-    let memory-used = c .before .before .before .before .before .before .before .before .memory-used in
+returns : tie.Need-returns
+returns c =
+    let args = c .before .before .before .before .before .before .before .before .before .before .before .before .args in
+    let pre = c .before .before .before .before .before .before .before .before .before .before .before .before .pre in
+    let cache-used = c .before .before .before .before .before .before .before .before .cache-used in
+    let memory-used = c .before .before .before .before .before .before .before .memory-used in
     let step = c .before .before .before .before .step in
     let cache = args .cache .now in
     let memory = args .memory .now in
@@ -102,19 +58,11 @@ make-call-spec =
     (tie.spec
     cache-used-requires
     memory-used-requires
-    slice-relend-prefix-step-formed
-    slice-aggregate-step-formed
-    slice-relend-prefix-step-formed-2
-    slice-aggregate-step-formed-2
-    step-formed-requires
-    same-length
-    same-length-2
-    returns
     slice-relend-prefix-step
     slice-aggregate-step
     slice-relend-prefix-step-2
     slice-aggregate-step-2
     step-requires
-    same-length-3
-    same-length-4
-    returns-2)
+    same-length
+    same-length-2
+    returns)
