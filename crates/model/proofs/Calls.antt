@@ -9,15 +9,13 @@ use borrow.Author.Tests.{ltb-true, ltb-false, le-leb, lt-leb, eq-eqb, ne-eqb}
 use Rattle.lists.proofs.Cond.{cases, and-left}
 use Rattle.rules.specs.Shape.{Queues, Hierarchy, fits, topNumber, isFreeStore, isFreeLoad}
 use Rattle.lists.specs.Padded.{any}
-use Rattle.rules.specs.Calls.{Call, Check, load, store, refused, check, numberCheck, loadRule, storeRule, guarded, passes, unchanged, accessChecks, earlyChecks, callChecks, rule}
+use Rattle.rules.specs.Calls.{Call, Check, load, store, retry, commit, abort, idle, reply, flush, show, refused, check, numberCheck, loadRule, storeRule, guarded, passes, unchanged, accessChecks, earlyChecks, callChecks, rule}
 use Rattle.rules.specs.WellFormed.{linesFormed, queuesFormed, wellFormed}
 use Rattle.rules.specs.Runs.{stateChecks, refusal, outcome}
 use Rattle.rules.proofs.Checks.{EachPasses, shut, malformed, opened, checked, guarded-append, guarded-passes}
 use Rattle.access.specs.AccessChecks.{sized, checkedAccess}
 use Rattle.access.proofs.AccessChecks.{checks-refuse, checks-pass}
-use Rattle.model.specs.State.{callOf, storeRest}
-use Rattle.model.specs.declared.Call as coded
-use Rattle.model.specs.declared.Call.the-variants.{Load, Store, Retry, Commit, Abort, Idle, Reply, Flush, Show}
+use Rattle.model.specs.State.{storeRest}
 use Rattle.access.specs.declared.Access.{Access}
 use Rattle.access.specs.declared.Checked.the-variants.{Passed, Failed}
 
@@ -63,16 +61,16 @@ module _ (c : Call) (q : Queues) (b : Hierarchy) where
   formed-opens e early = let f = and-left (fits b) _ e in record { fit = f; formed = e; does = opened c q b early f e }
 
 -- no call of a run has a check between 1 and 10
-pub early : (c : coded.Call) (b : Hierarchy) → EachPasses (earlyChecks (callOf c) b)
-early (Load a w) b = tt
-early (Store a w v) b = tt
-early (Retry i) b = tt
-early (Commit k) b = tt
-early (Abort n) b = tt
-early Idle b = tt
-early Reply b = tt
-early Flush b = tt
-early (Show a) b = tt
+pub early : (c : Call) (b : Hierarchy) → EachPasses (earlyChecks c b)
+early (load a w) b = tt
+early (store a w v) b = tt
+early (retry i) b = tt
+early (commit k) b = tt
+early (abort n) b = tt
+early idle b = tt
+early reply b = tt
+early flush b = tt
+early (show a) b = tt
 
 -- ---- load, store: the access, then the rest of the checks
 

@@ -9,15 +9,14 @@ use lib.Dec.{eqb}
 use lib.ListN.{length}
 use borrow.Author.Tests.{eqb-true}
 use Rattle.lists.proofs.Cond.{cases, and-left, and-right}
-use Rattle.rules.specs.Shape.{Hierarchy, World, world, fits}
+use Rattle.rules.specs.Shape.{World, world, fits}
 use Rattle.rules.specs.Calls.{guarded}
 use Rattle.rules.specs.Calls as rules
 use Rattle.rules.specs.WellFormed.{wellFormed}
 use Rattle.rules.specs.Runs.{stateChecks, refusal, outcome, answer, next, answers, after}
-use Rattle.rules.proofs.Checks.{EachPasses}
 use Rattle.model.specs.State.{queuesOf, hierarchyOf, worldOf}
 use Rattle.model.specs.declared.State.{State}
-use Rattle.model.proofs.Calls.{state-refuses}
+use Rattle.model.proofs.Calls.{state-refuses, early}
 use Rattle.images.specs.declared.Image.{Image}
 use Rattle.images.specs.Images.{openedWith, openedOf, imagedOf, standsFor}
 use Rattle.images.proofs.Standing.{images-stand}
@@ -83,22 +82,10 @@ on-image os i cache memory stands = on-state os (openedOf i) cache memory ∙ ap
 
 -- ---- an image that is refused
 
--- no call has a check between 1 and 10
-early-none : (c : rules.Call) (b : Hierarchy) → EachPasses (rules.earlyChecks c b)
-early-none (rules.load a w) b = tt
-early-none (rules.store a w v) b = tt
-early-none (rules.retry i) b = tt
-early-none (rules.commit k) b = tt
-early-none (rules.abort n) b = tt
-early-none rules.idle b = tt
-early-none rules.reply b = tt
-early-none rules.flush b = tt
-early-none (rules.show a) b = tt
-
 -- a state that is not well formed refuses every call with one number, and stays
 module _ (w : World) (k : ℕ) (e : k ≡ guarded (stateChecks (w .queues) (w .hierarchy)) (λ j. j) 0) (n : k ≡ 0 → ⊥) where
   all-refused : (c : rules.Call) → outcome c (w .queues) (w .hierarchy) ≡ rules.unchanged (refusal c k) (w .queues) (w .hierarchy)
-  all-refused c = state-refuses c (w .queues) (w .hierarchy) k e n (early-none c (w .hierarchy))
+  all-refused c = state-refuses c (w .queues) (w .hierarchy) k e n (early c (w .hierarchy))
 
   stays : (o : Option rules.Call) → listedNext o w ≡ w
   unfolding next

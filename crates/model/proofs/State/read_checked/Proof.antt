@@ -2,7 +2,7 @@
 use borrow.Author.Needs.{needs}
 use mathlib.Core.Path.{sym, _∙_}
 use denote.Ref.{now}
-use Rattle.model.specs.State.{hierarchyOf}
+use Rattle.model.specs.State.{callOf, hierarchyOf}
 use Rattle.model.proofs.Calls.{state-refuses, state-formed, early}
 use Rattle.model.proofs.Facts.{formed-sound}
 use Rattle.model.proofs.State.read_checked.Statement.{statement}
@@ -19,7 +19,7 @@ returns c =
     let args = c .before .before .before .before .before .args in
     let state-refusal = c .before .before .state-refusal in
     let if1 = c .before .if1 in
-    λ reads. c .refused-call .ensures _ _ ∙ sym (state-refuses _ _ _ _ (state-refusal .ensures) (if1 .taken) (early (args .call) (hierarchyOf (args .self) (now (args .cache)) (now (args .memory)))))
+    λ reads. c .refused-call .ensures _ _ ∙ sym (state-refuses _ _ _ _ (state-refusal .ensures) (if1 .taken) (early (callOf (args .call)) (hierarchyOf (args .self) (now (args .cache)) (now (args .memory)))))
 
 read-formed-requires : tie.Need-read-formed-requires
 read-formed-requires c κs =
