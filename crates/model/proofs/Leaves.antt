@@ -74,10 +74,6 @@ module _ (b : Hierarchy) (room : hasRoom (b .figures) ≡ true) (l f v : ℕ)
         slot = found ∙ ap (λ (f : ℕ). victimIn (b .tags) f (b .figures .ways)) (at-first (b .figures) l f room first);
       }
 
--- it is a place of the table
-pub chosen-low : (b : Hierarchy) (l f v : ℕ) → Chosen b l f v → v < 256
-chosen-low b l f v h = omega (arith, h .high, h .within, h .room)
-
 -- the slot of a present line is in the set
 pub present-slot : (b : Hierarchy) (l f v : ℕ) → Located b l f v → present b l ≡ true → v < f + b .figures .ways
 present-slot b l f v h p = ltb-true v (f + b .figures .ways) (h .here ∙ p)

@@ -122,13 +122,14 @@ module _ (s : State) (cache memory : List ℕ) where
       none : any (wantsLine table (s .committed)) (s .loads) ≡ false
       none = wanting-none table (s .committed) (s .loads) (ap isFreeLoad (sym lowest) ∙ eq-eqb (l .number) 0 z)
 
-      pub idle-store : (storeReady q && not (present table (lineOf (oldestStore q .address)))) ≡ true → requestLine (oldestStore q .address) q b ≡ idleRequest q b
-      unfolding idleRequest wantsLine present slotOf
-      idle-store r = rw (none, r, free)
+      module _ (a : ℕ) (oldest : a ≡ oldestStore q .address) where
+        pub idle-store : (storeReady q && not (present table (lineOf a))) ≡ true → requestLine a q b ≡ idleRequest q b
+        unfolding idleRequest wantsLine present slotOf
+        idle-store r = rw (none, ← oldest, r, free)
 
-      pub idle-nothing : (storeReady q && not (present table (lineOf (oldestStore q .address)))) ≡ false → unchanged idled q b ≡ idleRequest q b
-      unfolding idleRequest wantsLine present slotOf
-      idle-nothing r = rw (none, r, free)
+        pub idle-nothing : (storeReady q && not (present table (lineOf a))) ≡ false → unchanged idled q b ≡ idleRequest q b
+        unfolding idleRequest wantsLine present slotOf
+        idle-nothing r = rw (none, ← oldest, r, free)
 
 -- ---- fill
 

@@ -40,7 +40,7 @@ returns-3 c =
     let lowest-wanting = c .before .before .before .before .lowest-wanting in
     let if1 = c .before .before .if1 in
     let if2 = c .before .if2 in
-    λ k m. c .request-line2 .ensures k m ∙ rw (pre .1) (idle-store _ _ _ (enum-told2 .given .1) _ (lowest-wanting .ensures ∙ sym (cond-then _ _ (shaped-room _ _ (pre .0)))) (if1 .left) (rw (← (pre .1)) (sym (pre .2) ∙ if2 .taken)))
+    λ k m. c .request-line2 .ensures k m ∙ idle-store _ _ _ (enum-told2 .given .1) _ (lowest-wanting .ensures ∙ sym (cond-then _ _ (shaped-room _ _ (pre .0)))) (if1 .left) _ (pre .1) (sym (pre .2) ∙ if2 .taken)
 
 returns-4 : tie.Need-returns-4
 returns-4 c =
@@ -48,7 +48,7 @@ returns-4 c =
     let enum-told2 = c .before .before .before .before .before .before .before .enum-told2 in
     let lowest-wanting = c .before .before .before .lowest-wanting in
     let if1 = c .before .if1 in
-    λ k m. idle-nothing _ _ _ (enum-told2 .given .1) _ (lowest-wanting .ensures ∙ sym (cond-then _ _ (shaped-room _ _ (pre .0)))) (if1 .left) (rw (← (pre .1)) (sym (pre .2) ∙ c .if2 .left))
+    λ k m. idle-nothing _ _ _ (enum-told2 .given .1) _ (lowest-wanting .ensures ∙ sym (cond-then _ _ (shaped-room _ _ (pre .0)))) (if1 .left) _ (pre .1) (sym (pre .2) ∙ c .if2 .left)
 
 pub idle-request-spec : {M : Type 1} → statement M
 idle-request-spec =

@@ -1,10 +1,10 @@
 -- `fill_line` meets its contract.
-use borrow.Author.Needs.{needs, scaled-fits}
-use lib.Dec.{lit<}
+use borrow.Author.Needs.{needs}
+use native.Mathlib.Omega.{arith}
 use denote.Ref.{now}
 use Rattle.line_checks.specs.Refusal.{hierarchy}
 use Rattle.line_bytes.proofs.Writing.{written-length}
-use Rattle.model.proofs.Leaves.{chosen, chosen-low}
+use Rattle.model.proofs.Leaves.{chosen}
 use Rattle.model.proofs.Moves.{filled-whole}
 use Rattle.model.proofs.reply.fill_line.Statement.{statement}
 use Rattle.model.proofs.reply.fill_line.Tie as tie
@@ -25,7 +25,7 @@ mul-old c =
     let first-slot = c .before .first-slot in
     let b = hierarchy (a .figures) 0 (a .t1) (now (a .cache)) (now (a .memory)) in
     let h = chosen b (pre .room) _ _ _ (first-slot .ensures) (c .victim .ensures) in
-    scaled-fits _ 256 _ (chosen-low _ _ _ _ h) (lit< tt)
+    omega (arith, h .high, h .within, h .room)
 
 array-copy-out-old : tie.Need-array-copy-out-old
 array-copy-out-old c =
@@ -34,7 +34,7 @@ array-copy-out-old c =
     let first-slot = c .before .first-slot in
     let b = hierarchy (a .figures) 0 (a .t1) (now (a .cache)) (now (a .memory)) in
     let h = chosen b (pre .room) _ _ _ (first-slot .ensures) (c .victim .ensures) in
-    chosen-low _ _ _ _ h
+    omega (arith, h .high, h .within, h .room)
 
 write-back-requires : tie.Need-write-back-requires
 write-back-requires c κs = search needs
