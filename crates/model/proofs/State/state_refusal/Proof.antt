@@ -26,11 +26,17 @@ queues-good-requires : tie.Need-queues-good-requires
 queues-good-requires c κs = search needs
 
 returns-2 : tie.Need-returns-2
-returns-2 c = let s : State = c .before .before .before .before .before .before .before .before .before .before .args .self in
+returns-2 c =
+    let s : State = c .before .before .before .before .before .before .before .before .before .before .args .self in
     let h₁ : length (s .stores) ≡ 16 = search (needs, length-of) in
     let h₂ : length (s .loads) ≡ 8 = search (needs, length-of) in
     let h₃ : s .last ≤ topNumber = search needs in
-    found-entries s (now (c .before .before .before .before .before .before .before .before .before .before .args .cache)) (now (c .before .before .before .before .before .before .before .before .before .before .args .memory)) h₁ h₂ h₃ _ (c .before .before .before .lines-refusal .ensures) (c .before .before .if1 .left) _ (c .before .queues-good .ensures) (not-true _ (c .if2 .taken))
+    let args = c .before .before .before .before .before .before .before .before .before .before .args in
+    let lines-refusal = c .before .before .before .lines-refusal in
+    let if1 = c .before .before .if1 in
+    let queues-good = c .before .queues-good in
+    let told = found-entries s (now (args .cache)) (now (args .memory)) h₁ h₂ h₃ _ (lines-refusal .ensures) (if1 .left) in
+    told _ (queues-good .ensures) (not-true _ (c .if2 .taken))
 
 is-request-good-requires : tie.Need-is-request-good-requires
 is-request-good-requires c κs =
@@ -39,18 +45,32 @@ is-request-good-requires c κs =
     shaped-self _ _ (fit-shaped _ _ _ (lines-fit _ (sym (lines-refusal .ensures) ∙ if1 .left)))
 
 returns-3 : tie.Need-returns-3
-returns-3 c = let s : State = c .before .before .before .before .before .before .before .before .before .before .before .before .args .self in
+returns-3 c =
+    let s : State = c .before .before .before .before .before .before .before .before .before .before .before .before .args .self in
     let h₁ : length (s .stores) ≡ 16 = search (needs, length-of) in
     let h₂ : length (s .loads) ≡ 8 = search (needs, length-of) in
     let h₃ : s .last ≤ topNumber = search needs in
-    found-nothing s (now (c .before .before .before .before .before .before .before .before .before .before .before .before .args .cache)) (now (c .before .before .before .before .before .before .before .before .before .before .before .before .args .memory)) h₁ h₂ h₃ _ (c .before .before .before .before .before .lines-refusal .ensures) (c .before .before .before .before .if1 .left) _ (c .before .before .before .queues-good .ensures) (not-false _ (c .before .before .if2 .left)) _ (c .before .is-request-good .ensures) (c .if3 .taken)
+    let args = c .before .before .before .before .before .before .before .before .before .before .before .before .args in
+    let lines-refusal = c .before .before .before .before .before .lines-refusal in
+    let if1 = c .before .before .before .before .if1 in
+    let queues-good = c .before .before .before .queues-good in
+    let if2 = c .before .before .if2 in
+    let told = found-nothing s (now (args .cache)) (now (args .memory)) h₁ h₂ h₃ _ (lines-refusal .ensures) (if1 .left) in
+    told _ (queues-good .ensures) (not-false _ (if2 .left)) _ (c .before .is-request-good .ensures) (c .if3 .taken)
 
 returns-4 : tie.Need-returns-4
-returns-4 c = let s : State = c .before .before .before .before .before .before .before .before .before .before .before .before .args .self in
+returns-4 c =
+    let s : State = c .before .before .before .before .before .before .before .before .before .before .before .before .args .self in
     let h₁ : length (s .stores) ≡ 16 = search (needs, length-of) in
     let h₂ : length (s .loads) ≡ 8 = search (needs, length-of) in
     let h₃ : s .last ≤ topNumber = search needs in
-    found-request s (now (c .before .before .before .before .before .before .before .before .before .before .before .before .args .cache)) (now (c .before .before .before .before .before .before .before .before .before .before .before .before .args .memory)) h₁ h₂ h₃ _ (c .before .before .before .before .before .lines-refusal .ensures) (c .before .before .before .before .if1 .left) _ (c .before .before .before .queues-good .ensures) (not-false _ (c .before .before .if2 .left)) _ (c .before .is-request-good .ensures) (c .if3 .left)
+    let args = c .before .before .before .before .before .before .before .before .before .before .before .before .args in
+    let lines-refusal = c .before .before .before .before .before .lines-refusal in
+    let if1 = c .before .before .before .before .if1 in
+    let queues-good = c .before .before .before .queues-good in
+    let if2 = c .before .before .if2 in
+    let told = found-request s (now (args .cache)) (now (args .memory)) h₁ h₂ h₃ _ (lines-refusal .ensures) (if1 .left) in
+    told _ (queues-good .ensures) (not-false _ (if2 .left)) _ (c .before .is-request-good .ensures) (c .if3 .left)
 
 pub state-refusal-spec : {M : Type 1} → statement M
 state-refusal-spec =
