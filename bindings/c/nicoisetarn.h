@@ -236,8 +236,9 @@ nicoisetarn_answer nicoisetarn_step_in(nicoisetarn_image *image, uint32_t call,
  * lengths count numbers: that of the calls must be a multiple of their stride, and there must be room for as many
  * answers and no more.
  * It answers NICOISETARN_KIND_RAN, with 0, 0, where the lengths fit, also for an empty list and on an image that is
- * refused: then each call has the refusal 1 or 10, and image, cache and memory stay. Where they do not fit it answers
- * NICOISETARN_KIND_NO_SUCH_CALL, and nothing changes, the answers neither.
+ * refused: then each call has the refusal 1 or 10 (show line the empty part, an unknown call its own answer), and image,
+ * cache and memory stay. Where they do not fit it answers NICOISETARN_KIND_NO_SUCH_CALL, and nothing changes, the
+ * answers neither.
  * Of a show line the answer is place and length. The bytes in the cache are those of that moment only if no later
  * call of the list writes them: a bench that wants to see them ends its list there.
  */
