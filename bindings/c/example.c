@@ -1,7 +1,7 @@
 /*
  * A bench in C: plays the scope paper's worked script by calls and prints what the script player prints for it, then
- * a batch and its answers. It checks the boundary: words, what the image tells, refused calls, numbers that no call
- * has, show line, and batches.
+ * a batch and its answers, then a drain in write-through. It checks the boundary: words, what the image tells, refused
+ * calls, numbers that no call and no profile has, both profiles, show line, and batches.
  * Exits with 1, and a line on standard error, where a check fails.
  */
 #include "nicoisetarn.h"
@@ -60,13 +60,25 @@ static void print(nicoisetarn_answer answer) {
     putchar('\n');
 }
 
-/* G 1 1 32: a start over zeroed memory; the image and the cache bytes before it may be anything. */
-static nicoisetarn_answer start(bench *b) {
-    nicoisetarn_unit unit = lent(b);
+/* Zeroes the memory; the image and the cache bytes before a start may be anything. */
+static void clear(bench *b) {
     memset(&b->image, 0xA5, sizeof b->image);
     memset(b->cache, 0xA5, sizeof b->cache);
     memset(b->memory, 0, sizeof b->memory);
+}
+
+/* G 1 1 32. */
+static nicoisetarn_answer start(bench *b) {
+    nicoisetarn_unit unit = lent(b);
+    clear(b);
     return nicoisetarn_start(&unit, 1, 1);
+}
+
+/* The same in a profile. */
+static nicoisetarn_answer start_with(bench *b, uint32_t profile) {
+    nicoisetarn_unit unit = lent(b);
+    clear(b);
+    return nicoisetarn_start_with(&unit, 1, 1, profile);
 }
 
 /* The script, line by line. */
@@ -113,6 +125,32 @@ static void play_batch(bench *b) {
     CHECK(nicoisetarn_shown(&unit, nicoisetarn_answer_at(answers, LISTED - 1))[4] == 7);
 }
 
+/* ---- a drain in write-through, printed */
+
+/* All of so many bytes are zero. */
+static int all_zero(const uint8_t *bytes, size_t length) {
+    for (size_t at = 0; at < length; at++) {
+        if (bytes[at] != 0) {
+            return 0;
+        }
+    }
+    return 1;
+}
+
+static void play_write_through(bench *b) {
+    nicoisetarn_unit unit = lent(b);
+    print(start_with(b, NICOISETARN_WRITE_THROUGH));
+    print(nicoisetarn_store(&unit, 20, 1, 7)); /* its line is absent */
+    print(nicoisetarn_commit(&unit, 1));
+    print(nicoisetarn_idle(&unit)); /* and is not asked for */
+    CHECK(b->memory[20] == 7);
+    CHECK(all_zero(b->cache, sizeof b->cache));
+    print(nicoisetarn_flush(&unit));
+    const bench before = *b;
+    print(nicoisetarn_start_with(&unit, 1, 1, NICOISETARN_WRITE_THROUGH + 1)); /* no such profile */
+    CHECK(memcmp(b, &before, sizeof before) == 0);
+}
+
 /* ---- words */
 
 /* Each kind and each refusal has words; other numbers have none. */
@@ -150,6 +188,7 @@ static void make_busy(bench *b) {
 static void check_figures(const nicoisetarn_image *image) {
     CHECK(nicoisetarn_sets(image) == 1);
     CHECK(nicoisetarn_ways(image) == 1);
+    CHECK(nicoisetarn_profile(image) == NICOISETARN_WRITE_BACK);
     CHECK(nicoisetarn_memory_length(image) == 32);
     CHECK(nicoisetarn_last(image) == 3);
     CHECK(nicoisetarn_committed(image) == 1);
@@ -279,6 +318,84 @@ static void check_no_such_call(void) {
     }
 }
 
+/* ---- profiles */
+
+static void put_profile(bench *b, uint32_t profile) {
+    b->image.nicoisetarn_words[NICOISETARN_AT_PROFILE / 4] = profile;
+}
+
+/* A state that is one of write-back alone, in other profiles. */
+static void check_damaged_profile(bench *b) {
+    const uint32_t numbers[] = {NICOISETARN_WRITE_THROUGH, NICOISETARN_WRITE_THROUGH + 1, 255, UINT32_MAX};
+    nicoisetarn_unit unit = lent(b), short_memory = unit;
+    short_memory.memory_length = 16;
+    for (size_t place = 0; place < sizeof numbers / sizeof *numbers; place++) {
+        put_profile(b, numbers[place]);
+        CHECK(nicoisetarn_profile(&b->image) == numbers[place]);
+        const bench before = *b;
+        check_refused(nicoisetarn_idle(&unit), NICOISETARN_REFUSED_STATE, b, &before);
+        check_refused(nicoisetarn_idle(&short_memory), NICOISETARN_REFUSED_FIGURES, b, &before);
+        CHECK(same(nicoisetarn_show_line(&unit, 0), NICOISETARN_KIND_SHOWN, 0, 0));
+    }
+    put_profile(b, NICOISETARN_WRITE_BACK);
+}
+
+/* A line requested for a store, and a dirty one, which there are in write-back alone. */
+static void check_profiles(void) {
+    bench b, plain;
+    nicoisetarn_unit unit = lent(&b);
+    CHECK(same(start(&plain), NICOISETARN_KIND_READY, 0, 0));
+    CHECK(same(start_with(&b, NICOISETARN_WRITE_BACK), NICOISETARN_KIND_READY, 0, 0));
+    CHECK(memcmp(&b, &plain, sizeof b) == 0);
+    CHECK(same(nicoisetarn_store(&unit, 20, 1, 7), NICOISETARN_KIND_STORED, 1, 0));
+    CHECK(same(nicoisetarn_commit(&unit, 1), NICOISETARN_KIND_COMMITTED, 1, 0));
+    CHECK(same(nicoisetarn_idle(&unit), NICOISETARN_KIND_REQUEST, 16, 0));
+    check_damaged_profile(&b);
+    CHECK(same(nicoisetarn_reply(&unit), NICOISETARN_KIND_FILLED, 16, 0));
+    CHECK(same(nicoisetarn_idle(&unit), NICOISETARN_KIND_DRAINED, 1, 0));
+    check_damaged_profile(&b);
+    CHECK(same(nicoisetarn_flush(&unit), NICOISETARN_KIND_FLUSHED, 1, 0));
+}
+
+/* A drain to a line that is present: memory and line are written, and the line stays clean. */
+static void check_write_through(void) {
+    bench b;
+    nicoisetarn_unit unit = lent(&b);
+    CHECK(same(start_with(&b, NICOISETARN_WRITE_THROUGH), NICOISETARN_KIND_READY, 0, 0));
+    CHECK(nicoisetarn_profile(&b.image) == NICOISETARN_WRITE_THROUGH);
+    CHECK(same(nicoisetarn_load(&unit, 16, 1), NICOISETARN_KIND_WAITS, 1, 0));
+    CHECK(same(nicoisetarn_commit(&unit, 1), NICOISETARN_KIND_COMMITTED, 1, 0));
+    CHECK(same(nicoisetarn_idle(&unit), NICOISETARN_KIND_REQUEST, 16, 0));
+    CHECK(same(nicoisetarn_reply(&unit), NICOISETARN_KIND_FILLED, 16, 0));
+    CHECK(same(nicoisetarn_retry(&unit, 1), NICOISETARN_KIND_VALUE, 1, 0));
+    CHECK(same(nicoisetarn_store(&unit, 20, 1, 7), NICOISETARN_KIND_STORED, 2, 0));
+    CHECK(same(nicoisetarn_commit(&unit, 2), NICOISETARN_KIND_COMMITTED, 2, 0));
+    CHECK(same(nicoisetarn_idle(&unit), NICOISETARN_KIND_DRAINED, 2, 0));
+    CHECK(b.memory[20] == 7 && b.cache[4] == 7);
+    check_records(&b.image, (nicoisetarn_tag){1, 0, 1, 0});
+    CHECK(same(nicoisetarn_flush(&unit), NICOISETARN_KIND_FLUSHED, 0, 0));
+}
+
+/* A number that no profile has: the library says so, and nothing changes, whatever image, figures and lengths are. */
+static void check_no_such_profile(void) {
+    const uint32_t numbers[] = {NICOISETARN_WRITE_THROUGH + 1, 255, 256, UINT32_MAX};
+    bench b, before;
+    nicoisetarn_unit unit = lent(&b), no_cache = unit;
+    no_cache.cache_length = 0;
+    make_busy(&b);
+    memset(b.cache, 0xA5, sizeof b.cache); /* a start would zero it */
+    for (size_t image = 0; image < 2; image++) {
+        before = b;
+        for (size_t place = 0; place < sizeof numbers / sizeof *numbers; place++) {
+            CHECK(same(nicoisetarn_start_with(&unit, 1, 1, numbers[place]), NICOISETARN_KIND_NO_SUCH_CALL, 0, 0));
+            CHECK(same(nicoisetarn_start_with(&unit, 3, 1, numbers[place]), NICOISETARN_KIND_NO_SUCH_CALL, 0, 0));
+            CHECK(same(nicoisetarn_start_with(&no_cache, 1, 1, numbers[place]), NICOISETARN_KIND_NO_SUCH_CALL, 0, 0));
+        }
+        CHECK(memcmp(&b, &before, sizeof b) == 0);
+        memset(&b.image, 0xA5, sizeof b.image);
+    }
+}
+
 /* ---- show line */
 
 /* Two sets of two ways: line 3 fills the first way of set 1, so it stands at place 2 * 16. */
@@ -396,12 +513,16 @@ int main(void) {
     bench b;
     play(&b);
     play_batch(&b);
+    play_write_through(&b);
     check_words();
     check_image();
     check_refusals();
     check_full_queues();
     check_damaged();
     check_no_such_call();
+    check_profiles();
+    check_write_through();
+    check_no_such_profile();
     check_shown();
     check_shown_of_const();
     check_batch();

@@ -20,6 +20,12 @@
  *     nicoisetarn_reply(&unit);                  filled 16
  *     nicoisetarn_retry(&unit, 3);               value, number 3: the byte of memory
  *
+ * A start may choose write-through without write-allocate in place of write-back: a drain then needs no line. It writes
+ * memory, and also the cached line where there is one, which it uses. Idle requests no line for a store, no line is
+ * dirty, and an accepted flush answers 0.
+ *
+ *     nicoisetarn_start_with(&unit, 1, 1, NICOISETARN_WRITE_THROUGH);
+ *
  * A batch is a list of calls, six numbers each, that the library makes one after the other. The unit is opened and
  * checked once for the list and not at each call.
  *
@@ -72,7 +78,13 @@ extern "C" {
 #define NICOISETARN_STORES 16        /* places of the store queue */
 #define NICOISETARN_LOADS 8          /* places of the load queue */
 #define NICOISETARN_RECORDS 256      /* tag records: set * ways + way names one */
-#define NICOISETARN_IMAGE_BYTES 1948 /* bytes of an image */
+#define NICOISETARN_IMAGE_BYTES 1952 /* bytes of an image */
+
+/* Profiles that a start may choose: what a drain does with a store. */
+typedef enum nicoisetarn_write_profile {
+    NICOISETARN_WRITE_BACK = 0,   /* with write-allocate: written to its line, which becomes dirty */
+    NICOISETARN_WRITE_THROUGH = 1 /* without write-allocate: written to memory, and to its line where that is present */
+} nicoisetarn_write_profile;
 
 /* Bytes of the cache that a start of these figures asks for. */
 #define NICOISETARN_CACHE_BYTES(sets, ways) ((size_t)(sets) * (size_t)(ways) * NICOISETARN_LINE)
@@ -84,7 +96,7 @@ typedef struct nicoisetarn_image {
     uint32_t nicoisetarn_words[NICOISETARN_IMAGE_BYTES / 4];
 } nicoisetarn_image;
 
-NICOISETARN_ASSERT(sizeof(nicoisetarn_image) == NICOISETARN_IMAGE_BYTES, "an image has 1948 bytes");
+NICOISETARN_ASSERT(sizeof(nicoisetarn_image) == NICOISETARN_IMAGE_BYTES, "an image has 1952 bytes");
 NICOISETARN_ASSERT(NICOISETARN_ALIGNMENT(nicoisetarn_image) == 4, "an image is aligned to 4");
 
 /*
@@ -120,7 +132,7 @@ typedef enum nicoisetarn_kind {
     NICOISETARN_KIND_WAITS = 3,        /* the load's number */
     NICOISETARN_KIND_COMMITTED = 4,    /* the committed number that is in force */
     NICOISETARN_KIND_KEPT = 5,         /* the last number that is in force */
-    NICOISETARN_KIND_DRAINED = 6,      /* the number of the store that was written to the cache */
+    NICOISETARN_KIND_DRAINED = 6,      /* the number of the store that was written */
     NICOISETARN_KIND_REQUEST = 7,      /* the first address of the requested line */
     NICOISETARN_KIND_IDLE = 8,         /* an idle call had nothing to do */
     NICOISETARN_KIND_FILLED = 9,       /* the first address of the line that was filled */
@@ -128,7 +140,7 @@ typedef enum nicoisetarn_kind {
     NICOISETARN_KIND_SHOWN = 11,       /* the part's place in the cache, its length: 16, or 0 at place 0 */
     NICOISETARN_KIND_READY = 12,       /* an accepted start */
     NICOISETARN_KIND_RAN = 254,        /* nicoisetarn_run_in: each call of the list has its own answer, accepted or refused */
-    NICOISETARN_KIND_NO_SUCH_CALL = 255 /* there is no such call, or the lengths of a batch do not fit: nothing changed */
+    NICOISETARN_KIND_NO_SUCH_CALL = 255 /* no such call or profile, or a batch of lengths that do not fit: nothing changed */
 } nicoisetarn_kind;
 
 /*
@@ -214,10 +226,13 @@ typedef enum nicoisetarn_call {
 
 /* ---- the functions of the library; the calls by name, below, are what a bench wants */
 
-/* A start on an image where it is stored. It reads the memory alone. */
-nicoisetarn_answer nicoisetarn_start_in(nicoisetarn_image *image, uint32_t sets, uint32_t ways,
-                                        uint8_t *cache, size_t cache_length,
-                                        const uint8_t *memory, size_t memory_length);
+/*
+ * A start in a profile, on an image where it is stored. It reads the memory alone. A number that no profile has is
+ * answered by NICOISETARN_KIND_NO_SUCH_CALL: nothing changes, and figures, image, cache and memory are not looked at.
+ */
+nicoisetarn_answer nicoisetarn_start_with_in(nicoisetarn_image *image, uint32_t sets, uint32_t ways, uint32_t profile,
+                                             uint8_t *cache, size_t cache_length,
+                                             const uint8_t *memory, size_t memory_length);
 
 /*
  * Any other call by its number. Operands that the call does not take are not looked at. A number that no call has
@@ -268,15 +283,22 @@ static inline nicoisetarn_answer nicoisetarn_step(nicoisetarn_unit *unit, nicois
  */
 
 /*
- * Start, with these sets and ways: ready. The image becomes that of a unit with both queues empty, no line
- * present and last and committed number 0; way w of each set has age w; the cache bytes become zero; the memory
- * stays as found. It looks at no earlier image.
+ * Start, with these sets and ways, in a profile (a nicoisetarn_write_profile): ready. The image becomes that of a unit
+ * with both queues empty, no line present and last and committed number 0; way w of each set has age w; the cache bytes
+ * become zero; the memory stays as found. It looks at no earlier image.
  * Refused by 1 alone: sets or ways is not allowed, the cache has not exactly sets * ways * 16 bytes, or the memory
  * is no multiple of 16 bytes from 16 to 65536. Image and cache then stay as they were.
+ * A number that no profile has is no refusal: NICOISETARN_KIND_NO_SUCH_CALL, before 1, and nothing changes.
  */
+static inline nicoisetarn_answer nicoisetarn_start_with(nicoisetarn_unit *unit, uint32_t sets, uint32_t ways,
+                                                        uint32_t profile) {
+    return nicoisetarn_start_with_in(unit->image, sets, ways, profile, unit->cache, unit->cache_length,
+                                     unit->memory, unit->memory_length);
+}
+
+/* Start in write-back. */
 static inline nicoisetarn_answer nicoisetarn_start(nicoisetarn_unit *unit, uint32_t sets, uint32_t ways) {
-    return nicoisetarn_start_in(unit->image, sets, ways, unit->cache, unit->cache_length,
-                                unit->memory, unit->memory_length);
+    return nicoisetarn_start_with(unit, sets, ways, NICOISETARN_WRITE_BACK);
 }
 
 /*
@@ -332,6 +354,9 @@ static inline nicoisetarn_answer nicoisetarn_abort(nicoisetarn_unit *unit, uint3
  * request: the miss register is free, and a committed load waits whose line is absent (the oldest such load), or
  * else the oldest held store is committed, no older load waits and its line is absent: the line is asked for.
  * idle: there is nothing to do.
+ * In write-through a drain needs no line: the store is written to memory, and to its line where that is present, which
+ * is used and stays clean. No line is requested for a store. The line may be requested for a load at that time: the
+ * request stands, and the reply brings the new bytes.
  */
 static inline nicoisetarn_answer nicoisetarn_idle(nicoisetarn_unit *unit) {
     return nicoisetarn_step(unit, NICOISETARN_CALL_IDLE, 0, 0, 0);
@@ -348,7 +373,7 @@ static inline nicoisetarn_answer nicoisetarn_reply(nicoisetarn_unit *unit) {
 }
 
 /*
- * Flush: every dirty line is written to memory and marked clean; flushed, with how many. Ages stay.
+ * Flush: every dirty line is written to memory and marked clean; flushed, with how many: 0 in write-through. Ages stay.
  * Refused by 18: a committed store is held (drain it by idle calls first).
  */
 static inline nicoisetarn_answer nicoisetarn_flush(nicoisetarn_unit *unit) {
@@ -415,16 +440,18 @@ static inline nicoisetarn_answer nicoisetarn_answer_at(const uint32_t *answers, 
 enum {
     NICOISETARN_AT_SETS = 0,
     NICOISETARN_AT_WAYS = 4,
-    NICOISETARN_AT_MEMORY_LENGTH = 8,
-    NICOISETARN_AT_LAST = 12,
-    NICOISETARN_AT_COMMITTED = 16,
-    NICOISETARN_AT_REQUESTED = 20,
-    NICOISETARN_AT_REQUESTED_LINE = 24,
-    NICOISETARN_AT_STORES = 28, /* 16 bytes each: number, address, width, value */
-    NICOISETARN_AT_LOADS = 284, /* 16 bytes each: number, address, width, waiting */
-    NICOISETARN_AT_RECORDS = 412 /* 6 bytes each: valid, dirty, line (2), age, 0 */
+    NICOISETARN_AT_PROFILE = 8,
+    NICOISETARN_AT_MEMORY_LENGTH = 12,
+    NICOISETARN_AT_LAST = 16,
+    NICOISETARN_AT_COMMITTED = 20,
+    NICOISETARN_AT_REQUESTED = 24,
+    NICOISETARN_AT_REQUESTED_LINE = 28,
+    NICOISETARN_AT_STORES = 32, /* 16 bytes each: number, address, width, value */
+    NICOISETARN_AT_LOADS = 288, /* 16 bytes each: number, address, width, waiting */
+    NICOISETARN_AT_RECORDS = 416 /* 6 bytes each: valid, dirty, line (2), age, 0 */
 };
 
+NICOISETARN_ASSERT(NICOISETARN_AT_STORES == NICOISETARN_AT_REQUESTED_LINE + 4, "stores behind numbers");
 NICOISETARN_ASSERT(NICOISETARN_AT_LOADS == NICOISETARN_AT_STORES + 16 * NICOISETARN_STORES, "loads behind stores");
 NICOISETARN_ASSERT(NICOISETARN_AT_RECORDS == NICOISETARN_AT_LOADS + 16 * NICOISETARN_LOADS, "records behind loads");
 NICOISETARN_ASSERT(NICOISETARN_IMAGE_BYTES == NICOISETARN_AT_RECORDS + 6 * NICOISETARN_RECORDS, "nothing behind");
@@ -441,8 +468,8 @@ typedef struct nicoisetarn_listed_load {
 
 /*
  * A tag record. valid, dirty: 0 or 1. A line is dirty when a store was written to it since it was filled or last
- * flushed. age 0 is the way of its set used last; after a start way w has age w, invalid ways too. A use of a line
- * gives its way age 0 and adds 1 to each smaller age of the set.
+ * flushed, never in write-through. age 0 is the way of its set used last; after a start way w has age w, invalid ways
+ * too. A use of a line gives its way age 0 and adds 1 to each smaller age of the set.
  */
 typedef struct nicoisetarn_tag {
     uint32_t valid, dirty, line, age;
@@ -461,6 +488,11 @@ static inline uint32_t nicoisetarn_sets(const nicoisetarn_image *image) {
 /* The ways of each set. */
 static inline uint32_t nicoisetarn_ways(const nicoisetarn_image *image) {
     return nicoisetarn_number_at(image, NICOISETARN_AT_WAYS);
+}
+
+/* The profile, a nicoisetarn_write_profile; an image with another number is refused. */
+static inline uint32_t nicoisetarn_profile(const nicoisetarn_image *image) {
+    return nicoisetarn_number_at(image, NICOISETARN_AT_PROFILE);
 }
 
 /* The bytes of the memory. */

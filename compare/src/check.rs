@@ -1,7 +1,9 @@
 //! The checks before a call: figures and lengths (1), well-formedness (10),
 //! with one function for each clause, and the input checks (2, 3, 4, 5).
 
-use crate::types::{Figures, LoadEntry, Request, State, StoreEntry, Tag, LINE, RECORDS};
+use crate::types::{
+    Figures, LoadEntry, Request, State, StoreEntry, Tag, WritePolicy, LINE, RECORDS,
+};
 
 /// Refusal 1 or 10, in that order, or none.
 pub fn refusal(state: &State, cache: &[u8], memory: &[u8]) -> Option<u32> {
@@ -63,7 +65,7 @@ pub fn value(width: u32, value: u32) -> Option<u32> {
 pub type Clause = fn(&State, &[u8], &[u8]) -> bool;
 
 /// All the clauses with their names, in the order of the paper.
-pub const CLAUSES: [(&str, Clause); 20] = [
+pub const CLAUSES: [(&str, Clause); 21] = [
     ("committed at most last", committed_at_most_last),
     ("unused records zero", unused_records_zero),
     ("free places zero", free_places_zero),
@@ -75,6 +77,7 @@ pub const CLAUSES: [(&str, Clause); 20] = [
     ("invalid records zero", invalid_records_zero),
     ("invalid bytes zero", invalid_bytes_zero),
     ("clean lines equal memory", clean_lines_equal_memory),
+    ("none dirty in write-through", none_dirty),
     ("numbers rising", numbers_rising),
     ("numbers up to last", numbers_up_to_last),
     ("numbers in one list", numbers_in_one_list),
@@ -87,7 +90,7 @@ pub const CLAUSES: [(&str, Clause); 20] = [
 ];
 
 /// The clauses on the records in use, by their places in `CLAUSES`.
-const OF_RECORDS: std::ops::Range<usize> = 3..11;
+const OF_RECORDS: std::ops::Range<usize> = 3..12;
 
 /// All clauses together, those on the records in one pass. It is asked only when
 /// check 1 has passed.
@@ -127,7 +130,13 @@ fn line_good(
     let behind = memory.get(first..first.saturating_add(LINE));
     tag.line & state.figures.sets.wrapping_sub(1) == set
         && !before.iter().any(|other| other.valid && other.line == tag.line)
+        && !(tag.dirty && writes_through(state))
         && behind.is_some_and(|found| tag.dirty || found == bytes)
+}
+
+/// Is the write profile of a state write-through?
+pub fn writes_through(state: &State) -> bool {
+    state.figures.policy == WritePolicy::WriteThrough
 }
 
 /// Tag records in use.
@@ -252,6 +261,11 @@ pub fn clean_lines_equal_memory(state: &State, cache: &[u8], memory: &[u8]) -> b
     })
 }
 
+/// "no line is dirty", in write-through.
+pub fn none_dirty(state: &State, _: &[u8], _: &[u8]) -> bool {
+    !writes_through(state) || used(state).iter().all(|tag| !tag.dirty)
+}
+
 /// "listed numbers are strictly rising", in each list.
 pub fn numbers_rising(state: &State, _: &[u8], _: &[u8]) -> bool {
     let stores = held(state).windows(2);
@@ -319,7 +333,7 @@ pub fn request_in_memory(state: &State, _: &[u8], _: &[u8]) -> bool {
 }
 
 /// "is wanted by a committed waiting load or by the oldest store, committed and
-/// with no older waiting load".
+/// with no older waiting load"; in write-through by such a load only.
 pub fn request_wanted(state: &State, _: &[u8], _: &[u8]) -> bool {
     let Request::Line(line) = state.request else {
         return true;
@@ -332,5 +346,5 @@ pub fn request_wanted(state: &State, _: &[u8], _: &[u8]) -> bool {
             && store.address / LINE as u32 == line
             && !waits_before(state, store.number)
     });
-    by_load || by_store
+    by_load || by_store && !writes_through(state)
 }

@@ -1,27 +1,33 @@
-//! What random runs met, counted by name, and how much of it must be met.
+//! What random runs met, counted by name and apart for each write profile, and how
+//! much of it must be met.
 
 use std::collections::BTreeMap;
+
+use crate::types::WritePolicy;
 
 /// What must be met, each with a number: one in so many is enough.
 pub type Needed = [(&'static str, u64)];
 
-/// What random runs must meet, out of so many runs.
+/// What the runs of each write profile must meet, out of so many runs of all.
+const OF_ALL: [(&str, u64); 1] = [("run after a start", 3)];
+
+/// What they must meet out of so many of their own.
 const NEEDED: [(&str, u64); 29] = [
-    ("run after a start", 2),
     ("run from a well-formed state", 40),
     ("value", 1),
     ("wait", 1),
     ("fill", 1),
-    ("eviction of a dirty line", 2),
-    ("drain", 1),
+    ("eviction of a clean line", 2),
+    ("drain to a present line", 1),
     ("idle with nothing to do", 1),
     ("inquiry answered, committed", 2),
     ("inquiry answered, uncommitted", 5),
-    ("line shown", 2),
-    ("flush of several lines", 5),
+    ("line shown", 3),
+    ("flush", 2),
     ("value of a number used again", 2),
-    ("value of several stores and the cache", 20),
+    ("value of several stores and the cache", 30),
     ("dropped stretch", 1),
+    ("dropped stretch, load and drain inside", 2),
     ("dropped stretch, load and reply inside", 2),
     ("dropped stretch, load and eviction inside", 5),
     ("refused 2", 30),
@@ -36,6 +42,12 @@ const NEEDED: [(&str, u64); 29] = [
     ("refused 16", 10),
     ("refused 17", 10),
     ("refused 18", 10),
+];
+
+/// The write profiles by their numbers, each with what its runs must meet besides.
+const PROFILES: [(&str, &Needed); 2] = [
+    ("write-back", &[("eviction of a dirty line", 2), ("flush of several lines", 5)]),
+    ("write-through", &[("drain to an absent line", 1), ("drain to a requested line", 20)]),
 ];
 
 /// The names under which refusals are counted.
@@ -99,11 +111,6 @@ impl Counts {
         }
     }
 
-    /// What random runs met too seldom.
-    pub fn lacking(&self) -> Vec<String> {
-        self.lacking_of(&NEEDED, self.runs)
-    }
-
     /// What was met too seldom out of so many.
     pub fn lacking_of(&self, needed: &Needed, out_of: u64) -> Vec<String> {
         needed
@@ -119,8 +126,39 @@ impl Counts {
     }
 }
 
-impl std::fmt::Display for Counts {
+/// What random runs met, for each of `PROFILES`.
+#[derive(Clone, Debug, Default, PartialEq, Eq)]
+pub struct ByProfile([Counts; 2]);
+
+impl ByProfile {
+    /// Adds what runs of a write profile met.
+    pub fn add(&mut self, policy: WritePolicy, met: &Counts) {
+        self.0[policy as usize].add(met);
+    }
+
+    /// What they met too seldom.
+    pub fn lacking(&self) -> Vec<String> {
+        let all = self.0.iter().map(|counts| counts.runs).sum();
+        let mut lacking = Vec::new();
+        for ((profile, besides), counts) in PROFILES.into_iter().zip(&self.0) {
+            let mut rare = counts.lacking_of(&OF_ALL, all);
+            rare.extend(counts.lacking_of(&NEEDED, counts.runs));
+            rare.extend(counts.lacking_of(besides, counts.runs));
+            lacking.extend(rare.iter().map(|what| format!("{profile}: {what}")));
+        }
+        lacking
+    }
+}
+
+impl std::fmt::Display for ByProfile {
     fn fmt(&self, f: &mut std::fmt::Formatter) -> std::fmt::Result {
-        write!(f, "{:<44}{:>12}\n{}", "calls", self.calls, self.rows(&NEEDED))
+        let [(back, of_back), (through, of_through)] = PROFILES;
+        writeln!(f, "{:<44}{back:>14}{through:>14}", "")?;
+        let [back, through] = &self.0;
+        writeln!(f, "{:<44}{:>14}{:>14}", "calls", back.calls, through.calls)?;
+        for (name, _) in [&OF_ALL[..], &NEEDED, of_back, of_through].concat() {
+            writeln!(f, "{name:<44}{:>14}{:>14}", back.of(name), through.of(name))?;
+        }
+        Ok(())
     }
 }

@@ -10,7 +10,7 @@ use crate::plain;
 use crate::random::Run;
 use crate::rules::{self, Source};
 use crate::stretch::{self, Given, Stretch};
-use crate::types::{Answer, Call, Snapshot, State, Step, Tag};
+use crate::types::{Answer, Call, Request, Snapshot, State, Step, WritePolicy, LINE};
 
 /// The checks to make.
 #[derive(Clone, Copy, Debug, PartialEq, Eq)]
@@ -57,7 +57,7 @@ struct Examiner<'a> {
     /// The numbers given out so far, and those given out more than once.
     used: BTreeSet<u32>,
     again: BTreeSet<u32>,
-    /// The calls that evicted a dirty line.
+    /// The calls that evicted a line, in write-back a dirty one.
     evicting: BTreeSet<usize>,
 }
 
@@ -172,10 +172,10 @@ impl Examiner<'_> {
             Answer::Refused(no) => self.counts.met(counts::refused(no), true),
             Answer::Value { number, .. } => self.count_value(before, call, number),
             Answer::Waits(_) => self.counts.met("wait", true),
-            Answer::Drained(_) => self.counts.met("drain", true),
+            Answer::Drained(_) => self.count_drain(before),
             Answer::Idle => self.counts.met("idle with nothing to do", true),
             Answer::Filled(_) => self.count_fill(place, before, after),
-            Answer::Flushed(lines) => self.counts.met("flush of several lines", lines > 1),
+            Answer::Flushed(lines) => self.count_flush(lines),
             Answer::Shown(part) => self.counts.met("line shown", part.length > 0),
             _ => {}
         }
@@ -185,14 +185,30 @@ impl Examiner<'_> {
         }
     }
 
+    /// Counts what a drain met.
+    fn count_drain(&mut self, before: Snapshot) {
+        let line = before.state.stores[0].address / LINE as u32;
+        let present = check::find(before.state, line).is_some();
+        self.counts.met("drain to a present line", present);
+        self.counts.met("drain to an absent line", !present);
+        self.counts.met("drain to a requested line", before.state.request == Request::Line(line));
+    }
+
+    /// Counts what a flush met.
+    fn count_flush(&mut self, lines: u32) {
+        self.counts.met("flush", true);
+        self.counts.met("flush of several lines", lines > 1);
+    }
+
     /// Counts what a fill met.
     fn count_fill(&mut self, place: usize, before: Snapshot, after: Snapshot) {
         let mut records = before.state.tags.iter().zip(&after.state.tags);
-        let gone = |(old, new): (&Tag, &Tag)| old.dirty && old.line != new.line;
-        let evicts = records.any(gone);
+        let gone = records.find(|(old, new)| old.valid && old.line != new.line);
+        let dirty = gone.map(|(old, _)| old.dirty);
         self.counts.met("fill", true);
-        self.counts.met("eviction of a dirty line", evicts);
-        if evicts {
+        self.counts.met("eviction of a clean line", dirty == Some(false));
+        self.counts.met("eviction of a dirty line", dirty == Some(true));
+        if dirty == Some(self.run.figures.policy == WritePolicy::WriteBack) {
             self.evicting.insert(place);
         }
     }
@@ -226,9 +242,11 @@ impl Examiner<'_> {
         let inside = &all[stretch.first..=stretch.end];
         let load =
             inside.iter().any(|one| matches!(one.call, Call::Load { .. }) && one.answer.accepted());
+        let drain = inside.iter().any(|one| matches!(one.answer, Answer::Drained(_)));
         let reply = inside.iter().any(|one| matches!(one.answer, Answer::Filled(_)));
         let evicts = self.evicting.range(stretch.first..=stretch.end).next().is_some();
         self.counts.met(stretch.kind.name, true);
+        self.counts.met(stretch.kind.with_drain, load && drain);
         self.counts.met(stretch.kind.with_reply, load && reply);
         self.counts.met(stretch.kind.with_eviction, load && evicts);
     }

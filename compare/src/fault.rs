@@ -91,6 +91,10 @@ faults! {
     DrainLeavesClean,
     /// A drain does not use the line.
     DrainWithoutUse,
+    /// Write-back drains to an absent line, to memory alone.
+    BackNeedsNoLine,
+    /// Write-back writes a drained store to memory too.
+    BackWritesMemory,
     /// An inquiry takes bytes from stores above its number.
     RetryFromYounger,
     /// An inquiry answered for an uncommitted load uses the line.
@@ -115,4 +119,48 @@ faults! {
     StartKeepsCache,
     /// Show line gives the set's first way.
     ShowFirstWay,
+
+    /// Write-through leaves the cached line as it is.
+    ThroughLeavesLine,
+    /// Write-through leaves memory as it is.
+    ThroughLeavesMemory,
+    /// Write-through marks the cached line dirty.
+    ThroughMarksDirty,
+    /// Write-through brings in the line of a store that misses (write-allocate).
+    ThroughAllocates,
+    /// Write-through drains to present lines only, and requests the others.
+    ThroughNeedsLine,
+    /// Write-through does not use the line of a drained store.
+    ThroughWithoutUse,
+    /// Write-through requests no line of a waiting load.
+    ThroughForgetsLoads,
+    /// Write-through drains no store to a line that is requested.
+    ThroughAwaitsReply,
+    /// Write-through frees the register when it drains a store to the requested line.
+    ThroughFreesRegister,
+    /// A start is in write-back, whatever it chooses.
+    ThroughForgotten,
+    /// In write-through a dirty line counts as well formed.
+    ThroughTakesDirty,
+    /// In write-through the oldest store's line may be requested.
+    ThroughWantsForStore,
 }
+
+/// The faults of write-through alone. Scripts keep to write-back.
+pub const THROUGH: [Fault; 12] = [
+    Fault::ThroughLeavesLine,
+    Fault::ThroughLeavesMemory,
+    Fault::ThroughMarksDirty,
+    Fault::ThroughAllocates,
+    Fault::ThroughNeedsLine,
+    Fault::ThroughWithoutUse,
+    Fault::ThroughForgetsLoads,
+    Fault::ThroughAwaitsReply,
+    Fault::ThroughFreesRegister,
+    Fault::ThroughForgotten,
+    Fault::ThroughTakesDirty,
+    Fault::ThroughWantsForStore,
+];
+
+/// The faults in what counts as well formed alone, which no run after a start tells.
+pub const OF_STATES: [Fault; 2] = [Fault::ThroughTakesDirty, Fault::ThroughWantsForStore];

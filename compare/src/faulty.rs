@@ -7,9 +7,11 @@ use std::ops::Range;
 use crate::check::{self, Clause};
 use crate::model::{
     committed_store, leaves, line_bytes, line_of, record_bytes, remove_oldest_store, write_back,
-    write_value, Machine, Right,
+    write_value, Due, Machine, Right,
 };
-use crate::types::{Answer, Call, Figures, Part, State, StoreEntry, LINE, LOADS, STORES};
+use crate::types::{
+    Answer, Call, Figures, Part, Request, State, StoreEntry, WritePolicy, LINE, LOADS, STORES,
+};
 
 /// Checks 1 and 10 of a machine that does not know one of the clauses.
 fn without(unknown: Clause, state: &State, cache: &[u8], memory: &[u8]) -> Option<u32> {
@@ -30,6 +32,13 @@ fn without_use(state: &mut State, step: impl FnOnce(&mut State) -> Answer) -> An
         tag.age = old.age;
     }
     answer
+}
+
+/// Gives the record of a drained store this dirty mark.
+fn mark(state: &mut State, due: Due, dirty: bool) {
+    if let Some(record) = due.record {
+        state.tags[record].dirty = dirty;
+    }
 }
 
 // The shams.
@@ -56,8 +65,8 @@ impl Machine for Pretends {
 
     fn fill(_: &mut [u8], _: &[u8]) {}
 
-    fn drain(_: &mut State, _: &mut [u8], store: StoreEntry, _: usize) -> Answer {
-        Answer::Drained(store.number)
+    fn drain(_: &mut State, _: &mut [u8], _: &mut [u8], due: Due) -> Answer {
+        Answer::Drained(due.store.number)
     }
 }
 
@@ -283,12 +292,11 @@ impl Machine for RequestHighest {
 pub struct DrainPassesLoad;
 
 impl Machine for DrainPassesLoad {
-    fn idle(state: &mut State, cache: &mut [u8], memory: &[u8]) -> Answer {
-        let record = |store: &StoreEntry| check::find(state, line_of(store.address));
-        let passing = committed_store(state).and_then(|store| Some((store, record(&store)?)));
-        match passing {
-            Some((store, record)) if Right::refusal(state, cache, memory).is_none() => {
-                Right::drain(state, cache, store, record)
+    fn idle(state: &mut State, cache: &mut [u8], memory: &mut [u8]) -> Answer {
+        let passing = committed_store(state).map(|store| Due::of(state, store));
+        match passing.filter(|due| Right::can_drain(state, *due)) {
+            Some(due) if Right::refusal(state, cache, memory).is_none() => {
+                Right::drain(state, cache, memory, due)
             }
             _ => Right::idle(state, cache, memory),
         }
@@ -302,9 +310,9 @@ impl Machine for DrainLeavesClean {
         without(check::clean_lines_equal_memory, state, cache, memory)
     }
 
-    fn drain(state: &mut State, cache: &mut [u8], store: StoreEntry, record: usize) -> Answer {
-        let answer = Right::drain(state, cache, store, record);
-        state.tags[record].dirty = false;
+    fn drain(state: &mut State, cache: &mut [u8], memory: &mut [u8], due: Due) -> Answer {
+        let answer = Right::drain(state, cache, memory, due);
+        mark(state, due, false);
         answer
     }
 }
@@ -312,8 +320,8 @@ impl Machine for DrainLeavesClean {
 pub struct DrainWithoutUse;
 
 impl Machine for DrainWithoutUse {
-    fn drain(state: &mut State, cache: &mut [u8], store: StoreEntry, record: usize) -> Answer {
-        without_use(state, |state| Right::drain(state, cache, store, record))
+    fn drain(state: &mut State, cache: &mut [u8], memory: &mut [u8], due: Due) -> Answer {
+        without_use(state, |state| Right::drain(state, cache, memory, due))
     }
 }
 
@@ -426,6 +434,169 @@ impl Machine for RetryKeepsCommitted {
             Right::use_line(state, line_of(load.address));
         }
         state.loads[place].answered = true;
+    }
+}
+
+// The write profiles.
+
+pub struct ThroughLeavesLine;
+
+impl Machine for ThroughLeavesLine {
+    fn refusal(state: &State, cache: &[u8], memory: &[u8]) -> Option<u32> {
+        without(check::clean_lines_equal_memory, state, cache, memory)
+    }
+
+    fn drain(state: &mut State, cache: &mut [u8], memory: &mut [u8], due: Due) -> Answer {
+        if check::writes_through(state) {
+            return Right::drain(state, &mut cache.to_vec(), memory, due);
+        }
+        Right::drain(state, cache, memory, due)
+    }
+}
+
+pub struct ThroughLeavesMemory;
+
+impl Machine for ThroughLeavesMemory {
+    fn refusal(state: &State, cache: &[u8], memory: &[u8]) -> Option<u32> {
+        without(check::clean_lines_equal_memory, state, cache, memory)
+    }
+
+    fn drain(state: &mut State, cache: &mut [u8], memory: &mut [u8], due: Due) -> Answer {
+        Right::drain(state, cache, &mut memory.to_vec(), due)
+    }
+}
+
+pub struct ThroughMarksDirty;
+
+impl Machine for ThroughMarksDirty {
+    fn refusal(state: &State, cache: &[u8], memory: &[u8]) -> Option<u32> {
+        without(check::none_dirty, state, cache, memory)
+    }
+
+    fn drain(state: &mut State, cache: &mut [u8], memory: &mut [u8], due: Due) -> Answer {
+        let answer = Right::drain(state, cache, memory, due);
+        mark(state, due, true);
+        answer
+    }
+}
+
+pub struct ThroughAllocates;
+
+impl Machine for ThroughAllocates {
+    fn drain(state: &mut State, cache: &mut [u8], memory: &mut [u8], due: Due) -> Answer {
+        let answer = Right::drain(state, cache, memory, due);
+        if due.record.is_none() {
+            Right::install(state, cache, memory, line_of(due.store.address));
+        }
+        answer
+    }
+}
+
+pub struct ThroughNeedsLine;
+
+impl Machine for ThroughNeedsLine {
+    fn refusal(state: &State, cache: &[u8], memory: &[u8]) -> Option<u32> {
+        without(check::request_wanted, state, cache, memory)
+    }
+
+    fn can_drain(_: &State, due: Due) -> bool {
+        due.record.is_some()
+    }
+}
+
+pub struct ThroughWithoutUse;
+
+impl Machine for ThroughWithoutUse {
+    fn drain(state: &mut State, cache: &mut [u8], memory: &mut [u8], due: Due) -> Answer {
+        if check::writes_through(state) {
+            return without_use(state, |state| Right::drain(state, cache, memory, due));
+        }
+        Right::drain(state, cache, memory, due)
+    }
+}
+
+pub struct ThroughForgetsLoads;
+
+impl Machine for ThroughForgetsLoads {
+    fn missing_line(state: &State) -> Option<u32> {
+        Right::missing_line(state).filter(|_| !check::writes_through(state))
+    }
+}
+
+/// Is the store's line requested, in write-through?
+fn requested(state: &State, store: StoreEntry) -> bool {
+    let line = store.address / LINE as u32;
+    check::writes_through(state) && state.request == Request::Line(line)
+}
+
+pub struct ThroughAwaitsReply;
+
+impl Machine for ThroughAwaitsReply {
+    fn can_drain(state: &State, due: Due) -> bool {
+        Right::can_drain(state, due) && !requested(state, due.store)
+    }
+}
+
+pub struct ThroughFreesRegister;
+
+impl Machine for ThroughFreesRegister {
+    fn drain(state: &mut State, cache: &mut [u8], memory: &mut [u8], due: Due) -> Answer {
+        if requested(state, due.store) {
+            state.request = Request::Free;
+        }
+        Right::drain(state, cache, memory, due)
+    }
+}
+
+pub struct ThroughForgotten;
+
+impl Machine for ThroughForgotten {
+    fn start(figures: Figures, cache: &mut [u8], memory: &[u8]) -> (State, Answer) {
+        Right::start(figures.with_policy(WritePolicy::WriteBack), cache, memory)
+    }
+}
+
+pub struct ThroughTakesDirty;
+
+impl Machine for ThroughTakesDirty {
+    fn refusal(state: &State, cache: &[u8], memory: &[u8]) -> Option<u32> {
+        without(check::none_dirty, state, cache, memory)
+    }
+}
+
+pub struct ThroughWantsForStore;
+
+impl Machine for ThroughWantsForStore {
+    fn refusal(state: &State, cache: &[u8], memory: &[u8]) -> Option<u32> {
+        let figures = state.figures.with_policy(WritePolicy::WriteBack);
+        if check::request_wanted(&State { figures, ..state.clone() }, cache, memory) {
+            return without(check::request_wanted, state, cache, memory);
+        }
+        Right::refusal(state, cache, memory)
+    }
+}
+
+pub struct BackNeedsNoLine;
+
+impl Machine for BackNeedsNoLine {
+    fn can_drain(_: &State, _: Due) -> bool {
+        true
+    }
+
+    fn drain(state: &mut State, cache: &mut [u8], memory: &mut [u8], due: Due) -> Answer {
+        if due.record.is_none() {
+            write_value(memory, due.store.address as usize, due.store);
+        }
+        Right::drain(state, cache, memory, due)
+    }
+}
+
+pub struct BackWritesMemory;
+
+impl Machine for BackWritesMemory {
+    fn drain(state: &mut State, cache: &mut [u8], memory: &mut [u8], due: Due) -> Answer {
+        write_value(memory, due.store.address as usize, due.store);
+        Right::drain(state, cache, memory, due)
     }
 }
 

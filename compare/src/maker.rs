@@ -4,7 +4,7 @@
 
 use crate::model::{Machine, Right};
 use crate::random::{Rng, Run};
-use crate::types::{Answer, Call, LoadEntry, Request, State, LINE, LOADS};
+use crate::types::{Answer, Call, LoadEntry, Request, State, WritePolicy, LINE, LOADS};
 
 /// Where calls and turns are drawn.
 #[derive(Clone, Copy, Debug, PartialEq, Eq)]
@@ -60,6 +60,7 @@ const ROWS: &[Row] = &[
     row(Maker::bad_call, &[(Short, 2), (Long, 1), (Struck, 1)]),
     row(Maker::late_retry, &[(Short, 2), (Long, 8), (Struck, 6), (Accepted, 1)]),
     row(Maker::crowd_queue, &[(Short, 1), (Long, 1), (Struck, 1)]),
+    row(Maker::store_between_loads, &[(Short, 4)]),
 ];
 
 /// Dropped stretches within each other.
@@ -318,13 +319,16 @@ impl Maker {
         self.push(Call::Abort { number: n });
     }
 
-    /// An uncommitted load that waits while its line and another are filled,
-    /// is answered late and mostly aborted.
+    /// An uncommitted load that waits while its line and another are filled, for
+    /// stores or in write-through for loads, is answered late and mostly aborted.
     fn late_retry(&mut self) {
         let (first, second) = (self.address(1), self.address(1));
         for address in [first, second] {
             let (width, value) = (1, self.rng.below(256) as u32);
-            self.push(Call::Store { address, width, value });
+            self.push(match self.run.figures.policy {
+                WritePolicy::WriteBack => Call::Store { address, width, value },
+                WritePolicy::WriteThrough => Call::Load { address, width },
+            });
         }
         let last = self.state.last;
         self.push(Call::Commit { number: last });
@@ -338,6 +342,27 @@ impl Maker {
             if !self.rng.one_in(4) {
                 self.push(Call::Abort { number });
             }
+        }
+    }
+
+    /// A store between two loads, the later one of its line, all committed: once that
+    /// line is requested for the later load, the first one is answered, and the store
+    /// can drain.
+    fn store_between_loads(&mut self) {
+        let (first, second) = (self.address(1), self.address(1));
+        let (width, value) = (1, self.rng.below(256) as u32);
+        let answer = self.push(Call::Load { address: first, width });
+        self.push(Call::Store { address: second, width, value });
+        self.push(Call::Load { address: second ^ 8, width });
+        let last = self.state.last;
+        for call in [Call::Commit { number: last }, Call::Idle, Call::Reply, Call::Idle] {
+            self.push(call);
+        }
+        if let Answer::Waits(number) = answer {
+            self.push(Call::Retry { number });
+        }
+        for call in [Call::Idle, Call::Reply, Call::Idle] {
+            self.push(call);
         }
     }
 

@@ -93,6 +93,19 @@ fn ready_store(state: &State) -> Option<StoreEntry> {
     committed_store(state).filter(|store| !check::waits_before(state, store.number))
 }
 
+/// A store to be drained, and the record of its line where that is present.
+#[derive(Clone, Copy)]
+pub struct Due {
+    pub store: StoreEntry,
+    pub record: Option<usize>,
+}
+
+impl Due {
+    pub fn of(state: &State, store: StoreEntry) -> Due {
+        Due { store, record: check::find(state, line_of(store.address)) }
+    }
+}
+
 /// Does a load leave the queue at a commit of k?
 pub fn leaves(load: &LoadEntry, k: u32) -> bool {
     load.answered && load.number <= k
@@ -268,6 +281,15 @@ pub trait Machine {
         into.copy_from_slice(from);
     }
 
+    /// Brings a line in: evicts its victim, fills and uses it. The record is clean.
+    fn install(state: &mut State, cache: &mut [u8], memory: &mut [u8], line: u32) {
+        let record = Self::victim(state, line);
+        Self::evict(state, cache, memory, record);
+        Self::fill(&mut cache[record_bytes(record)], &memory[line_bytes(line)]);
+        state.tags[record] = Tag { valid: true, dirty: false, line, ..state.tags[record] };
+        Self::use_record(state, record);
+    }
+
     /// Writes every dirty line back and counts them.
     fn write_dirty(state: &mut State, cache: &[u8], memory: &mut [u8]) -> u32 {
         let mut written = 0;
@@ -283,12 +305,24 @@ pub trait Machine {
 
     // The steps of idle.
 
-    /// Case (a), once it applies: the oldest store is written to its record.
-    fn drain(state: &mut State, cache: &mut [u8], store: StoreEntry, record: usize) -> Answer {
-        let at = record * LINE + store.address as usize % LINE;
-        write_value(cache, at, store);
-        state.tags[record].dirty = true;
-        Self::use_record(state, record);
+    /// Does case (a) apply to a store that is ready? Write-through needs no line present.
+    fn can_drain(state: &State, due: Due) -> bool {
+        check::writes_through(state) || due.record.is_some()
+    }
+
+    /// Case (a), once it applies: the store is written in write-through to memory, and
+    /// to its record, where it has one, which write-back marks dirty.
+    fn drain(state: &mut State, cache: &mut [u8], memory: &mut [u8], due: Due) -> Answer {
+        let Due { store, record } = due;
+        let through = check::writes_through(state);
+        if through {
+            write_value(memory, store.address as usize, store);
+        }
+        if let Some(record) = record {
+            write_value(cache, record * LINE + store.address as usize % LINE, store);
+            state.tags[record].dirty |= !through;
+            Self::use_record(state, record);
+        }
         remove_oldest_store(state);
         Answer::Drained(store.number)
     }
@@ -434,16 +468,15 @@ pub trait Machine {
         Answer::Kept(n - 1)
     }
 
-    /// Idle: the first of its four cases that applies.
-    fn idle(state: &mut State, cache: &mut [u8], memory: &[u8]) -> Answer {
+    /// Idle: the first of its four cases that applies. In write-through (a) applies
+    /// wherever (c) would.
+    fn idle(state: &mut State, cache: &mut [u8], memory: &mut [u8]) -> Answer {
         if let Some(no) = Self::refusal(state, cache, memory) {
             return Answer::Refused(no);
         }
-        let ready = ready_store(state);
-        if let Some(store) = ready {
-            if let Some(record) = check::find(state, line_of(store.address)) {
-                return Self::drain(state, cache, store, record);
-            }
+        let ready = ready_store(state).map(|store| Due::of(state, store));
+        if let Some(due) = ready.filter(|due| Self::can_drain(state, *due)) {
+            return Self::drain(state, cache, memory, due);
         }
         if state.request != Request::Free {
             return Answer::Idle;
@@ -452,7 +485,7 @@ pub trait Machine {
             return request(state, line);
         }
         match ready {
-            Some(store) => request(state, line_of(store.address)),
+            Some(due) => request(state, line_of(due.store.address)),
             None => Answer::Idle,
         }
     }
@@ -465,11 +498,7 @@ pub trait Machine {
         let Request::Line(line) = state.request else {
             return Answer::Refused(17);
         };
-        let record = Self::victim(state, line);
-        Self::evict(state, cache, memory, record);
-        Self::fill(&mut cache[record_bytes(record)], &memory[line_bytes(line)]);
-        state.tags[record] = Tag { valid: true, dirty: false, line, ..state.tags[record] };
-        Self::use_record(state, record);
+        Self::install(state, cache, memory, line);
         state.request = Request::Free;
         Answer::Filled(line * LINE as u32)
     }

@@ -3,7 +3,7 @@
 
 use std::collections::{BTreeMap, BTreeSet};
 
-use crate::types::{Figures, LoadEntry, Request, Snapshot, State, StoreEntry, Tag};
+use crate::types::{Figures, LoadEntry, Request, Snapshot, State, StoreEntry, Tag, WritePolicy};
 
 /// A line that is present.
 #[derive(Clone, Debug, PartialEq, Eq)]
@@ -40,7 +40,7 @@ pub fn figures_agree(now: Snapshot) -> bool {
 
 /// The figures and lengths with which a start is accepted.
 pub fn start_allowed(figures: Figures, cache: usize, memory: usize) -> bool {
-    let Figures { sets, ways } = figures;
+    let Figures { sets, ways, .. } = figures;
     [1, 2, 4, 8, 16, 32, 64].contains(&sets)
         && [1, 2, 3, 4].contains(&ways)
         && (16..=65536).contains(&memory)
@@ -159,6 +159,9 @@ fn read_record(
     if line as usize % view.sets() != set {
         return Err("a valid line is in its own set");
     }
+    if dirty && view.figures.policy == WritePolicy::WriteThrough {
+        return Err("in write-through no line is dirty");
+    }
     if !dirty && bytes != now.memory[first..first + 16] {
         return Err("clean lines equal memory");
     }
@@ -228,7 +231,7 @@ fn waiting_loads(view: &View) -> Result<(), &'static str> {
     Ok(())
 }
 
-/// The lines that the committed waiting loads and the oldest store want.
+/// The requested line.
 fn request(view: &View) -> Result<(), &'static str> {
     let Some(line) = view.request else {
         return Ok(());
@@ -239,14 +242,7 @@ fn request(view: &View) -> Result<(), &'static str> {
     if line as usize * 16 + 16 > view.memory.len() {
         return Err("a requested line lies in memory");
     }
-    let mut wanted: Vec<u32> = view
-        .loads
-        .iter()
-        .filter(|load| !load.answered && load.number as u64 <= view.committed)
-        .map(|load| load.address / 16)
-        .collect();
-    wanted.extend(view.ready_store().map(|store| store.address / 16));
-    if !wanted.contains(&line) {
+    if !view.wanted().contains(&line) {
         return Err("a requested line is wanted");
     }
     Ok(())
@@ -259,6 +255,21 @@ impl View {
 
     pub fn ways(&self) -> usize {
         self.figures.ways as usize
+    }
+
+    /// The lines that can be requested, present ones too, first those of the committed
+    /// waiting loads: write-back wants that of the oldest store besides.
+    pub fn wanted(&self) -> Vec<u32> {
+        let waiting = self.loads.iter().filter(|load| !load.answered);
+        let committed = waiting.filter(|load| load.number as u64 <= self.committed);
+        let mut lines: Vec<u32> = committed.map(|load| load.address / 16).collect();
+        match self.figures.policy {
+            WritePolicy::WriteBack => {
+                lines.extend(self.ready_store().map(|store| store.address / 16))
+            }
+            WritePolicy::WriteThrough => {}
+        }
+        lines
     }
 
     /// The oldest store, when it is committed and no waiting load is older.

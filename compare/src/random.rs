@@ -4,7 +4,7 @@ use crate::check;
 use crate::maker::Maker;
 pub use crate::maker::Mix;
 use crate::script::line_of;
-use crate::types::{Call, Figures, Setup, State, Step, LINE};
+use crate::types::{Call, Figures, Setup, State, Step, WritePolicy, LINE};
 
 /// A small generator of random numbers (splitmix64).
 #[derive(Clone, Debug)]
@@ -84,6 +84,7 @@ fn figures(rng: &mut Rng) -> Figures {
     let sets = rng.pick(&[1, 1, 1, 2, 2, 2, 4, 4, 8, 16, 32, 64]);
     let ways = 1 + rng.below(4) as u32;
     Figures::new(sets, ways)
+        .with_policy(rng.pick(&[WritePolicy::WriteBack, WritePolicy::WriteThrough]))
 }
 
 /// Makes the run of a seed.

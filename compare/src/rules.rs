@@ -5,7 +5,9 @@
 use std::collections::BTreeMap;
 
 use crate::plain::{self, covers, input_refusal, Present, View};
-use crate::types::{Answer, Call, Figures, LoadEntry, Part, Snapshot, State, StoreEntry};
+use crate::types::{
+    Answer, Call, Figures, LoadEntry, Part, Snapshot, State, StoreEntry, WritePolicy,
+};
 
 /// Where a byte of a load comes from.
 #[derive(Clone, Copy, Debug, PartialEq, Eq, PartialOrd, Ord)]
@@ -255,19 +257,19 @@ fn abort(mut view: View, n: u32) -> (Answer, View) {
 }
 
 fn idle(mut view: View) -> (Answer, View) {
-    let ready = view.ready_store();
-    if let Some(store) = ready {
-        if view.present.contains_key(&(store.address / 16)) {
+    if let Some(store) = view.ready_store() {
+        let drains = match view.figures.policy {
+            WritePolicy::WriteBack => view.present.contains_key(&(store.address / 16)),
+            WritePolicy::WriteThrough => true,
+        };
+        if drains {
             return drain(view, store);
         }
     }
     if view.request.is_some() {
         return (Answer::Idle, view);
     }
-    let waiting = view.loads.iter().filter(|load| !load.answered);
-    let committed = waiting.filter(|load| load.number as u64 <= view.committed);
-    let mut wanted: Vec<u32> = committed.map(|load| load.address / 16).collect();
-    wanted.extend(ready.map(|store| store.address / 16));
+    let mut wanted = view.wanted();
     wanted.retain(|line| !view.present.contains_key(line));
     match wanted.first() {
         None => (Answer::Idle, view),
@@ -278,15 +280,22 @@ fn idle(mut view: View) -> (Answer, View) {
     }
 }
 
-/// Case (a) of idle: the oldest store is written to its present line.
+/// Case (a) of idle: the oldest store is written to its line, if that is present, and
+/// in write-through to memory. Write-back leaves the line dirty.
 fn drain(mut view: View, store: StoreEntry) -> (Answer, View) {
     let line = store.address / 16;
-    let present = view.present.get_mut(&line).expect("the line is present");
+    let through = view.figures.policy == WritePolicy::WriteThrough;
     for k in 0..store.width {
-        let at = store.address as usize % 16 + k as usize;
-        present.bytes[at] = (store.value as u64 / 256u64.pow(k) % 256) as u8;
+        let at = store.address as usize + k as usize;
+        let byte = (store.value as u64 / 256u64.pow(k) % 256) as u8;
+        if let Some(present) = view.present.get_mut(&line) {
+            present.bytes[at % 16] = byte;
+            present.dirty = !through;
+        }
+        if through {
+            view.memory[at] = byte;
+        }
     }
-    present.dirty = true;
     use_line(&mut view, line);
     view.stores.remove(0);
     (Answer::Drained(store.number), view)

@@ -4,7 +4,7 @@ use std::io::{self, BufRead, BufReader, BufWriter, ErrorKind, Write};
 
 use crate::check;
 use crate::model::{Machine, Right};
-use crate::types::{Answer, Call, Setup, Snapshot, State, Step};
+use crate::types::{Answer, Call, Setup, Snapshot, State, Step, WritePolicy};
 
 /// Bytes a line may have before its LF.
 const LONGEST: usize = 64;
@@ -107,9 +107,10 @@ pub fn command(line: &[u8]) -> Option<Command> {
     Some(Command::Step(call))
 }
 
-/// The G that begins a run.
+/// The G that begins a run, which must be in write-back.
 pub fn begin_line(setup: Setup) -> String {
     let Setup { figures, memory } = setup;
+    assert_eq!(figures.policy, WritePolicy::WriteBack, "no script has another write profile");
     format!("G {} {} {memory}", figures.sets, figures.ways)
 }
 

@@ -16,8 +16,9 @@ pub struct Given {
 /// A kind of stretch.
 pub struct Kind {
     /// The names under which such a stretch is counted: any, one with a load and a
-    /// reply inside, one with a load and an eviction inside.
+    /// drain inside, one with a load and a reply, one with a load and an eviction.
     pub name: &'static str,
+    pub with_drain: &'static str,
     pub with_reply: &'static str,
     pub with_eviction: &'static str,
     /// Every stretch of this kind in a run whose first number is this.
@@ -51,6 +52,7 @@ impl Stretch {
 /// From a place where the next number is n to an accepted abort naming n.
 pub const PLAIN: Kind = Kind {
     name: "dropped stretch",
+    with_drain: "dropped stretch, load and drain inside",
     with_reply: "dropped stretch, load and reply inside",
     with_eviction: "dropped stretch, load and eviction inside",
     find: plain_stretches,

@@ -46,21 +46,40 @@ pub enum Request {
     Line(u32),
 }
 
-/// What a start chooses. Made by `new` alone, so that a further figure stands here
-/// and where it is chosen.
+/// Where a drain writes a store: the write profile.
+#[derive(Clone, Copy, Debug, Default, PartialEq, Eq)]
+pub enum WritePolicy {
+    /// Write-back, with write-allocate: to the cached line, which is then dirty.
+    #[default]
+    WriteBack = 0,
+    /// Write-through, without write-allocate: to memory, and to the cached line where
+    /// there is one.
+    WriteThrough = 1,
+}
+
+/// What a start chooses. Made by `new` and `with_policy` alone, so that a further
+/// figure stands here and where it is chosen.
 #[derive(Clone, Copy, Debug, Default, PartialEq, Eq)]
 pub struct Figures {
     pub sets: u32,
     pub ways: u32,
+    pub policy: WritePolicy,
 }
 
 impl Figures {
+    /// Figures of write-back.
     pub const fn new(sets: u32, ways: u32) -> Figures {
-        Figures { sets, ways }
+        Figures { sets, ways, policy: WritePolicy::WriteBack }
+    }
+
+    /// The same in a write profile.
+    pub const fn with_policy(self, policy: WritePolicy) -> Figures {
+        Figures { policy, ..self }
     }
 }
 
-/// What a script's run begins with: the figures, and so much zeroed memory.
+/// What a long run begins with: the figures, and so much zeroed memory. Those of
+/// scripts are of write-back.
 #[derive(Clone, Copy, Debug, PartialEq, Eq)]
 pub struct Setup {
     pub figures: Figures,
@@ -172,7 +191,7 @@ pub enum Answer {
     Requested(u32),
     /// The first address of the filled line.
     Filled(u32),
-    /// The number of the store written to the cache.
+    /// The number of the store written.
     Drained(u32),
     Idle,
     /// Lines written back.

@@ -1,14 +1,16 @@
 //! Every clause of well-formedness, damaged alone; damaged figures and lengths;
-//! and random damage, judged by the plain rules.
+//! random damage, judged by the plain rules; and the faults of states.
 
 mod judged;
 
 use compare::check::{self, CLAUSES};
+use compare::counts::{refused, Counts};
+use compare::fault::OF_STATES;
 use compare::model::{Machine, Right};
 use compare::plain;
 use compare::random::{self, Rng};
 use compare::rules;
-use compare::types::{Answer, Call, Figures, Part, Request, Snapshot, State, Tag};
+use compare::types::{Answer, Call, Figures, Part, Request, State, Step, Tag, WritePolicy};
 use judged::Judged;
 
 /// A machine in which every part of the state is in use: line 0 dirty, line 2
@@ -222,6 +224,35 @@ fn requested_lines() {
     });
 }
 
+/// Line 2 present, and a committed store to line 3, which is absent.
+fn ready_store(policy: WritePolicy) -> Judged {
+    let mut judged = Judged::start(Figures::new(2, 2).with_policy(policy), 128);
+    judged.bring(2);
+    judged.store(48, 2, 500);
+    judged.commit(2);
+    judged
+}
+
+/// States that are well formed in write-back, and in write-through only to one of
+/// the faults of states.
+#[test]
+fn states_of_write_through() {
+    let dirty: fn(&mut Judged) = |b| b.state.tags[0].dirty = true;
+    let requested: fn(&mut Judged) = |b| b.state.request = Request::Line(3);
+    let cases = [("none dirty in write-through", dirty), ("request wanted", requested)];
+    for ((name, change), fault) in cases.into_iter().zip(OF_STATES) {
+        let [back, through] = [WritePolicy::WriteBack, WritePolicy::WriteThrough].map(|policy| {
+            let mut judged = ready_store(policy);
+            change(&mut judged);
+            judged
+        });
+        assert_eq!(broken(&back), Vec::<&str>::new());
+        assert_eq!(check_call(Right::step, &through, Call::Idle), Ok(()));
+        assert!(check_call(fault.step(), &through, Call::Idle).is_err(), "{fault:?}");
+        breaks(&[name], through);
+    }
+}
+
 #[test]
 fn waiting_load_with_its_line_present() {
     let mut judged = rich();
@@ -282,11 +313,24 @@ fn odd_number(rng: &mut Rng) -> u32 {
     rng.pick(&[0, 1, 2, 3, 4, 5, 7, 8, 15, 16, 17, 255, 256, 65536, u32::MAX - 1, u32::MAX, any])
 }
 
+/// The other write profile.
+fn other(policy: WritePolicy) -> WritePolicy {
+    match policy {
+        WritePolicy::WriteBack => WritePolicy::WriteThrough,
+        WritePolicy::WriteThrough => WritePolicy::WriteBack,
+    }
+}
+
+/// One of the write profiles.
+fn any_policy(rng: &mut Rng) -> WritePolicy {
+    rng.pick(&[WritePolicy::WriteBack, WritePolicy::WriteThrough])
+}
+
 /// Damages one field, byte or length at random.
 fn damage_at_random(judged: &mut Judged, rng: &mut Rng) {
     let number = odd_number(rng);
     let state = &mut judged.state;
-    match rng.below(12) {
+    match rng.below(14) {
         0 => state.figures.sets = number,
         1 => state.figures.ways = number,
         2 => state.memory_length = number,
@@ -297,6 +341,7 @@ fn damage_at_random(judged: &mut Judged, rng: &mut Rng) {
         7 => judged.memory.resize(rng.below(200) as usize, 1),
         8 => flip(&mut judged.cache, rng),
         9 => flip(&mut judged.memory, rng),
+        10 | 11 => state.figures.policy = other(state.figures.policy),
         _ => damage_entry(judged, number, rng),
     }
 }
@@ -336,8 +381,9 @@ fn flip(bytes: &mut [u8], rng: &mut Rng) {
 fn odd_call(rng: &mut Rng) -> Call {
     let (number, address) = (odd_number(rng), odd_number(rng));
     let (width, value) = (rng.pick(&[1, 2, 4, 4, number]), odd_number(rng));
+    let figures = Figures::new(number, width).with_policy(any_policy(rng));
     rng.pick(&[
-        Call::Start { figures: Figures::new(number, width) },
+        Call::Start { figures },
         Call::Load { address, width },
         Call::Store { address, width, value },
         Call::Retry { number },
@@ -361,9 +407,31 @@ fn middle_of_run(seed: u64, rng: &mut Rng) -> Judged {
     Judged { state, cache, memory }
 }
 
+/// What random damage must meet, out of so many damaged machines: the clauses are
+/// broken by what would be well formed in write-back.
+const NEEDED: [(&str, u64); 5] = [
+    ("accepted", 15),
+    ("refused 1", 15),
+    ("refused 10", 15),
+    ("none dirty in write-through", 100),
+    ("request wanted", 1_000),
+];
+
+/// Counts what a damage led to.
+fn count(counts: &mut Counts, judged: &Judged) {
+    let refusal = check::refusal(&judged.state, &judged.cache, &judged.memory);
+    counts.runs += 1;
+    counts.met(refusal.map_or("accepted", refused), true);
+    let figures = judged.state.figures.with_policy(WritePolicy::WriteBack);
+    let back = State { figures, ..judged.state.clone() };
+    if check::refusal(&back, &judged.cache, &judged.memory).is_none() {
+        broken(judged).into_iter().for_each(|name| counts.met(name, true));
+    }
+}
+
 #[test]
 fn random_damage() {
-    let mut seen = [0u32; 3];
+    let mut counts = Counts::default();
     for seed in 0..3000 {
         let mut rng = Rng::new(seed ^ 0xDA3A_6E00);
         let mut judged = middle_of_run(seed, &mut rng);
@@ -371,16 +439,12 @@ fn random_damage() {
             damage_at_random(&mut judged, &mut rng);
         }
         one_by_one(&judged, seed);
-        match check::refusal(&judged.state, &judged.cache, &judged.memory) {
-            None => seen[0] += 1,
-            Some(1) => seen[1] += 1,
-            _ => seen[2] += 1,
-        }
+        count(&mut counts, &judged);
         for _ in 0..6 {
-            check_call(&judged, odd_call(&mut rng), seed);
+            right_call(&judged, odd_call(&mut rng), seed);
         }
     }
-    assert!(seen.iter().all(|count| *count > 200), "{seen:?}");
+    assert_eq!(counts.lacking_of(&NEEDED, counts.runs), Vec::<String>::new());
 }
 
 /// Well-formedness is all the clauses one by one, once check 1 has passed.
@@ -392,12 +456,16 @@ fn one_by_one(judged: &Judged, seed: u64) {
     }
 }
 
-/// The model's answer on a damaged machine is what the plain rules say.
-fn check_call(judged: &Judged, call: Call, seed: u64) {
+/// The answer on a damaged machine is what the plain rules say.
+fn check_call(step: Step, judged: &Judged, call: Call) -> Result<(), String> {
     let mut after = judged.clone();
-    let answer = Right::step(&mut after.state, &mut after.cache, &mut after.memory, call);
-    let now = Snapshot { state: &after.state, cache: &after.cache, memory: &after.memory };
-    if let Err(what) = rules::judge(judged.snapshot(), call, answer, now) {
+    let answer = step(&mut after.state, &mut after.cache, &mut after.memory, call);
+    rules::judge(judged.snapshot(), call, answer, after.snapshot())
+}
+
+/// The right model's answer is.
+fn right_call(judged: &Judged, call: Call, seed: u64) {
+    if let Err(what) = check_call(Right::step, judged, call) {
         panic!("seed {seed}, {call:?}: {what}");
     }
 }
@@ -425,6 +493,7 @@ fn rubbish(rng: &mut Rng) -> Judged {
         judged.state.memory_length = 64;
         judged.memory.resize(64, 1);
     }
+    judged.state.figures.policy = any_policy(rng);
     judged
 }
 
@@ -435,7 +504,7 @@ fn rubbish_is_refused() {
         let judged = rubbish(&mut rng);
         broken(&judged);
         for _ in 0..4 {
-            check_call(&judged, odd_call(&mut rng), seed);
+            right_call(&judged, odd_call(&mut rng), seed);
         }
     }
 }

@@ -1,8 +1,9 @@
-//! Every fault is noticed by the checks within a bounded number of random runs,
-//! and the right model passes the very same runs.
+//! Every fault but those of states is noticed by the checks within a bounded number
+//! of random runs, and the right model passes the very same runs. `clauses` has the
+//! faults of states.
 
 use compare::examine::{examine, Checks};
-use compare::fault::{Fault, ALL};
+use compare::fault::{Fault, ALL, OF_STATES};
 use compare::random;
 use compare::types::Step;
 
@@ -29,16 +30,17 @@ fn right_model_passes_these_runs() {
 
 #[test]
 fn rules_notice_every_fault() {
-    alone(RULES, ALL);
+    assert_eq!(missed(RULES, ALL), OF_STATES);
 }
 
-/// Each of these faults is noticed by these checks alone.
-fn alone(checks: Checks, faults: &[Fault]) {
-    for fault in faults {
+/// Those of the faults that these checks alone do not notice.
+fn missed(checks: Checks, faults: &[Fault]) -> Vec<Fault> {
+    let passes = |fault: &Fault| {
         let found = noticed(fault.step(), checks);
         println!("{fault:?}: {found:?}");
-        assert!(found.is_some(), "{fault:?} passes seeds 0 to {}", BOUND - 1);
-    }
+        found.is_none()
+    };
+    faults.iter().copied().filter(passes).collect()
 }
 
 #[test]
@@ -59,8 +61,10 @@ fn demand_2_alone_notices() {
         Fault::ForwardWholeOnly,
         Fault::AddressWraps,
         Fault::AbortKeepsLast,
+        Fault::ThroughLeavesLine,
+        Fault::ThroughLeavesMemory,
     ];
-    alone(FLAT, &faults);
+    assert_eq!(missed(FLAT, &faults), []);
 }
 
 #[test]
@@ -76,5 +80,5 @@ fn demand_3_alone_notices() {
         Fault::RetryUsesUncommitted,
         Fault::AbortKeepsLast,
     ];
-    alone(DROPPED, &faults);
+    assert_eq!(missed(DROPPED, &faults), []);
 }

@@ -3,7 +3,7 @@
 
 mod judged;
 
-use compare::types::{Answer, Call, Figures, LoadEntry, Part, State, StoreEntry};
+use compare::types::{Answer, Call, Figures, LoadEntry, Part, State, StoreEntry, WritePolicy};
 use judged::Judged;
 
 /// Every list of some of the numbers, in their order.
@@ -185,19 +185,28 @@ fn start_refuses_by_1_alone() {
     }
 }
 
-/// A start over a state that holds rubbish, judged; refused, it leaves all zero.
+/// Starts in both write profiles.
 fn start_with(sets: u32, ways: u32, cache: usize, memory: usize) {
+    for policy in [WritePolicy::WriteBack, WritePolicy::WriteThrough] {
+        start_over_rubbish(Figures::new(sets, ways).with_policy(policy), cache, memory);
+    }
+}
+
+/// A start over a state that holds rubbish, judged; refused, it leaves all zero.
+fn start_over_rubbish(figures: Figures, cache: usize, memory: usize) {
     let mut judged = Judged { state: busy().state, cache: vec![9; cache], memory: vec![9; memory] };
+    let Figures { sets, ways, .. } = figures;
     let allowed = [1, 2, 4, 8, 16, 32, 64].contains(&sets)
         && (1..=4).contains(&ways)
         && [16, 32, 65536].contains(&memory)
         && cache == (sets * ways * 16) as usize;
-    let answer = judged.call(Call::Start { figures: Figures::new(sets, ways) });
+    let answer = judged.call(Call::Start { figures });
     if allowed {
         assert_eq!(answer, Answer::Ready);
+        assert_eq!(judged.state.figures, figures);
         assert_eq!(judged.memory, vec![9; memory]);
     } else {
-        assert_eq!(answer, Answer::Refused(1), "{sets} {ways} {cache} {memory}");
+        assert_eq!(answer, Answer::Refused(1), "{figures:?} {cache} {memory}");
         assert_eq!(judged.state, State::zero());
         assert_eq!(judged.cache, vec![9; cache]);
         assert_eq!(judged.call(Call::Idle), Answer::Refused(1));

@@ -1,7 +1,7 @@
 //! Random runs on the right model under all the checks, and the dropped
 //! stretches of small runs made by hand.
 
-use compare::counts::Counts;
+use compare::counts::ByProfile;
 use compare::dropped;
 use compare::examine::{examine, Checks};
 use compare::fault::Fault;
@@ -12,11 +12,11 @@ use compare::types::{Call, Figures};
 
 #[test]
 fn right_model_passes() {
-    let mut counts = Counts::default();
+    let mut counts = ByProfile::default();
     for seed in 1_000_000..1_000_400 {
         let run = random::run(seed);
         match examine(&run, Fault::None.step(), Checks::ALL) {
-            Ok(met) => counts.add(&met),
+            Ok(met) => counts.add(run.figures.policy, &met),
             Err(failure) => panic!("{failure}"),
         }
     }
@@ -44,9 +44,9 @@ fn every_figure_is_met() {
     let mut met = std::collections::BTreeSet::new();
     for seed in 0..1000 {
         let run = random::run(seed);
-        met.insert((run.figures.sets, run.figures.ways));
+        met.insert((run.figures.sets, run.figures.ways, run.figures.policy as u32));
     }
-    assert_eq!(met.len(), 28);
+    assert_eq!(met.len(), 56);
 }
 
 const LOAD: Call = Call::Load { address: 0, width: 1 };

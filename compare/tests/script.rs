@@ -4,7 +4,7 @@ use compare::dropped;
 use compare::model::{Machine, Right};
 use compare::random::{self, Rng};
 use compare::script::{begin_line, line_of, play, play_stream};
-use compare::types::Answer;
+use compare::types::{Answer, WritePolicy};
 
 /// The output lines of a script.
 fn lines(script: &str) -> Vec<String> {
@@ -159,6 +159,7 @@ fn random_runs_as_scripts() {
         let mut run = random::run(seed);
         run.found.fill(0);
         run.numbered = 0;
+        run.figures = run.figures.with_policy(WritePolicy::WriteBack);
         run.calls.retain(|call| line_of(*call).is_some());
         let mut script = begin_line(run.setup()) + "\n";
         for line in run.calls.iter().copied().filter_map(line_of) {

@@ -72,11 +72,12 @@ fn first_difference_is_named() {
 }
 
 /// Faults that no short script tells: what free places and an empty cache hold,
-/// and which invalid way is filled.
-const UNSEEN: [Fault; 5] = [
+/// which invalid way is filled, and what memory holds under a dirty line.
+const UNSEEN: [Fault; 6] = [
     Fault::DroppedNumberOnly,
     Fault::VictimPassesInvalid,
     Fault::VictimHighestInvalid,
+    Fault::BackWritesMemory,
     Fault::StartKeepsCache,
     Fault::ShowFirstWay,
 ];
@@ -89,5 +90,5 @@ fn stored_examples_notice_faults() {
         examples.iter().all(|example| stored::check(&player, example).is_ok())
     };
     let missed: Vec<Fault> = fault::ALL.iter().copied().filter(missed).collect();
-    assert_eq!(missed, UNSEEN);
+    assert_eq!(missed, [&UNSEEN[..], &fault::THROUGH].concat());
 }

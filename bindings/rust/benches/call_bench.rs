@@ -20,7 +20,7 @@ use compare::arguments;
 use compare::check;
 use compare::model::{Machine as _, Right};
 use compare::random::{script_run, Mix, Rng};
-use compare::types::{Answer, Call, Setup, State};
+use compare::types::{Answer, Call, Setup, State, WritePolicy};
 use nicoisetarn::Image;
 
 /// A small cache, and the largest one.
@@ -192,7 +192,8 @@ struct Case {
     call: Call,
 }
 
-/// The ten calls, each on a state in which it does its work, and a refused one.
+/// The ten calls, each on a state in which it does its work, a drain under each write
+/// policy, and a refused one.
 fn cases(setup: Setup) -> Vec<Case> {
     let figures = setup.figures;
     let filled = || Way::new(setup).filled();
@@ -202,9 +203,13 @@ fn cases(setup: Setup) -> Vec<Case> {
         let call = call(&way.state);
         Case { name, way, call }
     };
-    let mut committed = filled().busy();
-    let number = committed.state.last;
-    committed.push(Call::Commit { number });
+    let committed = |figures| {
+        let mut way = Way::new(Setup { figures, ..setup }).filled().busy();
+        let number = way.state.last;
+        way.push(Call::Commit { number });
+        way
+    };
+    let through = figures.with_policy(WritePolicy::WriteThrough);
     let mut requested = filled();
     requested.request(absent);
     let mut waiting = filled();
@@ -217,7 +222,8 @@ fn cases(setup: Setup) -> Vec<Case> {
         Case { name: "retry: a value", way: waiting.busy(), call: Call::Retry { number } },
         busy("commit: two loads leave", |state| Call::Commit { number: state.last }),
         busy("abort: six entries dropped", |state| Call::Abort { number: state.last - 5 }),
-        Case { name: "idle: a store drained", way: committed, call: Call::Idle },
+        Case { name: "idle: a store drained", way: committed(figures), call: Call::Idle },
+        Case { name: "idle: .. in write-through", way: committed(through), call: Call::Idle },
         Case { name: "reply: a dirty line evicted", way: requested.busy(), call: Call::Reply },
         busy("flush: half of the lines dirty", |_| Call::Flush),
         busy("show line", |_| Call::ShowLine { address: 20 }),

@@ -7,7 +7,7 @@ use nicoisetarn::{Answer, Figures, Refusal, Unit};
 
 fn main() -> Result<(), Refusal> {
     // One set of one way over 32 bytes of zeroed memory.
-    let mut unit = Unit::start(Figures { sets: 1, ways: 1 }, vec![0; 32])?;
+    let mut unit = Unit::start(Figures::new(1, 1), vec![0; 32])?;
 
     println!("store a byte at 4:     {:?}", unit.store(4, 1, 7)?);
     println!("load it:               {:?}", unit.load(4, 1)?);

@@ -122,7 +122,7 @@ pub enum Answer {
     Committed(u32),
     /// The last number that is in force.
     Kept(u32),
-    /// The number of the store that was written to the cache.
+    /// The number of the store that was written.
     Drained(u32),
     /// The first address of the requested line.
     Requested(u32),
@@ -161,7 +161,7 @@ pub(crate) fn told(answer: AnswerImage) -> Result<Answer, Refusal> {
         boundary::KIND_SHOWN => Answer::Shown { place: first, length: second },
         boundary::KIND_READY => Answer::Ready,
         // "No such call" and "ran" among them: this crate makes only calls that there are,
-        // and a batch is no call.
+        // starts only in profiles that there are, and a batch is no call.
         _ => panic!("the library answers no call of this crate by kind {kind}"),
     })
 }

@@ -3,7 +3,7 @@
 
 use std::mem::{align_of, offset_of, size_of, transmute};
 
-use crate::image::Image;
+use crate::image::{Figures, Image};
 
 // Kinds of answers.
 pub const KIND_REFUSED: u32 = 0;
@@ -32,6 +32,10 @@ pub const CALL_REPLY: u32 = 6;
 pub const CALL_FLUSH: u32 = 7;
 pub const CALL_SHOW_LINE: u32 = 8;
 
+// Profiles by their numbers.
+pub const PROFILE_WRITE_BACK: u32 = 0;
+pub const PROFILE_WRITE_THROUGH: u32 = 1;
+
 // Numbers of a call and of an answer in a batch.
 pub const CALL_STRIDE: usize = 6;
 pub const ANSWER_STRIDE: usize = 6;
@@ -52,10 +56,11 @@ const _: () = {
 };
 
 extern "C" {
-    fn nicoisetarn_start_in(
+    fn nicoisetarn_start_with_in(
         image: *mut Image,
         sets: u32,
         ways: u32,
+        profile: u32,
         cache: *mut u8,
         cache_length: usize,
         memory: *const u8,
@@ -97,19 +102,25 @@ extern "C" {
 }
 
 /// A start on an image.
-pub fn start(
-    image: &mut Image,
-    sets: u32,
-    ways: u32,
-    cache: &mut [u8],
-    memory: &[u8],
-) -> AnswerImage {
+pub fn start(image: &mut Image, figures: Figures, cache: &mut [u8], memory: &[u8]) -> AnswerImage {
+    let (sets, ways, profile) = (figures.sets, figures.ways, figures.profile());
     let (cache_length, memory_length) = (cache.len(), memory.len());
     let (cache, memory) = (cache.as_mut_ptr(), memory.as_ptr());
     // SAFETY: the three references are live and not null, and do not overlap, as
     // two of them are exclusive; each slice goes with its own length; the library
     // reads the memory only and keeps no pointer; any bytes are an image.
-    unsafe { nicoisetarn_start_in(image, sets, ways, cache, cache_length, memory, memory_length) }
+    unsafe {
+        nicoisetarn_start_with_in(
+            image,
+            sets,
+            ways,
+            profile,
+            cache,
+            cache_length,
+            memory,
+            memory_length,
+        )
+    }
 }
 
 /// A call by its number on an image.

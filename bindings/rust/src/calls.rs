@@ -76,7 +76,7 @@ impl Image {
         cache: &mut [u8],
         memory: &[u8],
     ) -> Result<Answer, Refusal> {
-        told(boundary::start(self, figures.sets, figures.ways, cache, memory))
+        told(boundary::start(self, figures, cache, memory))
     }
 
     /// Any call but a start. Refused, it leaves image, cache and memory as they

@@ -21,16 +21,50 @@ pub const STORES: usize = 16;
 /// Places of the load queue.
 pub const LOADS: usize = 8;
 
-/// The figures that a start chooses.
+/// Where a drain writes a store, and what it needs for it: the write profile.
 #[derive(Clone, Copy, Debug, Default, PartialEq, Eq, Hash)]
+pub enum WritePolicy {
+    /// Write-back with write-allocate: a store is written to its line, which becomes
+    /// dirty; an absent line is requested first.
+    #[default]
+    WriteBack,
+    /// Write-through without write-allocate: a store is written to memory, and to its
+    /// line where that is present. No line is requested for a store, and none is dirty.
+    WriteThrough,
+}
+
+/// The figures that a start chooses. Made by [`Figures::new`], so that a bench need not
+/// name a figure that it does not choose.
+#[derive(Clone, Copy, Debug, Default, PartialEq, Eq, Hash)]
+#[non_exhaustive]
 pub struct Figures {
     /// Sets of the cache: 1, 2, 4, 8, 16, 32 or 64.
     pub sets: u32,
     /// Ways of each set: 1 to 4.
     pub ways: u32,
+    /// The write policy.
+    pub policy: WritePolicy,
 }
 
 impl Figures {
+    /// Figures of write-back.
+    pub const fn new(sets: u32, ways: u32) -> Figures {
+        Figures { sets, ways, policy: WritePolicy::WriteBack }
+    }
+
+    /// The same with a write policy.
+    pub const fn with_policy(self, policy: WritePolicy) -> Figures {
+        Figures { policy, ..self }
+    }
+
+    /// The library's number of the profile.
+    pub(crate) const fn profile(self) -> u32 {
+        match self.policy {
+            WritePolicy::WriteBack => boundary::PROFILE_WRITE_BACK,
+            WritePolicy::WriteThrough => boundary::PROFILE_WRITE_THROUGH,
+        }
+    }
+
     /// Bytes of the cache that a start of these figures asks for, sets × ways × 16;
     /// `usize::MAX` where that is more.
     pub const fn cache_length(self) -> usize {
@@ -70,7 +104,8 @@ pub struct ListedLoad {
 pub struct Tag {
     /// A line is present here.
     pub valid: bool,
-    /// A store was written to that line since it was filled or last flushed.
+    /// A store was written to that line since it was filled or last flushed; never in
+    /// write-through.
     pub dirty: bool,
     /// The line number: its first address divided by 16.
     pub line: u32,
@@ -112,6 +147,7 @@ struct TagImage {
 pub struct Image {
     sets: u32,
     ways: u32,
+    profile: u32,
     memory_length: u32,
     last: u32,
     committed: u32,
@@ -128,10 +164,11 @@ const _: () = {
     assert!(size_of::<HeldStore>() == 16 && size_of::<LoadImage>() == 16);
     assert!(size_of::<TagImage>() == 6 && align_of::<TagImage>() == 2);
     assert!(offset_of!(Image, sets) == 0 && offset_of!(Image, ways) == 4);
-    assert!(offset_of!(Image, memory_length) == 8 && offset_of!(Image, last) == 12);
-    assert!(offset_of!(Image, committed) == 16 && offset_of!(Image, requested) == 20);
-    assert!(offset_of!(Image, line) == 24 && offset_of!(Image, stores) == 28);
-    assert!(offset_of!(Image, loads) == 284 && offset_of!(Image, tags) == 412);
+    assert!(offset_of!(Image, profile) == 8 && offset_of!(Image, memory_length) == 12);
+    assert!(offset_of!(Image, last) == 16 && offset_of!(Image, committed) == 20);
+    assert!(offset_of!(Image, requested) == 24 && offset_of!(Image, line) == 28);
+    assert!(offset_of!(Image, stores) == 32 && offset_of!(Image, loads) == 288);
+    assert!(offset_of!(Image, tags) == 416);
     assert!(offset_of!(HeldStore, address) == 4 && offset_of!(HeldStore, width) == 8);
     assert!(offset_of!(HeldStore, value) == 12 && offset_of!(LoadImage, address) == 4);
     assert!(offset_of!(LoadImage, width) == 8 && offset_of!(LoadImage, waiting) == 12);
@@ -142,7 +179,7 @@ const _: () = {
 /// What an image holds, whether or not a call would refuse it.
 impl Image {
     /// Bytes of an image.
-    pub const SIZE: usize = 1948;
+    pub const SIZE: usize = 1952;
 
     /// The image with these bytes.
     pub fn from_bytes(bytes: [u8; Image::SIZE]) -> Image {
@@ -154,9 +191,21 @@ impl Image {
         boundary::bytes_of(self)
     }
 
-    /// Sets and ways of the cache.
+    /// Sets and ways of the cache, and the write policy: write-back where
+    /// [`Image::policy`] tells none.
     pub fn figures(&self) -> Figures {
-        Figures { sets: self.sets, ways: self.ways }
+        let policy = self.policy().unwrap_or_default();
+        Figures { sets: self.sets, ways: self.ways, policy }
+    }
+
+    /// The write policy; none where the image has a number that stands for no profile,
+    /// and so is refused.
+    pub fn policy(&self) -> Option<WritePolicy> {
+        match self.profile {
+            boundary::PROFILE_WRITE_BACK => Some(WritePolicy::WriteBack),
+            boundary::PROFILE_WRITE_THROUGH => Some(WritePolicy::WriteThrough),
+            _ => None,
+        }
     }
 
     /// Bytes of the memory.

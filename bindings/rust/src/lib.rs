@@ -10,7 +10,7 @@
 //! ```
 //! use nicoisetarn::{Answer, Figures, Refusal, Unit};
 //!
-//! let mut unit = Unit::start(Figures { sets: 1, ways: 1 }, vec![0; 32])?;
+//! let mut unit = Unit::start(Figures::new(1, 1), vec![0; 32])?;
 //! assert_eq!(unit.store(4, 1, 7)?, Answer::Stored(1));
 //! assert_eq!(unit.load(4, 1)?, Answer::Value { number: 2, value: 7 });
 //! assert_eq!(unit.load(5, 1)?, Answer::Waits(3));
@@ -25,7 +25,7 @@
 //!
 //! ```
 //! # use nicoisetarn::{Answer, Figures, Refusal, Unit};
-//! # let mut unit = Unit::start(Figures { sets: 1, ways: 1 }, vec![9; 32])?;
+//! # let mut unit = Unit::start(Figures::new(1, 1), vec![9; 32])?;
 //! assert_eq!(unit.load(20, 1)?, Answer::Waits(1));
 //! assert_eq!(unit.idle()?, Answer::Idle);
 //! assert_eq!(unit.commit(1)?, Answer::Committed(1));
@@ -40,7 +40,7 @@
 //!
 //! ```
 //! # use nicoisetarn::{Answer, Batch, Call, Figures, Refusal, Unit};
-//! # let mut unit = Unit::start(Figures { sets: 1, ways: 1 }, vec![0; 32])?;
+//! # let mut unit = Unit::start(Figures::new(1, 1), vec![0; 32])?;
 //! let answers = unit.run(&[Call::Store(4, 1, 7), Call::Load(4, 3), Call::Commit(1)]);
 //! assert_eq!(answers, [Ok(Answer::Stored(1)), Err(Refusal::Width), Ok(Answer::Committed(1))]);
 //!
@@ -53,6 +53,20 @@
 //! # Ok::<(), Refusal>(())
 //! ```
 //!
+//! A start may choose write-through without write-allocate in place of write-back. A
+//! drain then needs no line and writes memory at once.
+//!
+//! ```
+//! # use nicoisetarn::{Answer, Figures, Refusal, Unit, WritePolicy};
+//! let figures = Figures::new(1, 1).with_policy(WritePolicy::WriteThrough);
+//! let mut unit = Unit::start(figures, vec![0; 32])?;
+//! assert_eq!(unit.store(20, 1, 7)?, Answer::Stored(1));
+//! assert_eq!(unit.commit(1)?, Answer::Committed(1));
+//! assert_eq!(unit.idle()?, Answer::Drained(1));
+//! assert_eq!((unit.memory()[20], unit.flush()?), (7, Answer::Flushed(0)));
+//! # Ok::<(), Refusal>(())
+//! ```
+//!
 //! A bench with a memory of its own lends it to each call, with the cache bytes and
 //! an [`Image`] of the state. The library keeps nothing between calls.
 //!
@@ -60,7 +74,7 @@
 //! use nicoisetarn::{Answer, Call, Figures, Image, Refusal};
 //!
 //! let (mut cache, mut memory) = ([0; 16], [0; 32]);
-//! let mut image = Image::start(Figures { sets: 1, ways: 1 }, &mut cache, &memory)?;
+//! let mut image = Image::start(Figures::new(1, 1), &mut cache, &memory)?;
 //! let stored = image.call(&mut cache, &mut memory, Call::Store(4, 1, 7))?;
 //! assert_eq!(stored, Answer::Stored(1));
 //! assert!(image.show_line(&cache, &memory, 4).bytes.is_empty());
@@ -83,7 +97,7 @@ pub use answers::{Answer, Refusal};
 pub use batch::Batch;
 pub use calls::{Call, Part};
 pub use image::{
-    Figures, HeldStore, Image, ListedLoad, Tag, LINE, LOADS, MAX_MEMORY, MAX_SETS, MAX_WAYS,
-    MIN_MEMORY, RECORDS, STORES,
+    Figures, HeldStore, Image, ListedLoad, Tag, WritePolicy, LINE, LOADS, MAX_MEMORY, MAX_SETS,
+    MAX_WAYS, MIN_MEMORY, RECORDS, STORES,
 };
 pub use unit::Unit;

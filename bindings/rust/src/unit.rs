@@ -18,14 +18,14 @@ pub struct Unit {
 
 impl Unit {
     /// Start over a memory, which stays as found: both queues empty, no line
-    /// present, last and committed number 0; way w of each set has age w.
+    /// present, last and committed number 0; way w of each set has age w. The unit
+    /// keeps the figures' write policy.
     ///
     /// Refused by 1 alone: sets is not 1, 2, 4, 8, 16, 32 or 64, ways is not 1 to 4,
     /// or the memory is no multiple of 16 bytes from 16 to 65,536.
     pub fn start(figures: Figures, memory: Vec<u8>) -> Result<Unit, Refusal> {
         // Figures that are not allowed are refused whatever the cache is.
-        let bounded =
-            Figures { sets: figures.sets.min(MAX_SETS), ways: figures.ways.min(MAX_WAYS) };
+        let bounded = Figures::new(figures.sets.min(MAX_SETS), figures.ways.min(MAX_WAYS));
         let mut cache = vec![0; bounded.cache_length()];
         let image = Image::start(figures, &mut cache, &memory)?;
         Ok(Unit { image, cache, memory })
@@ -132,6 +132,10 @@ impl Unit {
     ///   whose line is absent (the oldest such load), or else the oldest held store is
     ///   committed, no older load waits and its line is absent: the line is asked for.
     /// - [`Answer::Idle`]: there is nothing to do.
+    ///
+    /// In [`WritePolicy::WriteThrough`](crate::WritePolicy::WriteThrough) a drain needs no
+    /// line: the store is written to memory, and to its line where that is present, which
+    /// is used and stays clean. No line is requested for a store.
     pub fn idle(&mut self) -> Result<Answer, Refusal> {
         self.call(Call::Idle)
     }
@@ -147,7 +151,7 @@ impl Unit {
     }
 
     /// Writes every dirty line to memory and marks it clean: [`Answer::Flushed`]. Ages
-    /// stay.
+    /// stay. In write-through no line is dirty, and none is written.
     ///
     /// Refused by 18: a committed store is held.
     pub fn flush(&mut self) -> Result<Answer, Refusal> {

@@ -7,7 +7,7 @@
 mod beside;
 mod numbered;
 
-use beside::{times, Bench, Beside};
+use beside::{in_each_profile, times, Bench, Beside};
 use compare::random::{self, Mix, Rng, Run};
 use compare::types::{Answer, Setup};
 use nicoisetarn::{Answer as Ours, Batch, Call as Made, Figures, Image, Refusal, Unit};
@@ -58,7 +58,7 @@ fn short_runs_in_lists() {
 fn long_runs_in_lists() {
     let setups = [Setup::new(1, 1, 16), Setup::new(4, 3, 512), Setup::new(64, 4, 65536)];
     let mut rng = Rng::new(0x10_BA7C);
-    for setup in setups.repeat(times() as usize) {
+    for setup in in_each_profile(&setups.repeat(times() as usize)) {
         let run = random::script_run(&mut rng, setup, 8_000, Mix::Accepted);
         if let Err(what) = check_run(&run, &mut rng, 1_000) {
             panic!("{setup:?}, {what}");
@@ -107,7 +107,7 @@ fn numbers_of_no_call_in_a_list() {
 
 /// One set of one way over 32 bytes, byte a + 1 at a.
 fn started() -> Unit {
-    Unit::start(Figures { sets: 1, ways: 1 }, (1..=32).collect()).unwrap()
+    Unit::start(Figures::new(1, 1), (1..=32).collect()).unwrap()
 }
 
 /// Where the lengths do not fit nothing changes, the answers neither.

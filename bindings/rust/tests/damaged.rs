@@ -1,18 +1,23 @@
-//! Calls on damaged benches: states that runs led to with one field damaged,
-//! images of random bytes, and lent buffers of wrong lengths. Each call is
-//! answered as the Rust model answers it, and a refused one changes nothing; so it
-//! is with all calls in one list.
+//! Calls on damaged benches: states that runs led to with one field damaged or in
+//! another profile, images of random bytes, and lent buffers of wrong lengths. Each
+//! call is answered as the Rust model answers it, and a refused one changes nothing;
+//! so it is with all calls in one list.
 //!
 //! NICOISETARN_TIMES=N in the environment makes N times as many calls.
 
 mod beside;
 mod numbered;
 
-use beside::{each_call, figures_agree, judge, odd_number, stands, times, Bench, Beside};
+use beside::layout;
+use beside::{
+    each_call, figures_agree, judge, odd_number, stands, state_of, times, with_word, Bench, Beside,
+};
+use compare::check;
 use compare::counts::{refused, Counts};
 use compare::random::Rng;
-use compare::types::{Answer, Call, Part};
-use nicoisetarn::{Figures, Image, Refusal};
+use compare::types::{Answer, Call, Part, WritePolicy};
+use nicoisetarn::{Figures, Image, Refusal, LOADS, RECORDS, STORES};
+use numbered::NO_PROFILES;
 
 /// Where a damage is done: fields of the image by the place of the first, how
 /// many there are, how far apart and of how many bytes; or what is lent.
@@ -25,28 +30,51 @@ enum Field {
     MemoryLength,
 }
 
+impl Field {
+    /// A number of the image that stands alone.
+    const fn word(at: usize) -> Field {
+        Field::Image(at, 1, 0, 4)
+    }
+
+    /// A number of each store, so far into its place.
+    const fn of_stores(at: usize) -> Field {
+        Field::Image(layout::STORES_AT + at, STORES, layout::ENTRY, 4)
+    }
+
+    /// A number of each load.
+    const fn of_loads(at: usize) -> Field {
+        Field::Image(layout::LOADS_AT + at, LOADS, layout::ENTRY, 4)
+    }
+
+    /// A number of each tag record, of so many bytes.
+    const fn of_tags(at: usize, width: usize) -> Field {
+        Field::Image(layout::TAGS_AT + at, RECORDS, layout::TAG, width)
+    }
+}
+
 /// Every field, with its name.
-const FIELDS: [(&str, Field); 24] = [
-    ("sets", Field::Image(0, 1, 0, 4)),
-    ("ways", Field::Image(4, 1, 0, 4)),
-    ("memory length", Field::Image(8, 1, 0, 4)),
-    ("last", Field::Image(12, 1, 0, 4)),
-    ("committed", Field::Image(16, 1, 0, 4)),
-    ("register: free or not", Field::Image(20, 1, 0, 4)),
-    ("register: line", Field::Image(24, 1, 0, 4)),
-    ("store: number", Field::Image(28, 16, 16, 4)),
-    ("store: address", Field::Image(32, 16, 16, 4)),
-    ("store: width", Field::Image(36, 16, 16, 4)),
-    ("store: value", Field::Image(40, 16, 16, 4)),
-    ("load: number", Field::Image(284, 8, 16, 4)),
-    ("load: address", Field::Image(288, 8, 16, 4)),
-    ("load: width", Field::Image(292, 8, 16, 4)),
-    ("load: waiting", Field::Image(296, 8, 16, 4)),
-    ("tag: valid", Field::Image(412, 256, 6, 1)),
-    ("tag: dirty", Field::Image(413, 256, 6, 1)),
-    ("tag: line", Field::Image(414, 256, 6, 2)),
-    ("tag: age", Field::Image(416, 256, 6, 1)),
-    ("tag: unused byte", Field::Image(417, 256, 6, 1)),
+const FIELDS: [(&str, Field); 25] = [
+    ("sets", Field::word(layout::SETS)),
+    ("ways", Field::word(layout::WAYS)),
+    ("profile", Field::word(layout::PROFILE)),
+    ("memory length", Field::word(layout::MEMORY_LENGTH)),
+    ("last", Field::word(layout::LAST)),
+    ("committed", Field::word(layout::COMMITTED)),
+    ("register: free or not", Field::word(layout::REQUESTED)),
+    ("register: line", Field::word(layout::REQUESTED_LINE)),
+    ("store: number", Field::of_stores(0)),
+    ("store: address", Field::of_stores(layout::ADDRESS)),
+    ("store: width", Field::of_stores(layout::WIDTH)),
+    ("store: value", Field::of_stores(layout::VALUE)),
+    ("load: number", Field::of_loads(0)),
+    ("load: address", Field::of_loads(layout::ADDRESS)),
+    ("load: width", Field::of_loads(layout::WIDTH)),
+    ("load: waiting", Field::of_loads(layout::WAITING)),
+    ("tag: valid", Field::of_tags(0, 1)),
+    ("tag: dirty", Field::of_tags(layout::DIRTY, 1)),
+    ("tag: line", Field::of_tags(layout::LINE, 2)),
+    ("tag: age", Field::of_tags(layout::AGE, 1)),
+    ("tag: unused byte", Field::of_tags(layout::UNUSED, 1)),
     ("a byte of the cache", Field::CacheByte),
     ("a byte of the memory", Field::MemoryByte),
     ("length of the cache lent", Field::CacheLength),
@@ -86,9 +114,9 @@ fn places_in_use(image: &Image, places: usize) -> u64 {
     let stores = image.stores().iter().filter(|store| store.number != 0).count();
     let loads = image.loads().iter().filter(|load| load.number != 0).count();
     let in_use = match places {
-        16 => stores,
-        8 => loads,
-        256 => (image.figures().sets * image.figures().ways) as usize,
+        STORES => stores,
+        LOADS => loads,
+        RECORDS => (image.figures().sets * image.figures().ways) as usize,
         _ => 0,
     };
     (in_use + 1).min(places) as u64
@@ -137,6 +165,37 @@ fn play_no_call(bench: &mut Bench, rng: &mut Rng) -> numbered::Numbers {
     numbered::step(image, cache, memory, call, operands)
 }
 
+/// A start in a profile that there is not, whatever the image and the lengths are, with
+/// figures that may be allowed.
+fn play_no_profile(bench: &mut Bench, rng: &mut Rng) -> numbered::Numbers {
+    let (figures, odd) = (bench.image.figures(), odd_number(rng));
+    let sets = rng.pick(&[figures.sets, figures.sets, 1, odd]);
+    let ways = rng.pick(&[figures.ways, figures.ways, 1, odd]);
+    let Bench { image, cache, memory } = bench;
+    numbered::start(image, cache, memory, [sets, ways, rng.pick(&NO_PROFILES)])
+}
+
+/// Plays what there is not, and gives the answer.
+type PlayNone = fn(&mut Bench, &mut Rng) -> numbered::Numbers;
+
+/// What there is not, by its name.
+const NONE: [(&str, PlayNone); 2] =
+    [("no such call", play_no_call), ("no such profile", play_no_profile)];
+
+/// Plays what there is not: the library says so, and all stays as it was.
+fn play_none(bench: &Bench, rng: &mut Rng, counts: &mut Counts) -> Result<(), String> {
+    let mut played = bench.clone();
+    for (what, play) in NONE {
+        let answer = play(&mut played, rng);
+        counts.calls += 1;
+        counts.met(what, true);
+        if answer != numbered::NO_SUCH_CALL || played != *bench {
+            return Err(format!("{what}: {answer:?}, or it has changed something"));
+        }
+    }
+    Ok(())
+}
+
 /// Plays every call on a bench, each from the beginning; a refused one has left
 /// all as it was. Gives what an idle call answered, which has no operands.
 fn play_each(bench: &Bench, rng: &mut Rng, counts: &mut Counts) -> Result<Answer, String> {
@@ -155,12 +214,7 @@ fn play_each(bench: &Bench, rng: &mut Rng, counts: &mut Counts) -> Result<Answer
             return Err(format!("{call:?}: {answer:?}, but it has changed something"));
         }
     }
-    let answer = play_no_call(&mut beside.library, rng);
-    counts.calls += 1;
-    if answer != numbered::NO_SUCH_CALL || beside.library != *bench {
-        return Err(format!("a number that no call has: {answer:?}"));
-    }
-    counts.met("no such call", true);
+    play_none(bench, rng, counts)?;
     counts.met("image that stands for no state", !stands(&bench.image));
     play_list(bench, &calls, idle)?;
     counts.met("list refused", !idle.accepted());
@@ -223,6 +277,32 @@ fn count(counts: &mut Counts, call: Call, answer: Answer) {
     }
 }
 
+/// Why write-through refuses an image that write-back would take, where it has one
+/// reason alone.
+fn refused_through(bench: &Bench) -> Option<&'static str> {
+    let Bench { image, cache, memory } = bench;
+    let state = state_of(image)?;
+    let mut back = state.clone();
+    back.figures = state.figures.with_policy(WritePolicy::WriteBack);
+    if check::refusal(&back, cache, memory).is_some() {
+        return None;
+    }
+    let clean = check::none_dirty(&state, cache, memory);
+    match (clean, check::request_wanted(&state, cache, memory)) {
+        (false, true) => Some("dirty line in write-through"),
+        (true, false) => Some("request for a store in write-through"),
+        _ => None,
+    }
+}
+
+/// Counts such an image, which an idle call has refused.
+fn count_through(counts: &mut Counts, bench: &Bench, idle: Answer) {
+    if let Some(why) = refused_through(bench) {
+        assert_eq!(idle, Answer::Refused(10), "{why}");
+        counts.met(why, true);
+    }
+}
+
 /// Adds what a damage led to, as an idle call told it.
 fn tally(tally: &mut Tally, bench: &Bench, idle: Answer) {
     match idle {
@@ -253,7 +333,7 @@ fn judge_fields(tallies: &[Tally]) {
 }
 
 /// What damaged fields must meet, out of so many calls.
-const NEEDED_OF_FIELDS: [(&str, u64); 21] = [
+const NEEDED_OF_FIELDS: [(&str, u64); 24] = [
     ("other call accepted", 40),
     ("accepted start", 100),
     ("line shown", 500),
@@ -264,6 +344,9 @@ const NEEDED_OF_FIELDS: [(&str, u64); 21] = [
     ("refused 4", 5_000),
     ("refused 5", 5_000),
     ("no such call", 20),
+    ("no such profile", 20),
+    ("dirty line in write-through", 2_000),
+    ("request for a store in write-through", 100_000),
     ("list refused", 30),
     ("list accepted", 200),
     ("refused 10", 10),
@@ -288,7 +371,10 @@ fn one_field_damaged() {
             let mut bench = found.clone();
             damage(&mut bench, *field, &mut rng);
             match play_each(&bench, &mut rng, &mut counts) {
-                Ok(idle) => tally(into, &bench, idle),
+                Ok(idle) => {
+                    tally(into, &bench, idle);
+                    count_through(&mut counts, &bench, idle);
+                }
                 Err(what) => panic!("seed {seed}, {name}: {what}"),
             }
         }
@@ -298,25 +384,79 @@ fn one_field_damaged() {
     assert!(counts.calls >= 1_000_000, "only {} calls", counts.calls);
 }
 
+/// Counts what an idle call said of a state that a run led to, in another profile.
+fn count_profile(counts: &mut Counts, found: &Bench, bench: &Bench, idle: Answer) {
+    use nicoisetarn::WritePolicy::{WriteBack, WriteThrough};
+    count_through(counts, bench, idle);
+    match (found.image.policy(), bench.image.policy()) {
+        (_, None) => assert_eq!(idle, Answer::Refused(10)),
+        (Some(WriteBack), Some(WriteThrough)) => {
+            counts.met("state of write-back in write-through", idle.accepted());
+        }
+        (Some(WriteThrough), Some(WriteBack)) => {
+            counts.met("state of write-through in write-back", true);
+            assert!(idle.accepted());
+        }
+        _ => assert!(idle.accepted()),
+    }
+}
+
+/// Plays a state that a run led to in each profile and in one that there is not.
+fn play_profiles(found: &Bench, rng: &mut Rng, counts: &mut Counts) -> Result<(), String> {
+    for profile in [0, 1, rng.pick(&NO_PROFILES)] {
+        let image = with_word(&found.image, layout::PROFILE, profile);
+        let bench = Bench { image, ..found.clone() };
+        let idle = play_each(&bench, rng, counts);
+        let idle = idle.map_err(|what| format!("profile {profile}: {what}"))?;
+        count_profile(counts, found, &bench, idle);
+    }
+    Ok(())
+}
+
+/// A number of no profile stands for no state. Write-back takes any state that a run
+/// led to, write-through its own and those with no line dirty or requested for a store.
+#[test]
+fn profile_damaged() {
+    let mut counts = Counts::default();
+    for seed in 0..150 * times() {
+        let mut rng = Rng::new(seed ^ 0x9F0F_11E0);
+        for found in Bench::along_the_way(seed) {
+            if let Err(what) = play_profiles(&found, &mut rng, &mut counts) {
+                panic!("seed {seed}, {what}");
+            }
+        }
+    }
+    let needed = [
+        ("image that stands for no state", 50),
+        ("state of write-back in write-through", 200),
+        ("state of write-through in write-back", 100),
+        ("dirty line in write-through", 200),
+        ("request for a store in write-through", 20_000),
+    ];
+    judge("profile damaged", &counts, &needed);
+}
+
 /// Bytes at random.
 fn random_bytes(length: usize, rng: &mut Rng) -> Vec<u8> {
     let words = std::iter::repeat_with(|| rng.word().to_le_bytes());
     words.take(length / 8 + 1).flatten().take(length).collect()
 }
 
-/// Makes every flag 0 or 1, the register of a state and the unused bytes 0.
+/// Makes the profile and every flag 0 or 1, the register that of a state and the unused
+/// bytes 0.
 fn mend_flags(bytes: &mut [u8]) {
-    let word = |number: u32| number.to_ne_bytes();
-    let names = u32::from(bytes[beside::REQUESTED] & 1);
-    let (flag, line) = (beside::REQUESTED, beside::REQUESTED_LINE);
-    bytes[flag..flag + 4].copy_from_slice(&word(names));
-    bytes[line..line + 4].copy_from_slice(&word(names * 2));
-    for load in bytes[beside::LOADS_AT..beside::TAGS_AT].chunks_exact_mut(beside::ENTRY) {
-        let waits = u32::from(load[12] & 1);
-        load[12..].copy_from_slice(&word(waits));
+    let [profile, names] = [layout::PROFILE, layout::REQUESTED].map(|at| u32::from(bytes[at] & 1));
+    let mut put = |at: usize, word: u32| bytes[at..at + 4].copy_from_slice(&word.to_ne_bytes());
+    put(layout::PROFILE, profile);
+    put(layout::REQUESTED, names);
+    put(layout::REQUESTED_LINE, names * 2);
+    for load in bytes[layout::LOADS_AT..layout::TAGS_AT].chunks_exact_mut(layout::ENTRY) {
+        let waits = u32::from(load[layout::WAITING] & 1);
+        load[layout::WAITING..].copy_from_slice(&waits.to_ne_bytes());
     }
-    for tag in bytes[beside::TAGS_AT..].chunks_exact_mut(beside::TAG) {
-        (tag[0], tag[1], tag[5]) = (tag[0] & 1, tag[1] & 1, 0);
+    for tag in bytes[layout::TAGS_AT..].chunks_exact_mut(layout::TAG) {
+        let (valid, dirty) = (tag[0] & 1, tag[layout::DIRTY] & 1);
+        (tag[0], tag[layout::DIRTY], tag[layout::UNUSED]) = (valid, dirty, 0);
     }
 }
 
@@ -329,7 +469,9 @@ fn random_bench(rng: &mut Rng) -> Bench {
     bytes.copy_from_slice(&random_bytes(Image::SIZE, rng));
     let kind = rng.below(8);
     if kind != 0 {
-        for (at, figure) in [(0, sets), (4, ways), (8, lines * 16)] {
+        let figures =
+            [(layout::SETS, sets), (layout::WAYS, ways), (layout::MEMORY_LENGTH, lines * 16)];
+        for (at, figure) in figures {
             bytes[at..at + 4].copy_from_slice(&figure.to_ne_bytes());
         }
     }
@@ -373,6 +515,7 @@ fn random_images() {
         ("state, refused 10", 60),
         ("accepted start", 200),
         ("no such call", 20),
+        ("no such profile", 20),
     ];
     judge("random images", &counts, &needed);
 }
@@ -402,6 +545,7 @@ fn wrong_lengths() {
         ("empty cache lent", 300),
         ("empty memory lent", 300),
         ("accepted start", 500),
+        ("no such profile", 20),
     ];
     judge("wrong lengths", &counts, &needed);
 }
@@ -416,7 +560,7 @@ fn lengths_beyond_32_bits() {
         return;
     }
     let (mut cache, mut memory) = (vec![0; 32], vec![0; 32]);
-    let figures = Figures { sets: 2, ways: 1 };
+    let figures = Figures::new(2, 1);
     let mut image = Image::start(figures, &mut cache, &memory).unwrap();
     let before = image.clone();
     let load = nicoisetarn::Call::Load(0, 1);

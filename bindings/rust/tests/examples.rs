@@ -1,28 +1,35 @@
-//! The scope paper's worked script by calls, every refusal, starts, show line's
-//! part, and what an image tells.
+//! The scope paper's worked script by calls, every refusal, starts, write-through,
+//! show line's part, and what an image tells.
 
+mod beside;
 mod numbered;
 
+use beside::layout::{self, LOADS_AT, TAGS_AT};
+use nicoisetarn::WritePolicy::{WriteBack, WriteThrough};
 use nicoisetarn::{
     Answer, Call, Figures, HeldStore, Image, ListedLoad, Part, Refusal, Tag, Unit, MAX_MEMORY,
     MAX_SETS, MAX_WAYS, MIN_MEMORY,
 };
+use numbered::NO_PROFILES;
 
 const fn figures(sets: u32, ways: u32) -> Figures {
-    Figures { sets, ways }
+    Figures::new(sets, ways)
 }
 
 /// A start over memory that is found with byte a + 1 at a.
+fn started_with(figures: Figures, length: usize) -> Unit {
+    Unit::start(figures, (0..length).map(|a| a as u8 + 1).collect()).unwrap()
+}
+
+/// The same in write-back.
 fn started(sets: u32, ways: u32, length: usize) -> Unit {
-    Unit::start(figures(sets, ways), (0..length).map(|a| a as u8 + 1).collect()).unwrap()
+    started_with(figures(sets, ways), length)
 }
 
 /// The unit with four bytes of its image changed.
 fn damaged(unit: &Unit, at: usize, word: u32) -> Unit {
     let (image, cache, memory) = unit.clone().into_parts();
-    let mut bytes = image.to_bytes();
-    bytes[at..at + 4].copy_from_slice(&word.to_ne_bytes());
-    Unit::from_parts(Image::from_bytes(bytes), cache, memory)
+    Unit::from_parts(beside::with_word(&image, at, word), cache, memory)
 }
 
 /// The unit with other lengths of what it lends.
@@ -58,16 +65,26 @@ fn worked_script() -> Result<(), Refusal> {
     Ok(())
 }
 
+/// The figures in each write policy.
+fn in_each_policy(figures: Figures) -> [Figures; 2] {
+    [WriteBack, WriteThrough].map(|policy| figures.with_policy(policy))
+}
+
 /// A unit with h 1 and last 3: load 1 waits and its line is requested, store 2 is
 /// held, load 3 is answered.
-fn busy() -> Unit {
-    let mut unit = started(1, 2, 48);
+fn busy_with(figures: Figures) -> Unit {
+    let mut unit = started_with(figures, 48);
     assert_eq!(unit.load(16, 2), Ok(Answer::Waits(1)));
     assert_eq!(unit.commit(1), Ok(Answer::Committed(1)));
     assert_eq!(unit.idle(), Ok(Answer::Requested(16)));
     assert_eq!(unit.store(8, 4, 0xCAFE), Ok(Answer::Stored(2)));
     assert_eq!(unit.load(8, 2), Ok(Answer::Value { number: 3, value: 0xCAFE }));
     unit
+}
+
+/// The same of one set and two ways in write-back.
+fn busy() -> Unit {
+    busy_with(figures(1, 2))
 }
 
 #[test]
@@ -97,12 +114,12 @@ fn refusals_of_the_state() {
     let mut committed = unit.clone();
     assert_eq!(committed.commit(2), Ok(Answer::Committed(2)));
     refuses(&committed, Refusal::Flush, |u| u.flush());
-    let spent = damaged(&started(1, 1, 16), 12, u32::MAX);
+    let spent = damaged(&started(1, 1, 16), layout::LAST, u32::MAX);
     refuses(&spent, Refusal::Numbers, |u| u.load(0, 1));
     refuses(&spent, Refusal::Numbers, |u| u.store(0, 1, 0));
-    let ill = damaged(&unit, 16, 4);
+    let ill = damaged(&unit, layout::COMMITTED, 4);
     refuses(&ill, Refusal::State, |u| u.idle());
-    refuses(&damaged(&ill, 0, 3), Refusal::Figures, |u| u.idle());
+    refuses(&damaged(&ill, layout::SETS, 3), Refusal::Figures, |u| u.idle());
 }
 
 #[test]
@@ -121,9 +138,18 @@ fn full_queues() {
 /// An image that stands for no state is refused and stays, byte for byte.
 #[test]
 fn images_that_stand_for_no_state() {
-    let unit = busy();
-    // The register's flag, a load's flag, a tag's flags with its line, its unused byte.
-    for (at, word) in [(20, 2), (20, u32::MAX), (20, 0), (296, 2), (412, 2), (413, 255), (417, 1)] {
+    for figures in in_each_policy(figures(1, 2)) {
+        stand_for_no_state(busy_with(figures));
+    }
+}
+
+fn stand_for_no_state(unit: Unit) {
+    let flags = [(layout::REQUESTED, 2), (layout::REQUESTED, u32::MAX), (layout::REQUESTED, 0)];
+    let of_load = [(LOADS_AT + layout::WAITING, 2)];
+    // Its flags with its line, and its unused byte with the next record.
+    let of_tag = [(TAGS_AT, 2), (TAGS_AT + layout::DIRTY, 255), (TAGS_AT + layout::UNUSED, 1)];
+    let profiles = NO_PROFILES.map(|profile| (layout::PROFILE, profile));
+    for (at, word) in flags.into_iter().chain(of_load).chain(of_tag).chain(profiles) {
         let ill = damaged(&unit, at, word);
         refuses(&ill, Refusal::State, |u| u.idle());
         refuses(&ill, Refusal::State, |u| u.load(0, 3));
@@ -139,12 +165,31 @@ fn images_that_stand_for_no_state() {
     assert_eq!(never_started.show_line(0), Part { place: 0, bytes: &[] });
 }
 
+/// A unit, and the same with an image and with lengths that are refused.
+fn fit_and_unfit() -> [Unit; 3] {
+    let unit = busy();
+    [damaged(&unit, layout::REQUESTED, 2), resized(&unit, 0, 49), unit]
+}
+
+/// A start in a profile that there is not: the library says so and changes nothing,
+/// also where figures and lengths would be refused.
+#[test]
+fn numbers_of_no_profile() {
+    for unit in fit_and_unfit() {
+        for (profile, sets) in NO_PROFILES.into_iter().flat_map(|it| [(it, 1), (it, 3)]) {
+            let (mut image, mut cache, memory) = unit.clone().into_parts();
+            let answer = numbered::start(&mut image, &mut cache, &memory, [sets, 2, profile]);
+            assert_eq!(answer, numbered::NO_SUCH_CALL);
+            assert_eq!(Unit::from_parts(image, cache, memory), unit, "{profile} {sets}");
+        }
+    }
+}
+
 /// A number that no call has: the library says so and changes nothing, also where
 /// image and lengths would be refused.
 #[test]
 fn numbers_of_no_call() {
-    let unit = busy();
-    for unit in [damaged(&unit, 20, 2), resized(&unit, 0, 49), unit] {
+    for unit in fit_and_unfit() {
         for call in [9, 10, 13, 255, 256, u32::MAX] {
             let (mut image, mut cache, mut memory) = unit.clone().into_parts();
             let answer = numbered::step(&mut image, &mut cache, &mut memory, call, [0, 1, 0]);
@@ -160,18 +205,90 @@ fn refused_starts_leave_all() {
     assert_eq!(unit.reply(), Ok(Answer::Filled(16)));
     let (mut image, mut cache, memory) = unit.clone().into_parts();
     for (sets, ways) in [(0, 1), (3, 1), (128, 1), (1, 0), (1, 5), (1, 1), (2, 2), (u32::MAX, 2)] {
-        let figures = figures(sets, ways);
-        assert_eq!(image.restart(figures, &mut cache, &memory), Err(Refusal::Figures));
-        assert_eq!(Image::start(figures, &mut cache, &memory), Err(Refusal::Figures));
-        assert_eq!((&image, &*cache), (unit.image(), unit.cache()), "{sets} {ways}");
+        for figures in in_each_policy(figures(sets, ways)) {
+            assert_eq!(image.restart(figures, &mut cache, &memory), Err(Refusal::Figures));
+            assert_eq!(Image::start(figures, &mut cache, &memory), Err(Refusal::Figures));
+            assert_eq!((&image, &*cache), (unit.image(), unit.cache()), "{figures:?}");
+        }
     }
     for length in [0, 15, 47, 65552] {
         let refused = image.restart(figures(1, 2), &mut cache, &vec![0; length]);
         assert_eq!(refused, Err(Refusal::Figures));
         assert_eq!((&image, &*cache), (unit.image(), unit.cache()), "{length}");
     }
-    assert_eq!(image.restart(figures(1, 2), &mut cache, &memory), Ok(Answer::Ready));
-    assert_eq!(Unit::from_parts(image, cache, memory), started(1, 2, 48));
+    for figures in in_each_policy(figures(1, 2)) {
+        assert_eq!(image.restart(figures, &mut cache, &memory), Ok(Answer::Ready));
+        let restarted = Unit::from_parts(image.clone(), cache.clone(), memory.clone());
+        assert_eq!(restarted, started_with(figures, 48));
+    }
+}
+
+/// Stores a byte, commits all and makes an idle call.
+fn drain(unit: &mut Unit, address: u32, value: u32) -> Result<Answer, Refusal> {
+    unit.store(address, 1, value)?;
+    unit.commit(unit.image().last())?;
+    unit.idle()
+}
+
+/// Makes a line present by a load.
+fn fill(unit: &mut Unit, address: u32) -> Result<Answer, Refusal> {
+    unit.load(address, 1)?;
+    let number = unit.image().last();
+    unit.commit(number)?;
+    unit.idle()?;
+    unit.reply()?;
+    unit.retry(number)
+}
+
+/// A drain to an absent line writes memory alone and requests nothing.
+#[test]
+fn write_through_to_an_absent_line() -> Result<(), Refusal> {
+    let mut unit = started_with(figures(1, 2).with_policy(WriteThrough), 48);
+    assert_eq!(drain(&mut unit, 20, 200)?, Answer::Drained(1));
+    assert_eq!((unit.memory()[20], unit.cache()), (200, &[0; 32][..]));
+    assert_eq!((unit.idle()?, unit.flush()?), (Answer::Idle, Answer::Flushed(0)));
+    assert_eq!(fill(&mut unit, 20)?, Answer::Value { number: 2, value: 200 });
+    // In write-back the line is requested first.
+    let mut unit = started(1, 2, 48);
+    assert_eq!(drain(&mut unit, 20, 200)?, Answer::Requested(16));
+    assert_eq!(unit.memory()[20], 21);
+    Ok(())
+}
+
+/// A drain to a present line writes memory and the line, and uses it. The line becomes
+/// dirty in write-back alone, where memory stays.
+#[test]
+fn drains_to_a_present_line() -> Result<(), Refusal> {
+    for (policy, stored, lines) in [(WriteBack, 5, 1), (WriteThrough, 200, 0)] {
+        let mut unit = started_with(figures(1, 2).with_policy(policy), 48);
+        fill(&mut unit, 0)?;
+        fill(&mut unit, 16)?;
+        assert_eq!(unit.image().tag(0).map(|tag| tag.age), Some(1));
+        assert_eq!(drain(&mut unit, 4, 200)?, Answer::Drained(3));
+        assert_eq!((unit.cache()[4], unit.memory()[4]), (200, stored), "{policy:?}");
+        let used = Tag { valid: true, dirty: policy == WriteBack, line: 0, age: 0 };
+        assert_eq!(unit.image().tag(0), Some(used));
+        assert_eq!(unit.flush()?, Answer::Flushed(lines));
+        assert_eq!(unit.memory()[4], 200);
+    }
+    Ok(())
+}
+
+/// Write-through takes no state with a dirty line, and none with a line requested for a
+/// store.
+#[test]
+fn states_of_write_back_alone() {
+    let mut requested = started(1, 1, 32);
+    assert_eq!(drain(&mut requested, 0, 9), Ok(Answer::Requested(0)));
+    let mut dirty = requested.clone();
+    assert_eq!(dirty.reply(), Ok(Answer::Filled(0)));
+    assert_eq!(dirty.idle(), Ok(Answer::Drained(1)));
+    for unit in [requested, dirty] {
+        let ill = damaged(&unit, layout::PROFILE, 1);
+        assert_eq!(ill.image().policy(), Some(WriteThrough));
+        refuses(&ill, Refusal::State, |u| u.idle());
+        assert_eq!(damaged(&ill, layout::PROFILE, 0), unit);
+    }
 }
 
 /// Figures that ask for more cache than there may be cost none.
@@ -239,6 +356,7 @@ fn what_an_image_tells() {
     let mut unit = busy();
     let image = unit.image();
     assert_eq!((image.figures(), image.memory_length()), (figures(1, 2), 48));
+    assert_eq!(image.policy(), Some(WriteBack));
     assert_eq!((image.last(), image.committed(), image.requested()), (3, 1, Some(1)));
     let store = HeldStore { number: 2, address: 8, width: 4, value: 0xCAFE };
     assert_eq!(image.stores()[..2], [store, HeldStore::default()]);
@@ -253,6 +371,17 @@ fn what_an_image_tells() {
     assert_eq!(image.tag(0), Some(filled));
     assert_eq!(image.tag(256), None);
     assert_eq!(Image::from_bytes(image.to_bytes()), *image);
+}
+
+#[test]
+fn policies_of_images() {
+    let unit = started_with(figures(1, 2).with_policy(WriteThrough), 48);
+    assert_eq!(unit.image().figures(), figures(1, 2).with_policy(WriteThrough));
+    assert_eq!(damaged(&unit, layout::PROFILE, 0), started(1, 2, 48));
+    for profile in NO_PROFILES {
+        let image = beside::with_word(unit.image(), layout::PROFILE, profile);
+        assert_eq!((image.policy(), image.figures()), (None, figures(1, 2)));
+    }
 }
 
 #[test]

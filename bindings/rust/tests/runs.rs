@@ -1,43 +1,70 @@
 //! Whole random runs from a start, on the library beside the Rust model: after
-//! every call image, cache and memory are the model's.
+//! every call image, cache and memory are the model's. What they met is counted apart
+//! for each write profile.
 //!
 //! NICOISETARN_TIMES=N in the environment makes N times as many calls.
 
 mod beside;
 
-use beside::{judge, times, Bench, Beside};
-use compare::counts::Counts;
+use beside::{in_each_profile, judge, times, Bench, Beside};
+use compare::counts::{Counts, Needed};
 use compare::met;
 use compare::random::{self, Mix, Rng, Run};
 use compare::types::{Answer, Call, Setup};
+use nicoisetarn::{Image, LINE, RECORDS};
+
+/// What runs met, for each of `PROFILES`.
+type ByProfile = [Counts; 2];
 
 /// Plays a run and counts what it met.
-fn play(run: &Run, counts: &mut Counts) -> Result<(), String> {
+fn play(run: &Run, counts: &mut ByProfile) -> Result<(), String> {
+    let counts = &mut counts[run.figures.policy as usize];
     let mut beside = Beside::new(&Bench::begin(run));
     for (place, &call) in run.calls.iter().enumerate() {
-        let dirty = dirty_lines(&beside.library, call);
+        let before = beside.library.image.clone();
         let answer = beside.play(call).map_err(|what| format!("call {place}, {what}"))?;
         counts.calls += 1;
         counts.met(met::name(answer), true);
         counts.met("accepted call", answer.accepted());
-        let evicted = dirty > dirty_lines(&beside.library, call);
-        counts.met("eviction of a dirty line", evicted && matches!(answer, Answer::Filled(_)));
         let retried = matches!((call, answer), (Call::Retry { .. }, Answer::Value { .. }));
         counts.met("inquiry answered", retried);
-        counts.met("flush of several lines", matches!(answer, Answer::Flushed(2..)));
         counts.met("line shown", matches!(answer, Answer::Shown(part) if part.length != 0));
+        count_writes(counts, answer, &before, &beside.library.image);
     }
     Ok(())
 }
 
-/// Dirty lines, where a call may evict one.
-fn dirty_lines(bench: &Bench, call: Call) -> usize {
-    let counted = if call == Call::Reply { bench.cache.len() / 16 } else { 0 };
-    (0..counted).filter(|record| bench.image.tag(*record).is_some_and(|tag| tag.dirty)).count()
+/// Counts where a call wrote, by the images before and after it.
+fn count_writes(counts: &mut Counts, answer: Answer, before: &Image, after: &Image) {
+    match answer {
+        Answer::Filled(_) => {
+            counts.met("eviction of a dirty line", dirty_lines(after) < dirty_lines(before));
+        }
+        Answer::Drained(_) => {
+            let line = before.stores()[0].address / LINE as u32;
+            counts.met("drain to an absent line", !is_present(before, line));
+            counts.met("drain to a present line", is_present(before, line));
+            counts.met("drain to a requested line", before.requested() == Some(line));
+        }
+        Answer::Flushed(lines) => {
+            counts.met("flush of a line", lines > 0);
+            counts.met("flush of several lines", lines > 1);
+        }
+        _ => {}
+    }
 }
 
-/// What both kinds of runs must meet, out of so many calls.
-const NEEDED: [(&str, u64); 14] = [
+fn dirty_lines(image: &Image) -> usize {
+    (0..RECORDS).filter(|record| image.tag(*record).is_some_and(|tag| tag.dirty)).count()
+}
+
+fn is_present(image: &Image, line: u32) -> bool {
+    let mut records = (0..RECORDS).filter_map(|record| image.tag(record));
+    records.any(|tag| tag.valid && tag.line == line)
+}
+
+/// What both kinds of runs must meet in each write profile, out of so many calls.
+const NEEDED: [(&str, u64); 13] = [
     ("accepted call", 2),
     ("stored", 20),
     ("value", 20),
@@ -47,12 +74,38 @@ const NEEDED: [(&str, u64); 14] = [
     ("committed", 40),
     ("request", 40),
     ("filled", 40),
-    ("eviction of a dirty line", 200),
     ("drained", 40),
+    ("drain to a present line", 200),
     ("idle", 50),
     ("flush", 500),
-    ("flush of several lines", 2_000),
 ];
+
+/// The write profiles by their numbers: what the runs of each must meet besides, and
+/// what they must not.
+const PROFILES: [(&str, &Needed, &[&str]); 2] = [
+    (
+        "write-back",
+        &[("eviction of a dirty line", 200), ("flush of several lines", 2_000)],
+        &["drain to an absent line"],
+    ),
+    (
+        "write-through",
+        &[("drain to an absent line", 200), ("drain to a requested line", 100_000)],
+        &["eviction of a dirty line", "flush of a line"],
+    ),
+];
+
+/// Prints what the runs of each write profile met, and fails where it is too little
+/// or what must not be.
+fn judge_each(what: &str, counts: &ByProfile, needed: &Needed) {
+    for ((profile, besides, never), counts) in PROFILES.iter().zip(counts) {
+        judge(&format!("{what}, {profile}"), counts, &[needed, besides].concat());
+        // "no call of a run after a start gives 1 or 10"
+        for name in never.iter().chain(&["refused 1", "refused 10"]) {
+            assert_eq!(counts.of(name), 0, "{what}, {profile}: {name}");
+        }
+    }
+}
 
 /// What short runs must meet besides.
 const NEEDED_OF_SHORT: [(&str, u64); 13] = [
@@ -73,7 +126,7 @@ const NEEDED_OF_SHORT: [(&str, u64); 13] = [
 
 #[test]
 fn short_runs() {
-    let mut counts = Counts::default();
+    let mut counts = ByProfile::default();
     for seed in 0..1_500 * times() {
         let run = random::run(seed ^ 0x5407_0000);
         if let Err(what) = play(&run, &mut counts) {
@@ -81,9 +134,7 @@ fn short_runs() {
         }
     }
     let needed = [&NEEDED[..], &NEEDED_OF_SHORT[..]].concat();
-    judge("short runs", &counts, &needed);
-    // "no call of a run after a start gives 1 or 10"
-    assert_eq!((counts.of("refused 1"), counts.of("refused 10")), (0, 0));
+    judge_each("short runs", &counts, &needed);
 }
 
 /// What the long runs begin with.
@@ -97,15 +148,15 @@ const SETUPS: [Setup; 5] = [
 
 #[test]
 fn long_runs() {
-    let mut counts = Counts::default();
+    let mut counts = ByProfile::default();
     for turn in 0..times() {
         let mut rng = Rng::new(turn ^ 0x1046_0000);
-        for setup in SETUPS {
+        for setup in in_each_profile(&SETUPS) {
             let run = random::script_run(&mut rng, setup, 25_000, Mix::Accepted);
             if let Err(what) = play(&run, &mut counts) {
                 panic!("turn {turn}, {setup:?}, {what}");
             }
         }
     }
-    judge("long runs", &counts, &NEEDED);
+    judge_each("long runs", &counts, &NEEDED);
 }

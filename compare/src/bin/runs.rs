@@ -7,7 +7,7 @@
 use std::process::ExitCode;
 
 use compare::arguments;
-use compare::counts::Counts;
+use compare::counts::ByProfile;
 use compare::dropped;
 use compare::examine::{examine, Checks};
 use compare::fault::Fault;
@@ -43,9 +43,10 @@ fn read() -> Result<Arguments, String> {
 fn play_only(seed: u64) -> Result<(), String> {
     let run = random::run(seed);
     println!(
-        "seed {seed}: sets {}, ways {}, memory {}, first last {}",
+        "seed {seed}: sets {}, ways {}, policy {:?}, memory {}, first last {}",
         run.figures.sets,
         run.figures.ways,
+        run.figures.policy,
         run.found.len(),
         run.numbered
     );
@@ -60,11 +61,11 @@ fn play_only(seed: u64) -> Result<(), String> {
 
 /// Plays many runs and tells what they met.
 fn play_many(runs: u64, seed: u64) -> Result<(), String> {
-    let mut counts = Counts::default();
+    let mut counts = ByProfile::default();
     for at in 0..runs {
         let run = random::run(seed.wrapping_add(at));
         let met = examine(&run, Fault::None.step(), Checks::ALL);
-        counts.add(&met.map_err(|failure| failure.to_string())?);
+        counts.add(run.figures.policy, &met.map_err(|failure| failure.to_string())?);
     }
     print!("{counts}");
     let lacking = counts.lacking();

@@ -16,10 +16,14 @@ pub struct Judged {
 }
 
 impl Judged {
-    /// An accepted start over memory that is found with byte a % 251 + 1 at a.
+    /// An accepted start in write-back.
     pub fn new(sets: u32, ways: u32, length: usize) -> Judged {
+        Judged::start(Figures::new(sets, ways), length)
+    }
+
+    /// An accepted start over memory that is found with byte a % 251 + 1 at a.
+    pub fn start(figures: Figures, length: usize) -> Judged {
         let memory = (0..length).map(|a| (a % 251 + 1) as u8).collect();
-        let figures = Figures::new(sets, ways);
         let cache = vec![0xA5; check::cache_length(figures)];
         let mut judged = Judged { state: State::zero(), cache, memory };
         assert_eq!(judged.call(Call::Start { figures }), Answer::Ready);

@@ -5,6 +5,16 @@ use model::Answer;
 use model::Call;
 use model::StartAnswer;
 use rules::Figures;
+use rules::WritePolicy;
+
+// So many sets of two ways, write-back.
+fn two_ways(sets: u32) -> Figures {
+    Figures {
+        sets,
+        ways: 2,
+        policy: WritePolicy::WriteBack,
+    }
+}
 
 // Whether the start was accepted.
 fn is_started(r: StartAndStep) -> bool {
@@ -37,20 +47,10 @@ fn is_stored(r: StartAndStep, i: u32) -> bool {
 pub(crate) fn lent_part() {
     let mut cache = [7u8; 64];
     let mut memory = [0u8; 256];
-    let r = lent::start_then_step(
-        Figures { sets: 2, ways: 2 },
-        Call::Store(0, 1, 9),
-        &mut cache,
-        &mut memory,
-    );
+    let r = lent::start_then_step(two_ways(2), Call::Store(0, 1, 9), &mut cache, &mut memory);
     report(b"a lent state is started", is_started(r));
     report(b"and stepped", is_stored(r, 1));
-    let refused = lent::start_then_step(
-        Figures { sets: 3, ways: 2 },
-        Call::Store(0, 1, 9),
-        &mut cache,
-        &mut memory,
-    );
+    let refused = lent::start_then_step(two_ways(3), Call::Store(0, 1, 9), &mut cache, &mut memory);
     report(b"3 sets are refused", !is_started(refused));
     report(b"and so is the call", is_refused(refused, 1));
 }

@@ -5,9 +5,11 @@ use model::Started;
 use model::State;
 use rules::Figures;
 use rules::Tag;
+use rules::WritePolicy;
 
 mod answers;
 mod lent_run;
+mod through_run;
 
 // The address of the run: byte 2 of the line at 48, which is line 3, in set 1.
 const ADDRESS: u32 = 50;
@@ -133,7 +135,11 @@ fn is_ready(r: Started) -> bool {
 
 // The start, on a cache of other bytes.
 fn start_part(cache: &mut [u8], memory: &[u8]) -> State {
-    let figures = Figures { sets: 2, ways: 2 };
+    let figures = Figures {
+        sets: 2,
+        ways: 2,
+        policy: WritePolicy::WriteBack,
+    };
     let r = State::start(figures, cache, memory);
     report(b"start is ready", is_ready(r));
     report(b"the cache is zeroed", byte_is(cache, 63, 0));
@@ -241,4 +247,5 @@ fn main() {
     let requested = request_part(flushed, &mut cache, &mut memory);
     trace_part(requested, cache, memory);
     lent_run::lent_part();
+    through_run::through_part();
 }

@@ -17,12 +17,14 @@ use Rattle.rules.specs.declared.StoreEntry.{StoreEntry}
 use Rattle.rules.specs.declared.LoadEntry.{LoadEntry}
 use Rattle.rules.specs.declared.Request.{Request}
 use Rattle.rules.specs.declared.Request.the-variants.{Free, Line}
+use Rattle.rules.specs.declared.WritePolicy.{WritePolicy}
+use Rattle.rules.specs.declared.WritePolicy.the-variants.{WriteBack, WriteThrough}
 use Rattle.model.specs.declared.State.{State}
 use Rattle.images.specs.declared.StoreImage.{StoreImage}
 use Rattle.images.specs.declared.LoadImage.{LoadImage}
 use Rattle.images.specs.declared.TagImage.{TagImage}
 use Rattle.images.specs.declared.Image.{Image}
-use Rattle.images.specs.Images.{flagOf, isSet, isFlag, openedRequest, requestedOf, lineNamed, requestStands, openedStore, imagedStore, openedLoad, imagedLoad, loadStands, openedTag, imagedTag, tagStands, zeroImage, figured, bounded, usedOf, usedRecords, openedTags, openedWith, openedOf, openedFirst, imagedWith, imagedOf, standsWith, standsFor, standsFirst}
+use Rattle.images.specs.Images.{flagOf, isSet, isFlag, openedRequest, requestedOf, lineNamed, requestStands, openedProfile, profileOf, isProfile, openedStore, imagedStore, openedLoad, imagedLoad, loadStands, openedTag, imagedTag, tagStands, zeroImage, figured, bounded, usedOf, usedRecords, openedTags, openedWith, openedOf, openedFirst, imagedWith, imagedOf, standsWith, standsFor, standsFirst}
 use Rattle.images.specs.Claims.{ImagesStandForStates}
 use Rattle.images.proofs.Mapped.{joined, back, back-every, every-made, every-most}
 
@@ -62,6 +64,19 @@ request-stand : (r : Request) → requestStands (requestedOf r) (lineNamed r) �
 unfolding requestStands
 request-stand Free = refl
 request-stand (Line l) = refl
+
+opened-profile : (p : WritePolicy) → openedProfile (profileOf p) ≡ p
+opened-profile WriteBack = refl
+opened-profile WriteThrough = refl
+
+profile-stand : (p : WritePolicy) → isProfile (profileOf p) ≡ true
+profile-stand WriteBack = refl
+profile-stand WriteThrough = refl
+
+imaged-profile : (n : ℕ) → isProfile n ≡ true → profileOf (openedProfile n) ≡ n
+imaged-profile n e =
+    cases (eqb n 1) (λ t. rw t (sym (eqb-true n 1 t)))
+    (λ t. let z : n ≡ 0 = omega (arith, leb-true n 1 e, eqb-false n 1 t) in rw z)
 
 opened-store : (s : StoreEntry) → openedStore (imagedStore s) ≡ s
 unfolding openedStore imagedStore
@@ -214,7 +229,7 @@ module _ (n l : ℕ) (e : requestStands n l ≡ true) where
 pub opened-imaged : (s : State) → openedOf (imagedOf s) ≡ s
 unfolding openedWith openedOf imagedWith imagedOf
 opened-imaged s = λ j. record {
-  figures = s .figures;
+  figures = record { sets = s .figures .sets; ways = s .figures .ways; policy = opened-profile (s .figures .policy) j };
   size = s .size;
   last = s .last;
   committed = s .committed;
@@ -227,17 +242,20 @@ opened-imaged s = λ j. record {
 imaged-stands : (s : State) → standsFor (imagedOf s) ≡ true
 unfolding standsWith standsFor imagedWith imagedOf
 imaged-stands s =
-    and-both _ _ (request-stand (s .request))
-    (and-both _ _ (every-made imagedLoad loadStands load-stand (s .loads)) (every-made imagedTag tagStands tag-stand (s .tags)))
+    and-both _ _ (profile-stand (s .figures .policy))
+    (and-both _ _ (request-stand (s .request))
+    (and-both _ _ (every-made imagedLoad loadStands load-stand (s .loads)) (every-made imagedTag tagStands tag-stand (s .tags))))
 
 pub imaged-opened : (i : Image) → standsFor i ≡ true → imagedOf (openedOf i) ≡ i
 unfolding standsWith standsFor openedWith openedOf imagedWith imagedOf
 imaged-opened i e =
-    let register : requestStands (i .requested) (i .line) ≡ true = and-left (requestStands (i .requested) (i .line)) _ e in
-    let rest : (every loadStands (i .loads) && every tagStands (i .tags)) ≡ true = and-right (requestStands (i .requested) (i .line)) _ e in
+    let flags = and-right (isProfile (i .profile)) _ e in
+    let register : requestStands (i .requested) (i .line) ≡ true = and-left (requestStands (i .requested) (i .line)) _ flags in
+    let rest : (every loadStands (i .loads) && every tagStands (i .tags)) ≡ true = and-right (requestStands (i .requested) (i .line)) _ flags in
     λ j. record {
       sets = i .sets;
       ways = i .ways;
+      profile = imaged-profile (i .profile) (and-left (isProfile (i .profile)) _ e) j;
       size = i .size;
       last = i .last;
       committed = i .committed;

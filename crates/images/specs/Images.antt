@@ -5,13 +5,15 @@ use mathlib.Core.List.{List, map, _++_}
 use lib.Dec.{leb, eqb}
 use lib.ListN.{length, take, drop, replicate}
 use Rattle.lists.specs.Padded.{every}
-use Rattle.rules.specs.Shape.{noTag}
+use Rattle.rules.specs.Shape.{geometry, noTag}
 use Rattle.rules.specs.declared.Figures.{Figures}
 use Rattle.rules.specs.declared.Tag.{Tag}
 use Rattle.rules.specs.declared.StoreEntry.{StoreEntry}
 use Rattle.rules.specs.declared.LoadEntry.{LoadEntry}
 use Rattle.rules.specs.declared.Request.{Request}
 use Rattle.rules.specs.declared.Request.the-variants.{Free, Line}
+use Rattle.rules.specs.declared.WritePolicy.{WritePolicy}
+use Rattle.rules.specs.declared.WritePolicy.the-variants.{WriteBack, WriteThrough}
 use Rattle.model.specs.declared.State.{State}
 use Rattle.images.specs.declared.StoreImage.{StoreImage}
 use Rattle.images.specs.declared.LoadImage.{LoadImage}
@@ -51,6 +53,20 @@ lineNamed (Line l) = l
 -- free with line 0, or a line is named
 unfoldable pub requestStands : ℕ → ℕ → Bool
 requestStands requested line = cond (eqb requested 0) (eqb line 0) (eqb requested 1)
+
+-- ---- the profile: the write policy by its number
+
+abbrev pub profileOf : WritePolicy → ℕ
+profileOf WriteBack = 0
+profileOf WriteThrough = 1
+
+-- the policy of a number; write-back for a number that no profile has
+abbrev pub openedProfile : ℕ → WritePolicy
+openedProfile n = cond (eqb n (profileOf WriteThrough)) WriteThrough WriteBack
+
+-- a number that stands for one
+abbrev pub isProfile : ℕ → Bool
+isProfile n = leb n 1
 
 -- ---- entries and records
 
@@ -115,12 +131,12 @@ openedTags n tags = map openedTag (take n tags) ++ replicate (length tags - n) n
 -- ---- the whole
 
 -- figures by their numbers
-abbrev pub figuresWith : ℕ → ℕ → Figures
-figuresWith sets ways = record { sets = sets; ways = ways }
+abbrev pub figuresWith : ℕ → ℕ → ℕ → Figures
+figuresWith sets ways profile = geometry (openedProfile profile) sets ways
 
 -- the figures that an image holds
 abbrev pub figuresOf : Image → Figures
-figuresOf i = figuresWith (i .sets) (i .ways)
+figuresOf i = figuresWith (i .sets) (i .ways) (i .profile)
 
 -- the state of an image, with these records
 unfoldable pub openedWith : List Tag → Image → State
@@ -148,6 +164,7 @@ unfoldable pub imagedWith : List TagImage → State → Image
 imagedWith images s = record {
   sets = s .figures .sets;
   ways = s .figures .ways;
+  profile = profileOf (s .figures .policy);
   size = s .size;
   last = s .last;
   committed = s .committed;
@@ -162,9 +179,11 @@ imagedWith images s = record {
 unfoldable pub imagedOf : State → Image
 imagedOf s = imagedWith (map imagedTag (s .tags)) s
 
--- every flag is 0 or 1 in the register, the loads and these records, and a free register's line is 0
+-- there is such a profile; every flag is 0 or 1 in the register, the loads and these records; and a free register's line is 0
 unfoldable pub standsWith : List TagImage → Image → Bool
-standsWith tags i = requestStands (i .requested) (i .line) && (every loadStands (i .loads) && every tagStands tags)
+standsWith tags i =
+    isProfile (i .profile)
+    && (requestStands (i .requested) (i .line) && (every loadStands (i .loads) && every tagStands tags))
 
 -- an image that stands for a state
 unfoldable pub standsFor : Image → Bool

@@ -1,16 +1,23 @@
-// Images of the state: numbers in place of its truth values and its miss register, so that any bytes are an image. A state is
+// Images of the state: numbers in place of its truth values, its write policy and its miss register, so that any bytes are an image. A state is
 // opened from its image, and an image made of a state; which images stand for a state.
 ghost use mathlib.Core.Path.{_≡_};
-ghost use Rattle.images.specs.Images.{usedRecords, openedFirst, imagedWith, imagedOf, standsFirst};
+ghost use Rattle.images.specs.Images.{openedProfile, profileOf, isProfile, figuresWith, usedRecords, openedFirst, imagedWith, imagedOf, standsFirst};
 ghost use Rattle.images.specs.Claims.{ImagesStandForStates};
 use model::State;
 use rules::Figures;
 use rules::LOAD_PLACES;
 use rules::STORE_PLACES;
 use rules::TAG_RECORDS;
+use rules::WritePolicy;
 
 mod queues;
 mod tags;
+
+// ---- profiles by numbers
+
+pub const PROFILE_WRITE_BACK: u32 = 0;
+
+pub const PROFILE_WRITE_THROUGH: u32 = 1;
 
 // ---- the image
 
@@ -52,6 +59,8 @@ pub struct Image {
     // the figures, one after the other
     pub sets: u32,
     pub ways: u32,
+    // the number of the profile
+    pub profile: u32,
     // the memory length
     pub size: u32,
     // the last number given, and the committed number
@@ -80,15 +89,45 @@ pub fn used_records(image: Image) -> usize
     TAG_RECORDS
 }
 
+// The write policy of a profile's number; write-back for a number that no profile has.
+fn open_profile(profile: u32) -> WritePolicy
+    ensures { λ r. ⌜ r ≡ openedProfile profile ⌝ }
+{
+    if profile == PROFILE_WRITE_THROUGH {
+        return WritePolicy::WriteThrough;
+    }
+    WritePolicy::WriteBack
+}
+
+// Figures by their numbers; with write-back where no profile has the number.
+pub fn figures_with(sets: u32, ways: u32, profile: u32) -> Figures
+    ensures { λ r. ⌜ r ≡ figuresWith sets ways profile ⌝ }
+{
+    Figures {
+        sets,
+        ways,
+        policy: open_profile(profile),
+    }
+}
+
+// A number that stands for a profile.
+pub fn is_profile(profile: u32) -> bool
+    ensures { λ r. ⌜ r ≡ isProfile profile ⌝ }
+{
+    profile <= PROFILE_WRITE_THROUGH
+}
+
 // The image stands for a state, as far as its first n records tell.
 pub fn stands(image: Image, n: usize) -> bool
     ensures { λ r. ⌜ r ≡ standsFirst n image ⌝ }
 {
-    if queues::request_stands(image.requested, image.line) {
-        let loads = image.loads;
-        if queues::loads_stand(loads) {
-            let tags = image.tags;
-            return tags::tags_stand(tags, n);
+    if is_profile(image.profile) {
+        if queues::request_stands(image.requested, image.line) {
+            let loads = image.loads;
+            if queues::loads_stand(loads) {
+                let tags = image.tags;
+                return tags::tags_stand(tags, n);
+            }
         }
     }
     false
@@ -102,10 +141,7 @@ pub fn opened(image: Image, n: usize) -> State
     let loads = image.loads;
     let tags = image.tags;
     State {
-        figures: Figures {
-            sets: image.sets,
-            ways: image.ways,
-        },
+        figures: figures_with(image.sets, image.ways, image.profile),
         size: image.size,
         last: image.last,
         committed: image.committed,
@@ -118,17 +154,29 @@ pub fn opened(image: Image, n: usize) -> State
 
 // ---- from a state to an image
 
+// The number of a write policy's profile.
+fn profile_of(policy: WritePolicy) -> u32
+    ensures { λ r. ⌜ r ≡ profileOf policy ⌝ }
+{
+    match policy {
+        WritePolicy::WriteBack => PROFILE_WRITE_BACK,
+        WritePolicy::WriteThrough => PROFILE_WRITE_THROUGH,
+    }
+}
+
 // The image of a state, with these images of its records.
 pub fn imaged_with(images: [TagImage; TAG_RECORDS], state: State) -> Image
     ensures { λ r. ⌜ r ≡ imagedWith images state ⌝ }
 {
     let figures = state.figures;
+    let policy = figures.policy;
     let request = state.request;
     let stores = state.stores;
     let loads = state.loads;
     Image {
         sets: figures.sets,
         ways: figures.ways,
+        profile: profile_of(policy),
         size: state.size,
         last: state.last,
         committed: state.committed,

@@ -17,9 +17,12 @@ use Rattle.lists.proofs.Cond.{either, cases, and-left, and-right, and-both, wro
 use Rattle.lists.proofs.Counting.{each-length}
 use Rattle.lists.proofs.CountedLoops.{change, changes-each, each-id, each-ext}
 use Rattle.rules.specs.declared.Tag.{Tag}
+use Rattle.rules.specs.declared.StoreEntry.{StoreEntry}
+use Rattle.rules.specs.declared.WritePolicy.{WritePolicy}
+use Rattle.rules.specs.declared.WritePolicy.the-variants.{WriteBack, WriteThrough}
 use Rattle.rules.specs.Shape.{Hierarchy, holding, noFigures, noTag, tagAt, withDirty, lineOf}
-use Rattle.rules.specs.Lines.{dirtyAt, writtenBackAt, writeBackSlot, copiedAt}
-use Rattle.line_bytes.specs.Writes.{lineInside, filledAt, lineFilled, lineWritten, linesWritten, flushedMemory, DirtyInside, placesInside, storePut}
+use Rattle.rules.specs.Lines.{dirtyAt, writtenThroughAt, writtenBackAt, writeBackSlot, copiedAt}
+use Rattle.line_bytes.specs.Writes.{lineInside, filledAt, lineFilled, lineWritten, linesWritten, flushedMemory, DirtyInside, placesInside, storePut, storedThrough}
 
 -- ---- a line of 16 bytes
 
@@ -235,3 +238,23 @@ module _ (p w v : ℕ) (bytes : List ℕ) where
   pub put-outside : placesInside p w (length bytes) ≡ false → bytes ≡ storePut p w v bytes
   unfolding storePut
   put-outside e = rw e
+
+-- ---- a drained store
+
+module _ (e : StoreEntry) (memory : List ℕ) where
+  -- write-back leaves memory as it is, write-through puts the store in its place
+  pub drained-back : (p : WritePolicy) → p ≡ WriteBack → memory ≡ storedThrough p e memory
+  unfolding storedThrough
+  drained-back p b = rw b
+
+  pub drained-through :
+      (p : WritePolicy) → p ≡ WriteThrough → storePut (e .address) (e .width) (e .value) memory ≡ storedThrough p e memory
+  unfolding storedThrough
+  drained-through p t = rw t
+
+  -- as the rules have it, where the store lies in memory
+  pub drained-inside :
+      (p : WritePolicy) → e .width ≤ 4 → e .address + e .width ≤ length memory → storedThrough p e memory ≡ eachFrom (writtenThroughAt p e) 0 memory
+  unfolding storedThrough writtenThroughAt
+  drained-inside WriteBack h k = sym (each-id memory)
+  drained-inside WriteThrough h k = put-inside (e .address) (e .width) (e .value) memory h k

@@ -1,4 +1,4 @@
--- What is written to lent bytes, on any numbers and bytes: a line filled, lines written back, a store put in its place.
+-- What is written to lent bytes, on any numbers and bytes: a line filled, lines written back, a store put in its place, a store drained.
 -- Where the places do not lie in the bytes, nothing changes.
 use Prim.Native.Nat.{ℕ, _+_, _*_, _/_, _%_, _<_, _≤_}
 use mathlib.Core.Path.{_≡_}
@@ -9,6 +9,9 @@ use lib.ListN.{length, getD}
 use Rattle.lists.specs.Counted.{stepsFrom, eachFrom}
 use Rattle.lists.specs.Bytes.{overlaid}
 use Rattle.rules.specs.declared.Tag.{Tag}
+use Rattle.rules.specs.declared.StoreEntry.{StoreEntry}
+use Rattle.rules.specs.declared.WritePolicy.{WritePolicy}
+use Rattle.rules.specs.declared.WritePolicy.the-variants.{WriteBack, WriteThrough}
 use Rattle.rules.specs.Shape.{noFigures, lineBytes, tableSize, tagAt}
 use Rattle.rules.specs.Lines.{writtenBackAt, writeBackSlot}
 
@@ -55,3 +58,8 @@ placesInside p w n = leb w 4 && leb (p + w) n
 -- the lowest w bytes of a value stand from place p on
 unfoldable pub storePut : ℕ → ℕ → ℕ → List ℕ → List ℕ
 storePut p w value bytes = cond (placesInside p w (length bytes)) (eachFrom (overlaid p w value) 0 bytes) bytes
+
+-- memory, once store e is drained under a write policy
+unfoldable pub storedThrough : WritePolicy → StoreEntry → List ℕ → List ℕ
+storedThrough WriteBack e memory = memory
+storedThrough WriteThrough e memory = storePut (e .address) (e .width) (e .value) memory

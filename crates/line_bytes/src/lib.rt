@@ -1,5 +1,5 @@
-// The bytes of lines, in a lent cache and a lent memory: a line filled, a line written back, a store put in its place, and what a
-// load reads: each byte from the held stores, else from the cached line.
+// The bytes of lines, in a lent cache and a lent memory: a line filled, a line written back, a store put in its place or drained to
+// memory, and what a load reads: each byte from the held stores, else from the cached line.
 // A public function takes any record, any numbers and bytes of any length. Where the places do not lie in the bytes it changes
 // nothing, or reads nothing.
 // A line of the cache is named by its slot, s × ways + w for way w of set s.
@@ -8,7 +8,7 @@ ghost use mathlib.Core.Bool.{true};
 ghost use Prim.Native.Nat.{_+_, _<_, _≤_};
 ghost use lib.ListN.{length};
 ghost use Rattle.lists.specs.Bytes.{gather};
-ghost use Rattle.line_bytes.specs.Writes.{placesInside, lineFilled, lineWritten, linesWritten, storePut};
+ghost use Rattle.line_bytes.specs.Writes.{placesInside, lineFilled, lineWritten, linesWritten, storePut, storedThrough};
 ghost use Rattle.line_bytes.specs.Reads.{readable, byteFrom, byteOrLine, joinedTo, readOf, bytesRead, isLacking};
 use rules::LINE_LENGTH;
 use rules::MAX_MEMORY;
@@ -16,6 +16,7 @@ use rules::STORE_PLACES;
 use rules::StoreEntry;
 use rules::TAG_RECORDS;
 use rules::Tag;
+use rules::WritePolicy;
 use store_queue::Byte;
 
 // "Widths are 1, 2 or 4."
@@ -104,6 +105,15 @@ pub fn put_store(bytes: &mut [u8], at: usize, width: u32, value: u32)
             rest = rest / 256;
             i += 1;
         }
+    }
+}
+
+// A store is drained: with write-through its bytes go to memory.
+pub fn write_through(policy: WritePolicy, s: StoreEntry, memory: &mut [u8])
+    ensures { λ _. ⌜ now (memory .exit) ≡ storedThrough policy s (now (memory .entry)) ⌝ }
+{
+    if let WritePolicy::WriteThrough = policy {
+        put_store(memory, s.address as usize, s.width, s.value);
     }
 }
 

@@ -18,7 +18,7 @@ use Rattle.lists.proofs.Counting.{all-at, all-by, every-drop}
 use Rattle.lists.proofs.CountedLoops.{all-end}
 use Rattle.rules.specs.declared.Figures.{Figures}
 use Rattle.rules.specs.declared.Tag.{Tag}
-use Rattle.rules.specs.Shape.{Hierarchy, noTag, tagAt, slots, firstSlot, setsAllowed, waysAllowed, figuresAllowed, fits}
+use Rattle.rules.specs.Shape.{Hierarchy, noTag, tagAt, slots, firstSlot, setsAllowed, waysAllowed, figuresAllowed, isThrough, fits}
 use Rattle.rules.specs.Lines.{holdsLine, dirtyAt}
 use Rattle.rules.specs.WellFormed.{zeroTag, linesFormed}
 use Rattle.rules.proofs.Records.{set-room}
@@ -61,6 +61,7 @@ module _ (f : Figures) (size : ℕ) (cache memory : List ℕ) (s k : ℕ) (t : T
     pub inside : 16 * t .line < size
     pub own : t .line % f .sets ≡ s
     pub clean : (i : ℕ) → dirtyAt t i ≡ false → i < 16 → getD cache (16 * k + i) 0 ≡ getD memory (16 * t .line + i) 0
+    pub undirty : isThrough (f .policy) ≡ true → t .dirty ≡ false
 
   -- and of an invalid one
   pub record Invalid : Type 0 where
@@ -75,12 +76,16 @@ module _ (f : Figures) (size : ℕ) (cache memory : List ℕ) (s k : ℕ) (t : T
   valid-tells : good ≡ true → t .valid ≡ true → Valid
   unfolding slotGood validGood sameBytes
   valid-tells e v =
-      let g : validGood (f .sets) size cache memory s k t ≡ true = rw v at (and-right (ltb (t .age) (f .ways)) _ e) in
+      let g : validGood f size cache memory s k t ≡ true = rw v at (and-right (ltb (t .age) (f .ways)) _ e) in
       let h = and-right (ltb (16 * t .line) size) _ g in
       record {
         inside = ltb-true (16 * t .line) size (and-left (ltb (16 * t .line) size) _ g);
         own = eqb-true (t .line % f .sets) s (and-left (eqb (t .line % f .sets) s) _ h);
-        clean = λ i d l. eqb-true _ _ (all-at _ 16 0 (or-then (t .dirty) _ (and-right (eqb (t .line % f .sets) s) _ h) (sym (whole-line t i) ∙ d)) i (omega arith) (omega arith));
+        clean = λ i d l.
+            let same : sameBytes cache (16 * k) memory (16 * t .line) ≡ true = rw (sym (whole-line t i) ∙ d) at (and-right (eqb (t .line % f .sets) s) _ h) in
+            eqb-true _ _ (all-at _ 16 0 same i (omega arith) (omega arith));
+        undirty = λ w.
+            cases (t .dirty) (λ d. let back : not (isThrough (f .policy)) ≡ true = rw d at (and-right (eqb (t .line % f .sets) s) _ h) in wrong w (not-true _ back)) (λ d. d);
       }
 
   invalid-tells : good ≡ true → t .valid ≡ false → Invalid
@@ -104,7 +109,9 @@ module _ (f : Figures) (size : ℕ) (cache memory : List ℕ) (s k : ℕ) (t : T
       rw v
       (and-both _ _ (lt-ltb (16 * t .line) size (h .inside))
       (and-both _ _ (eq-eqb (t .line % f .sets) s (h .own))
-      (or-by _ _ (λ d. all-by _ 16 0 (λ i p q. eq-eqb _ _ (h .clean i (whole-line t i ∙ d) (omega arith))))))))
+      (cases (t .dirty)
+      (λ d. rw d (cases (isThrough (f .policy)) (λ w. wrong d (h .undirty w)) (λ w. rw w)))
+      (λ d. rw d (all-by _ 16 0 (λ i p q. eq-eqb _ _ (h .clean i (whole-line t i ∙ d) (omega arith)))))))))
       (λ v.
       let h = g v in
       rw v
@@ -220,6 +227,7 @@ module _ (b : Hierarchy) (g : Good b) (s w : ℕ) (s-in : s < b .figures .sets) 
               inside = g .lines .inside k v;
               own = same-set _ s w (b .figures .ways) w-in (g .lines .own k v .0) (g .lines .own k v .1);
               clean = λ i d l. g .clean k i v d l;
+              undirty = λ w. g .none-dirty w k;
             })
             (λ v. record {
               undirty = g .empty k v .0;
@@ -324,6 +332,12 @@ module _ (b : Hierarchy) (fit : Fits b) (table : length (b .tags) ≡ 256) (unus
             ];
         zeroed = λ k i h v l.
             by-way (λ k. tagAt (b .tags) k .valid ≡ false → getD (b .cache) (16 * k + i) 0 ≡ 0) (λ s w p q v. invalid-at s w p q v .zeroed i l) k h v;
+        none-dirty = λ t k.
+            elim (decLt k (slots b)) [
+              | yes h ↦ by-way (λ k. tagAt (b .tags) k .dirty ≡ false)
+                  (λ s w p q. cases (tag b s w .valid) (λ v. valid-at s w p q v .undirty t) (λ v. invalid-at s w p q v .undirty)) k h
+              | no h ↦ ap (λ (t : Tag). t .dirty) (past k (omega arith))
+            ];
       }
 
 -- ---- the answer

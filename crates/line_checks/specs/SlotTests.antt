@@ -7,6 +7,7 @@ use lib.ListN.{getD}
 use Rattle.lists.specs.Counted.{allFrom}
 use Rattle.rules.specs.declared.Figures.{Figures}
 use Rattle.rules.specs.declared.Tag.{Tag}
+use Rattle.rules.specs.Shape.{isThrough}
 use Rattle.rules.specs.Lines.{holdsLine}
 
 -- 16 bytes of the cache equal 16 bytes of memory
@@ -18,9 +19,11 @@ unfoldable pub zeroBytes : List ℕ → ℕ → Bool
 zeroBytes cache at = allFrom (λ i. eqb (getD cache (at + i) 0) 0) 0 16
 
 -- a valid record in slot k of set s
-unfoldable pub validGood : ℕ → ℕ → List ℕ → List ℕ → ℕ → ℕ → Tag → Bool
-validGood sets size cache memory s k t =
-    ltb (16 * t .line) size && (eqb (t .line % sets) s && (t .dirty || sameBytes cache (16 * k) memory (16 * t .line)))
+unfoldable pub validGood : Figures → ℕ → List ℕ → List ℕ → ℕ → ℕ → Tag → Bool
+validGood f size cache memory s k t =
+    ltb (16 * t .line) size
+    && (eqb (t .line % f .sets) s
+    && cond (t .dirty) (not (isThrough (f .policy))) (sameBytes cache (16 * k) memory (16 * t .line)))
 
 -- an invalid record in slot k
 unfoldable pub invalidGood : List ℕ → ℕ → Tag → Bool
@@ -29,7 +32,7 @@ invalidGood cache k t = not (t .dirty) && (eqb (t .line) 0 && zeroBytes cache (1
 -- a record in slot k of set s
 unfoldable pub slotGood : Figures → ℕ → List ℕ → List ℕ → ℕ → ℕ → Tag → Bool
 slotGood f size cache memory s k t =
-    ltb (t .age) (f .ways) && cond (t .valid) (validGood (f .sets) size cache memory s k t) (invalidGood cache k t)
+    ltb (t .age) (f .ways) && cond (t .valid) (validGood f size cache memory s k t) (invalidGood cache k t)
 
 -- two records of a set that may not stand together
 unfoldable pub sameAgeOrLine : Tag → Tag → Bool

@@ -2,13 +2,13 @@
 // A public function takes any figures, records and buffers, and its answer is a definition of the rules.
 // A record is named by its slot, s × ways + w for way w of set s.
 ghost use mathlib.Core.Path.{_≡_};
-ghost use mathlib.Core.Bool.{true, _||_};
+ghost use mathlib.Core.Bool.{true, not, _||_};
 ghost use mathlib.Core.List.{[]};
 ghost use Prim.Native.Nat.{_+_, _*_, _%_, _<_, _≤_};
 ghost use lib.ListN.{length, drop};
 ghost use Rattle.lists.specs.Bytes.{valueAt};
 ghost use Rattle.lists.specs.Padded.{every};
-ghost use Rattle.rules.specs.Shape.{setsAllowed, figuresAllowed, fits};
+ghost use Rattle.rules.specs.Shape.{setsAllowed, figuresAllowed, isThrough, fits};
 ghost use Rattle.rules.specs.WellFormed.{zeroTag, linesFormed};
 ghost use Rattle.line_checks.specs.Refusal.{hierarchy, linesRefusal};
 ghost use Rattle.line_checks.specs.SlotTests.{sameBytes, zeroBytes, validGood, invalidGood, slotGood, sameAgeOrLine, apartFrom};
@@ -23,6 +23,7 @@ use rules::MIN_MEMORY;
 use rules::NOT_WELL_FORMED;
 use rules::TAG_RECORDS;
 use rules::Tag;
+use rules::WritePolicy;
 
 // ---- figures and lengths
 
@@ -135,20 +136,40 @@ fn is_zero_line(cache: &[u8], at: usize) -> bool
     false
 }
 
-// A valid record t, in slot k of set s: "a valid line lies in memory, is in its own set", "clean lines equal memory".
-fn valid_good(t: Tag, s: u32, k: usize, sets: u32, size: u32, cache: &[u8], memory: &[u8]) -> bool
-    requires { ⌜ (0 < sets) × (16 * k + 16 ≤ length (now cache)) × (size % 16 ≡ 0) × (size ≤ length (now memory)) ⌝ }
-    ensures { λ r. ⌜ r ≡ validGood sets size (now (cache .entry)) (now (memory .entry)) s k t ⌝ }
+// With write-through no line is dirty.
+fn allows_dirty(policy: WritePolicy) -> bool
+    ensures { λ r. ⌜ r ≡ not (isThrough policy) ⌝ }
+{
+    match policy {
+        WritePolicy::WriteBack => true,
+        WritePolicy::WriteThrough => false,
+    }
+}
+
+// A valid record t, in slot k of set s: "a valid line lies in memory, is in its own set", "clean lines equal memory"; with write-through
+// "no line is dirty".
+fn valid_good(
+    t: Tag,
+    s: u32,
+    k: usize,
+    figures: Figures,
+    size: u32,
+    cache: &[u8],
+    memory: &[u8],
+) -> bool
+    requires { ⌜ (0 < figures .sets) × (16 * k + 16 ≤ length (now cache)) × (size % 16 ≡ 0) × (size ≤ length (now memory)) ⌝ }
+    ensures { λ r. ⌜ r ≡ validGood figures size (now (cache .entry)) (now (memory .entry)) s k t ⌝ }
 {
     let line = t.line as u32;
     if size <= LINE_BYTES * line {
         return false;
     }
-    if line % sets != s {
+    if line % figures.sets != s {
         return false;
     }
     if t.dirty {
-        return true;
+        let policy = figures.policy;
+        return allows_dirty(policy);
     }
     same_bytes(
         cache,
@@ -189,7 +210,7 @@ fn slot_good(
         return false;
     }
     if t.valid {
-        return valid_good(t, s, k, figures.sets, size, cache, memory);
+        return valid_good(t, s, k, figures, size, cache, memory);
     }
     invalid_good(t, k, cache)
 }

@@ -10,6 +10,7 @@ use Rattle.lists.specs.Padded.{every}
 use Rattle.lists.proofs.Cond.{cases}
 use Rattle.line_checks.specs.Refusal.{linesRefusal}
 use Rattle.rules.specs.declared.Request.{Request}
+use Rattle.rules.specs.declared.WritePolicy.{WritePolicy}
 use Rattle.rules.specs.declared.Request.the-variants.{Free, Line}
 use Rattle.rules.specs.Lines.{slotOf, present, useLine}
 use Rattle.rules.specs.Shape.{Queues, Hierarchy, fits, topNumber}
@@ -47,7 +48,7 @@ and-true false b c = refl
 
 -- all that is asked of the register
 abbrev pub requestGood : Queues → Hierarchy → Bool
-requestGood q b = requestAbsent (q .request) b && (requestInside (q .request) b && requestWanted (q .request) q)
+requestGood q b = requestAbsent (q .request) b && (requestInside (q .request) b && requestWanted (q .request) q (b .figures .policy))
 
 -- the number of checks 1 and 10, by what the code finds in the lines
 pub state-lines : (q : Queues) (b : Hierarchy) (k : ℕ) → k ≡ linesRefusal b → (k ≡ 0 → ⊥) → k ≡ guarded (stateChecks q b) (λ k. k) 0
@@ -62,8 +63,8 @@ module _ (q : Queues) (b : Hierarchy) (ss : length (q .stores) ≡ 16) (ls : len
   unfolding queuesFormed queuesGood every
   queues-parted =
       rw (eq-eqb (length (q .stores)) 16 ss, eq-eqb (length (q .loads)) 8 ls, le-leb (q .last) topNumber top)
-      (every-join entryClauses (requestAbsent (q .request) b ∷ requestInside (q .request) b ∷ requestWanted (q .request) q ∷ [])
-      ∙ ap (λ (t : Bool). queuesGood q b && t) (and-true (requestAbsent (q .request) b) (requestInside (q .request) b) (requestWanted (q .request) q)))
+      (every-join entryClauses (requestAbsent (q .request) b ∷ requestInside (q .request) b ∷ requestWanted (q .request) q (b .figures .policy) ∷ [])
+      ∙ ap (λ (t : Bool). queuesGood q b && t) (and-true (requestAbsent (q .request) b) (requestInside (q .request) b) (requestWanted (q .request) q (b .figures .policy))))
     where
       entryClauses : List Bool
       entryClauses =
@@ -103,16 +104,16 @@ module _ (s : State) (cache memory : List ℕ) where
 
   pub request-at :
       (r : Request)
-      → (requestAbsent r (tabled (s .figures) (s .tags)) && (requestInside r (sized (s .size)) && requestWanted r (queuesOf s)))
-      ≡ (requestAbsent r (hierarchyOf s cache memory) && (requestInside r (hierarchyOf s cache memory) && requestWanted r (queuesOf s)))
+      → (requestAbsent r (tabled (s .figures) (s .tags)) && (requestInside r (sized (s .size)) && requestWanted r (queuesOf s) (s .figures .policy)))
+      ≡ (requestAbsent r (hierarchyOf s cache memory) && (requestInside r (hierarchyOf s cache memory) && requestWanted r (queuesOf s) (s .figures .policy)))
   unfolding requestAbsent requestInside present slotOf
   request-at Free = refl
   request-at (Line l) = refl
 
-  pub wanted-at : (r : Request) → requestWanted r (queuesWith (s .committed) (s .stores) (s .loads)) ≡ requestWanted r (queuesOf s)
+  pub wanted-at : (r : Request) (w : WritePolicy) → requestWanted r (queuesWith (s .committed) (s .stores) (s .loads)) w ≡ requestWanted r (queuesOf s) w
   unfolding requestWanted storeReady
-  wanted-at Free = refl
-  wanted-at (Line l) = refl
+  wanted-at Free w = refl
+  wanted-at (Line l) w = refl
 
   pub ready-at : storeReady (queuesWith (s .committed) (s .stores) (s .loads)) ≡ storeReady (queuesOf s)
   unfolding storeReady
@@ -142,7 +143,7 @@ module _ (s : State) (cache memory : List ℕ) (ss : length (s .stores) ≡ 16) 
       state-malformed (queuesOf s) (hierarchyOf s cache memory) ss ls top (sym e ∙ z) (rw (sym entries ∙ t))
 
   module _ (t : good ≡ true) (asked : Bool)
-      (r : asked ≡ (requestAbsent (s .request) (tabled (s .figures) (s .tags)) && (requestInside (s .request) (sized (s .size)) && requestWanted (s .request) (queuesOf s)))) where
+      (r : asked ≡ (requestAbsent (s .request) (tabled (s .figures) (s .tags)) && (requestInside (s .request) (sized (s .size)) && requestWanted (s .request) (queuesOf s) (s .figures .policy)))) where
     register : asked ≡ requestGood (queuesOf s) (hierarchyOf s cache memory)
     register = r ∙ request-at s cache memory (s .request)
 

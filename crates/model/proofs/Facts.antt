@@ -37,19 +37,25 @@ access-width : (b : Hierarchy) (a w : ℕ) → passes (accessChecks b a w) ≡ t
 unfolding every
 access-width b a w p = twice (widthAllowed w) (and-left (not (not (widthAllowed w))) _ p)
 
+-- it lies in memory
+access-inside : (b : Hierarchy) (a w : ℕ) → passes (accessChecks b a w) ≡ true → a + w ≤ b .size
+unfolding every
+access-inside b a w p =
+    let p₂ = and-right (not (not (widthAllowed w))) _ p in
+    let p₄ = and-left (not (ltb (b .size) (a + w))) true (and-right (not (not (eqb (a % w) 0))) _ p₂) in
+    ltb-false (b .size) (a + w) (not-true _ p₄)
+
 -- it lies in one line of memory
 pub access-fine : (b : Hierarchy) (a w : ℕ) → b .size ≤ 65536 → passes (accessChecks b a w) ≡ true → InOneLine a w
 unfolding every
 access-fine b a w small p =
     let p₂ = and-right (not (not (widthAllowed w))) _ p in
     let p₃ = and-left (not (not (eqb (a % w) 0))) _ p₂ in
-    let p₄ = and-left (not (ltb (b .size) (a + w))) true (and-right (not (not (eqb (a % w) 0))) _ p₂) in
-    let inside : a + w ≤ b .size = ltb-false (b .size) (a + w) (not-true _ p₄) in
     width-cases (λ w. a % w ≡ 0 → a + w ≤ b .size → InOneLine a w)
     (λ m i. record { some-byte = omega arith; narrow = omega arith; one-line = omega arith; inside = omega arith })
     (λ m i. record { some-byte = omega arith; narrow = omega arith; one-line = omega arith; inside = omega arith })
     (λ m i. record { some-byte = omega arith; narrow = omega arith; one-line = omega arith; inside = omega arith })
-    w (access-width b a w p) (eqb-true (a % w) 0 (twice (eqb (a % w) 0) p₃)) inside
+    w (access-width b a w p) (eqb-true (a % w) 0 (twice (eqb (a % w) 0) p₃)) (access-inside b a w p)
 
 -- ---- figures
 
@@ -102,20 +108,25 @@ module _ (q : Queues) (b : Hierarchy) (small : b .size ≤ 65536) (p : Parts q b
       (or-then (isFreeLoad l) _ (load-passes b (q .last) (q .committed) (q .stores) l g) (not-true (isFreeLoad l) (and-left _ _ w)))
 
   -- the access of the oldest store, if it is ready
-  pub oldest-fine : storeReady q ≡ true → InOneLine (oldestStore q .address) (oldestStore q .width)
+  oldest-passes : storeReady q ≡ true → passes (accessChecks b (oldestStore q .address) (oldestStore q .width)) ≡ true
   unfolding storeReady committedStore storePasses freeStoreZero
-  oldest-fine e =
+  oldest-passes e =
       let s = oldestStore q in
       let held = not-true (isFreeStore s) (and-left _ _ (and-left _ _ e)) in
       let g = every-head (goodStore b (q .last)) noStore (q .stores) (good-store b (q .last) noStore refl (le-leb 0 (q .last) (omega arith)) refl) (p .stores-good) in
-      access-fine b (s .address) (s .width) small
-      (and-left _ _ (or-then (isFreeStore s) _ (store-passes b (q .last) s g) held))
+      and-left _ _ (or-then (isFreeStore s) _ (store-passes b (q .last) s g) held)
+
+  pub oldest-fine : storeReady q ≡ true → InOneLine (oldestStore q .address) (oldestStore q .width)
+  oldest-fine e = access-fine b (oldestStore q .address) (oldestStore q .width) small (oldest-passes e)
+
+  pub oldest-inside : storeReady q ≡ true → oldestStore q .address + oldestStore q .width ≤ b .size
+  oldest-inside e = access-inside b (oldestStore q .address) (oldestStore q .width) (oldest-passes e)
 
   -- a requested line lies in memory
   pub request-inside : (l : ℕ) → q .request ≡ Line l → 16 * l < b .size
   unfolding goodRequest requestInside
   request-inside l e =
-      let w : (requestAbsent (Line l) b && (requestInside (Line l) b && requestWanted (Line l) q)) ≡ true = subst (λ (r : Request). (requestAbsent r b && (requestInside r b && requestWanted r q)) ≡ true) e (p .wanted) in
+      let w : (requestAbsent (Line l) b && (requestInside (Line l) b && requestWanted (Line l) q (b .figures .policy))) ≡ true = subst (λ (r : Request). (requestAbsent r b && (requestInside r b && requestWanted r q (b .figures .policy))) ≡ true) e (p .wanted) in
       ltb-true (16 * l) (b .size) (and-left _ _ (and-right (requestAbsent (Line l) b) _ w))
 
 -- ---- what a well-formed state leaves

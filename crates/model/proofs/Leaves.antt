@@ -7,7 +7,6 @@ use mathlib.Core.List.{List}
 use native.Mathlib.Omega.{arith}
 use lib.Dec.{ltb}
 use lib.ListN.{length}
-use borrow.Author.Tests.{ltb-true}
 use Rattle.lists.specs.Counted.{firstFrom, stepsFrom}
 use Rattle.lists.proofs.Counting.{first-high}
 use Rattle.rules.specs.declared.Tag.{Tag}
@@ -73,10 +72,6 @@ module _ (b : Hierarchy) (room : hasRoom (b .figures) ≡ true) (l f v : ℕ)
         high = omega (arith, i .1, found);
         slot = found ∙ ap (λ (f : ℕ). victimIn (b .tags) f (b .figures .ways)) (at-first (b .figures) l f room first);
       }
-
--- the slot of a present line is in the set
-pub present-slot : (b : Hierarchy) (l f v : ℕ) → Located b l f v → present b l ≡ true → v < f + b .figures .ways
-present-slot b l f v h p = ltb-true v (f + b .figures .ways) (h .here ∙ p)
 
 -- a slot of the set, named to a function of the table
 pub slot-in-set : (b : Hierarchy) (f v : ℕ) → f + b .figures .ways ≤ slots b → slots b ≤ 256 → f ≤ v → v < f + b .figures .ways → inSet f (b .figures .ways) v ≡ true

@@ -1,7 +1,7 @@
 -- What the code makes of records and bytes is what the rules make of the hierarchy: idle, reply, flush, show line, start.
 use Prim.Native.Nat.{ℕ, zero, suc, _+_, _*_, _-_, _%_, _<_, _≤_}
-use mathlib.Core.Path.{_≡_, refl, sym, _∙_, ap}
-use mathlib.Core.Bool.{Bool, true, false, cond, not, _&&_}
+use mathlib.Core.Path.{_≡_, refl, sym, _∙_, ap, ap₂}
+use mathlib.Core.Bool.{Bool, true, false, cond, _&&_, _||_}
 use mathlib.Core.List.{List, [], _∷_}
 use native.Mathlib.Omega.{arith}
 use lib.Dec.{ltb}
@@ -19,18 +19,20 @@ use Rattle.rules.specs.declared.Tag.{Tag}
 use Rattle.rules.specs.declared.LoadEntry.{LoadEntry}
 use Rattle.rules.specs.declared.StoreEntry.{StoreEntry}
 use Rattle.rules.specs.declared.Request.the-variants.{Free, Line}
-use Rattle.rules.specs.Shape.{Queues, Hierarchy, holding, noStore, noLoad, isFreeLoad, lineOf, slots, firstSlot, tagAt, withDirty}
-use Rattle.rules.specs.Lines.{slotOf, present, placeOf, agedAt, useSlot, putStore, writeStore, writtenBackAt, writeBackSlot, copiedAt, install, victim, fillLine, writeBackAll}
-use Rattle.rules.specs.Calls.{Outcome, wantsLine, oldestStore, storeReady, requestLine, drainOldest, unchanged, idled, idleRule, replyRule, showRule, shown, emptyPart, useEach}
+use Rattle.rules.specs.declared.WritePolicy.{WritePolicy}
+use Rattle.rules.specs.declared.WritePolicy.the-variants.{WriteBack}
+use Rattle.rules.specs.Shape.{Queues, Hierarchy, holding, noStore, noLoad, isFreeLoad, lineOf, slots, firstSlot, tagAt, withDirty, isThrough}
+use Rattle.rules.specs.Lines.{slotOf, present, placeOf, agedAt, useSlot, dirtyAfter, writtenThroughAt, storedMemory, putStore, writeStore, writtenBackAt, writeBackSlot, copiedAt, install, victim, fillLine, writeBackAll}
+use Rattle.rules.specs.Calls.{Outcome, wantsLine, oldestStore, storeReady, storeNeedsLine, requestLine, drainOldest, unchanged, idled, idleRule, replyRule, showRule, shown, emptyPart, useEach}
 use Rattle.rules.specs.Calls as rules
 use Rattle.rules.specs.Runs.{outcome, answer}
 use Rattle.rules.proofs.Checks.{outcome-by}
 use Rattle.line_checks.specs.Refusal.{hierarchy}
-use Rattle.records.specs.Records.{inSet, tabled, usedTags, installedIn, flushedTags}
-use Rattle.line_bytes.specs.Writes.{flushedMemory, lineWritten, lineFilled, storePut}
-use Rattle.line_bytes.proofs.Writing.{written-inside, written-length, fill-copies, put-inside}
+use Rattle.records.specs.Records.{hasRoom, inSet, tabled, usedTags, installedIn, flushedTags}
+use Rattle.line_bytes.specs.Writes.{flushedMemory, lineWritten, lineFilled, storePut, storedThrough}
+use Rattle.line_bytes.proofs.Writing.{written-inside, written-length, fill-copies, put-inside, drained-inside}
 use Rattle.records.proofs.Answers.{used-line}
-use Rattle.model.proofs.Leaves.{Located, Chosen, present-slot, slot-in-set, flushed-all}
+use Rattle.model.proofs.Leaves.{Located, Chosen, slot-in-set, flushed-all}
 use Rattle.model.specs.State.{bytesFrom, queuesOf, hierarchyOf, withRegister, withRecords, worldOf, outcomeOf, Fillable, idleRequest}
 use Rattle.model.specs.Shows.{partIn, shownPart}
 use Rattle.model.specs.declared.State.{State}
@@ -70,16 +72,30 @@ unfolding wantsLine
 wanting-none b h ls e = cases (any (wantsLine b h) ls)
     (λ t. wrong e (not-true _ (and-left _ _ (any-first (wantsLine b h) noLoad ls t)))) (λ t. t)
 
--- where nothing drains, the oldest store is ready exactly if it is ready and its line is absent
+-- the oldest store's line is present, or the store is written through
+abbrev pub writes : State → Bool
+writes s = isThrough (s .figures .policy) || present (tabled (s .figures) (s .tags)) (lineOf (oldestStore (queuesOf s) .address))
+
+pub back-writes : (p : WritePolicy) (t : Bool) → p ≡ WriteBack → (isThrough p || t) ≡ t
+back-writes p t e = rw e
+
+pub writes-known :
+    (s : State) (r : Bool) → hasRoom (s .figures) ≡ true
+    → r ≡ (isThrough (s .figures .policy) || (hasRoom (s .figures) && present (tabled (s .figures) (s .tags)) (lineOf (oldestStore (queuesOf s) .address))))
+    → r ≡ writes s
+writes-known s r room e = e ∙ rw room
+
+-- where nothing drains, the oldest store is ready exactly if its line is to be requested
 module _ (s : State) (r : Bool) (told : r ≡ storeReady (queuesOf s)) where
-  abbrev absent : Bool
-  absent = not (present (tabled (s .figures) (s .tags)) (lineOf (oldestStore (queuesOf s) .address)))
+  abbrev missing : Bool
+  missing = storeNeedsLine (queuesOf s) (tabled (s .figures) (s .tags))
 
-  pub missing-absent : present (tabled (s .figures) (s .tags)) (lineOf (oldestStore (queuesOf s) .address)) ≡ false → r ≡ (storeReady (queuesOf s) && absent)
-  missing-absent h = rw h (told ∙ sym (and-true (storeReady (queuesOf s))))
+  pub missing-absent : writes s ≡ false → r ≡ missing
+  missing-absent h =
+      rw (or-left (isThrough (s .figures .policy)) _ h, or-right (isThrough (s .figures .policy)) _ h) (told ∙ sym (and-true (storeReady (queuesOf s))))
 
-  pub missing-unready : r ≡ false → r ≡ (storeReady (queuesOf s) && absent)
-  missing-unready f = f ∙ sym (rw (sym told ∙ f))
+  pub missing-unready : r ≡ false → r ≡ missing
+  missing-unready f = f ∙ sym (rw (sym told ∙ f) (cases (isThrough (s .figures .policy)) (λ t. rw t) (λ t. rw t)))
 
 module _ (s : State) (cache memory : List ℕ) where
   -- the records once each load of a list has used its line
@@ -95,7 +111,7 @@ module _ (s : State) (cache memory : List ℕ) where
   abbrev table : Hierarchy
   table = tabled (s .figures) (s .tags)
 
-  pub idle-drains : storeReady q ≡ true → present table (lineOf (oldestStore q .address)) ≡ true → idleRule q b ≡ drainOldest q b
+  pub idle-drains : storeReady q ≡ true → writes s ≡ true → idleRule q b ≡ drainOldest q b
   unfolding idleRule present slotOf
   idle-drains r h = rw (r, h)
 
@@ -103,7 +119,7 @@ module _ (s : State) (cache memory : List ℕ) where
   unfolding idleRule idleRequest present slotOf
   idle-unready r = rw r
 
-  pub idle-absent : present table (lineOf (oldestStore q .address)) ≡ false → idleRule q b ≡ idleRequest q b
+  pub idle-absent : writes s ≡ false → idleRule q b ≡ idleRequest q b
   unfolding idleRule idleRequest present slotOf
   idle-absent h = cases (storeReady q) (λ t. rw (t, h)) (λ t. rw t)
 
@@ -123,13 +139,13 @@ module _ (s : State) (cache memory : List ℕ) where
       none = wanting-none table (s .committed) (s .loads) (ap isFreeLoad (sym lowest) ∙ eq-eqb (l .number) 0 z)
 
       module _ (a : ℕ) (oldest : a ≡ oldestStore q .address) where
-        pub idle-store : (storeReady q && not (present table (lineOf a))) ≡ true → requestLine a q b ≡ idleRequest q b
+        pub idle-store : storeNeedsLine q table ≡ true → requestLine a q b ≡ idleRequest q b
         unfolding idleRequest wantsLine present slotOf
-        idle-store r = rw (none, ← oldest, r, free)
+        idle-store r = rw (none, oldest, r, free)
 
-        pub idle-nothing : (storeReady q && not (present table (lineOf a))) ≡ false → unchanged idled q b ≡ idleRequest q b
+        pub idle-nothing : storeNeedsLine q table ≡ false → unchanged idled q b ≡ idleRequest q b
         unfolding idleRequest wantsLine present slotOf
-        idle-nothing r = rw (none, ← oldest, r, free)
+        idle-nothing r = rw (none, r, free)
 
 -- ---- fill
 
@@ -194,44 +210,56 @@ filled-state s cache memory l tags cache′ memory′ r e =
 
 -- ---- drain
 
--- the memory length and the bytes of memory play no part in a store that is written
+-- the memory length and the bytes of memory play no part in what a store does to the records and the cache
 write-sized :
     (e : StoreEntry) (b : Hierarchy)
-    → (let f : Hierarchy = writeStore e (hierarchy (b .figures) 0 (b .tags) (b .cache) []) in holding b (f .tags) (f .cache) (b .memory))
+    → (let f : Hierarchy = writeStore e (hierarchy (b .figures) 0 (b .tags) (b .cache) []) in holding b (f .tags) (f .cache) (storedMemory e b))
     ≡ writeStore e b
-unfolding writeStore putStore useSlot slotOf
-write-sized e b = refl
+unfolding writeStore putStore useSlot present slotOf
+write-sized e b = cases (present b (lineOf (e .address))) (λ t. rw t) (λ t. rw t)
 
 -- the oldest store e, written and removed
 pub drained-state :
-    (s : State) (cache memory : List ℕ) (e : StoreEntry) (tags : List Tag) (cache′ : List ℕ) (stores : List StoreEntry)
-    → e ≡ oldestStore (queuesOf s)
+    (s : State) (cache memory : List ℕ) (e : StoreEntry) (tags : List Tag) (cache′ memory′ : List ℕ) (stores : List StoreEntry)
+    → e ≡ oldestStore (queuesOf s) → e .width ≤ 4 → e .address + e .width ≤ length memory
+    → memory′ ≡ storedThrough (s .figures .policy) e memory
     → hierarchy (s .figures) 0 tags cache′ [] ≡ writeStore e (hierarchy (s .figures) 0 (s .tags) cache [])
     → stores ≡ shifted noStore (s .stores)
-    → outcomeOf (record { answer = Drained (e .number); next = record { figures = s .figures; size = s .size; last = s .last; committed = s .committed; request = s .request; stores = stores; loads = s .loads; tags = tags } }) cache′ memory
+    → outcomeOf (record { answer = Drained (e .number); next = record { figures = s .figures; size = s .size; last = s .last; committed = s .committed; request = s .request; stores = stores; loads = s .loads; tags = tags } }) cache′ memory′
     ≡ drainOldest (queuesOf s) (hierarchyOf s cache memory)
-drained-state s cache memory e tags cache′ stores o w p =
-    let whole : hierarchy (s .figures) (s .size) tags cache′ memory ≡ writeStore e (hierarchyOf s cache memory) =
-    ap (λ (f : Hierarchy). hierarchy (s .figures) (s .size) (f .tags) (f .cache) memory) w ∙ write-sized e (hierarchyOf s cache memory) in
+unfolding storedMemory
+drained-state s cache memory e tags cache′ memory′ stores o narrow inside m w p =
+    let through : memory′ ≡ eachFrom (writtenThroughAt (s .figures .policy) e) 0 memory = m ∙ drained-inside e memory (s .figures .policy) narrow inside in
+    let whole : hierarchy (s .figures) (s .size) tags cache′ memory′ ≡ writeStore e (hierarchyOf s cache memory) =
+    ap₂ (λ (f : Hierarchy) (x : List ℕ). hierarchy (s .figures) (s .size) (f .tags) (f .cache) x) w through ∙ write-sized e (hierarchyOf s cache memory) in
     rw (← o, ← whole, p)
 
--- the bytes and the records of a store that is written, from what each function made
+-- the records and the cache stay where the store's line is absent
+pub unwritten :
+    (b : Hierarchy) (e : StoreEntry) (f v : ℕ) → Located b (lineOf (e .address)) f v → f + b .figures .ways ≤ v → b .memory ≡ []
+    → b ≡ writeStore e b
+unfolding writeStore storedMemory eachFrom
+unwritten b e f v h low none =
+    let absent : present b (lineOf (e .address)) ≡ false = sym (h .here) ∙ le-ltb v (f + b .figures .ways) low in
+    rw (absent, none)
+
+-- the bytes and the records of a store that is written to its line, from what each function made
 pub written-whole :
-    (b : Hierarchy) (e : StoreEntry) (f v : ℕ) (dirty used : List Tag) (cache : List ℕ)
-    → Located b (lineOf (e .address)) f v → present b (lineOf (e .address)) ≡ true
+    (b : Hierarchy) (e : StoreEntry) (f v : ℕ) (marked used : List Tag) (cache : List ℕ)
+    → Located b (lineOf (e .address)) f v → v < f + b .figures .ways
     → e .width ≤ 4 → e .address % 16 + e .width ≤ 16 → length (b .cache) ≡ slots b * 16
     → cache ≡ storePut (16 * v + e .address % 16) (e .width) (e .value) (b .cache)
-    → dirty ≡ set (b .tags) v (withDirty true (tagAt (b .tags) v))
-    → used ≡ cond (inSet f (b .figures .ways) v) (eachFrom (agedAt f (b .figures .ways) v (tagAt dirty v .age)) 0 dirty) dirty
-    → holding b used cache (b .memory) ≡ writeStore e b
+    → marked ≡ set (b .tags) v (withDirty (dirtyAfter (b .figures .policy) (tagAt (b .tags) v .dirty)) (tagAt (b .tags) v))
+    → used ≡ cond (inSet f (b .figures .ways) v) (eachFrom (agedAt f (b .figures .ways) v (tagAt marked v .age)) 0 marked) marked
+    → holding b used cache (storedMemory e b) ≡ writeStore e b
 unfolding writeStore putStore useSlot
-written-whole b e f v dirty used cache h here narrow one-line long c d u =
-    let high = present-slot b (lineOf (e .address)) f v h here in
+written-whole b e f v marked used cache h high narrow one-line long c d u =
+    let here : present b (lineOf (e .address)) ≡ true = sym (h .here) ∙ lt-ltb v (f + b .figures .ways) high in
     let put : cache ≡ eachFrom (overlaid (16 * v + e .address % 16) (e .width) (e .value)) 0 (b .cache) =
     c ∙ put-inside _ _ _ (b .cache) narrow (omega (arith, h .within)) in
-    let aged : used ≡ eachFrom (agedAt f (b .figures .ways) v (tagAt dirty v .age)) 0 dirty =
+    let aged : used ≡ eachFrom (agedAt f (b .figures .ways) v (tagAt marked v .age)) 0 marked =
     u ∙ sym (cond-then _ _ (slot-in-set b f v (h .within) (h .room) (h .low) high)) in
-    rw (aged, d, put, h .slot, h .first)
+    rw (here, aged, d, put, h .slot, h .first)
 
 -- ---- flush
 

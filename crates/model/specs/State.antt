@@ -11,13 +11,12 @@ use Rattle.rules.specs.declared.Tag.{Tag}
 use Rattle.rules.specs.declared.StoreEntry.{StoreEntry}
 use Rattle.rules.specs.declared.Request.{Request}
 use Rattle.rules.specs.declared.Request.the-variants.{Free}
-use Rattle.rules.specs.Shape.{Queues, Hierarchy, World, world, tableSize, storePlaces, loadPlaces, noStore, noLoad, noTag, noFigures, isFreeStore, lineOf}
-use Rattle.rules.specs.Lines.{present}
+use Rattle.rules.specs.Shape.{Queues, Hierarchy, World, world, tableSize, storePlaces, loadPlaces, noStore, noLoad, noTag, noFigures, isFreeStore}
 use Rattle.rules.specs.Calls.{Outcome, waitingAt, guarded}
 use Rattle.rules.specs.Calls as rules
 use Rattle.rules.specs.WellFormed.{wellFormed}
 use Rattle.rules.specs.Runs.{outcome}
-use Rattle.records.specs.Records.{hasRoom, tabled}
+use Rattle.records.specs.Records.{hasRoom}
 use Rattle.line_bytes.specs.Writes.{DirtyInside}
 use Rattle.line_bytes.specs.declared.Read.{Read}
 use Rattle.line_bytes.specs.declared.Read.the-variants.{Whole, Lacking}
@@ -166,15 +165,14 @@ pub record Shaped (s : State) (cacheLength : ℕ) : Type 0 where
   pub room : s .figures .sets * s .figures .ways ≤ 256
   pub cache-long : cacheLength ≡ s .figures .sets * s .figures .ways * 16
 
--- what is left to the writing of a store whose line is present
-pub record Writable (g : Figures) (tags : List Tag) (e : StoreEntry) (cacheLength : ℕ) : Type 0 where
+-- what is left to the writing of a store
+pub record Writable (g : Figures) (e : StoreEntry) (cacheLength : ℕ) : Type 0 where
   pub some-set : 0 < g .sets
   pub some-way : 0 < g .ways
   pub room : g .sets * g .ways ≤ 256
   pub cache-long : cacheLength ≡ g .sets * g .ways * 16
   pub narrow : e .width ≤ 4
   pub one-line : e .address % 16 + e .width ≤ 16
-  pub here : present (tabled g tags) (lineOf (e .address)) ≡ true
 
 -- an access lies in one line of memory
 pub record InOneLine (a w : ℕ) : Type 0 where

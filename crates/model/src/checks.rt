@@ -20,7 +20,7 @@ impl State {
     // A requested line is absent, lies in memory, and is wanted.
     fn is_request_good(self) -> bool
         requires { ⌜ Shaped self (self .figures .sets * self .figures .ways * 16) ⌝ }
-        ensures { λ r. ⌜ r ≡ (requestAbsent (self .request) (tabled (self .figures) (self .tags)) && (requestInside (self .request) (sized (self .size)) && requestWanted (self .request) (queuesOf self))) ⌝ }
+        ensures { λ r. ⌜ r ≡ (requestAbsent (self .request) (tabled (self .figures) (self .tags)) && (requestInside (self .request) (sized (self .size)) && requestWanted (self .request) (queuesOf self) (self .figures .policy))) ⌝ }
     {
         let request = self.request;
         let Request::Line(line) = request else {
@@ -36,7 +36,8 @@ impl State {
         }
         let stores = self.stores;
         let loads = self.loads;
-        queue_checks::request_wanted(request, stores, loads, self.committed)
+        let policy = figures.policy;
+        queue_checks::request_wanted(policy, request, stores, loads, self.committed)
     }
 
     // 0 where checks 1 and 10 pass, else the refusal's number.

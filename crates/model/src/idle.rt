@@ -1,15 +1,15 @@
 // The idle call.
 ghost use mathlib.Core.Path.{_≡_};
-ghost use mathlib.Core.Bool.{true, not, _&&_};
+ghost use mathlib.Core.Bool.{_&&_, _||_};
 ghost use mathlib.Core.List.{List, []};
-ghost use Prim.Native.Nat.{ℕ, _*_};
+ghost use Prim.Native.Nat.{ℕ, _+_, _*_, _≤_};
 ghost use lib.ListN.{length};
-ghost use Rattle.rules.specs.Shape.{lineOf};
+ghost use Rattle.rules.specs.Shape.{isThrough};
 ghost use Rattle.rules.specs.Lines.{present, writeStore};
 ghost use Rattle.line_checks.specs.Refusal.{hierarchy};
-ghost use Rattle.rules.specs.Calls.{oldestStore, storeReady, drainOldest, requestLine};
+ghost use Rattle.rules.specs.Calls.{oldestStore, storeNeedsLine, drainOldest, requestLine};
 ghost use Rattle.rules.specs.Calls as rules;
-ghost use Rattle.records.specs.Records.{tabled};
+ghost use Rattle.records.specs.Records.{hasRoom, tabled};
 ghost use Rattle.model.specs.State.{queuesOf, hierarchyOf, outcomeOf, Shaped, Writable, InOneLine, idleRequest, Does, worldOf, Formed};
 use crate::Answer;
 use crate::Call;
@@ -22,37 +22,54 @@ use rules::Request;
 use rules::StoreEntry;
 use rules::TAG_RECORDS;
 use rules::Tag;
+use rules::WritePolicy;
 
-// "write it, mark the line dirty, use the line": of a store whose line is present.
+// (a) ".. and its line is present": with write-through it need not be.
+fn can_write(tags: [Tag; TAG_RECORDS], figures: Figures, line: u32) -> bool
+    ensures { λ r. ⌜ r ≡ (isThrough (figures .policy) || (hasRoom figures && present (tabled figures tags) line)) ⌝ }
+{
+    let policy = figures.policy;
+    match policy {
+        WritePolicy::WriteBack => records::is_present(tags, figures, line),
+        WritePolicy::WriteThrough => true,
+    }
+}
+
+// "write it, mark the line dirty, use the line": the cached line, where there is one.
 fn write_store(
     tags: [Tag; TAG_RECORDS],
     figures: Figures,
     s: StoreEntry,
     cache: &mut [u8],
 ) -> [Tag; TAG_RECORDS]
-    requires { ⌜ Writable figures tags s (length (now cache)) ⌝ }
+    requires { ⌜ Writable figures s (length (now cache)) ⌝ }
     ensures { λ r. ⌜ hierarchy figures 0 r (now (cache .exit)) [] ≡ writeStore s (hierarchy figures 0 tags (now (cache .entry)) []) ⌝ }
 {
     let n = figures.ways as usize;
     let line = s.address / LINE_BYTES;
     let first = records::first_slot(figures, line);
     let slot = records::find(tags, first, n, line);
+    if first + n <= slot {
+        return tags;
+    }
     let at = LINE_LENGTH * slot + (s.address % LINE_BYTES) as usize;
     line_bytes::put_store(cache, at, s.width, s.value);
-    let dirty = records::mark_dirty(tags, slot);
-    let used = records::use_slot(dirty, first, n, slot);
-    used
+    let policy = figures.policy;
+    let marked = records::mark_written(tags, policy, slot);
+    records::use_slot(marked, first, n, slot)
 }
 
 impl State {
-    // (a) ".. remove the store": s is the oldest store, and its line is present.
-    fn drain_oldest(mut self, cache: &mut [u8], s: StoreEntry) -> Step
-        requires { ⌜ Shaped self (length (now cache)) × InOneLine (s .address) (s .width) × (s ≡ oldestStore (queuesOf self)) × (present (tabled (self .figures) (self .tags)) (lineOf (s .address)) ≡ true) ⌝ }
-        ensures { λ r. ⌜ ((m : List ℕ) → outcomeOf r (now (cache .exit)) m ≡ drainOldest (queuesOf self) (hierarchyOf self (now (cache .entry)) m)) ⌝ }
+    // (a) ".. remove the store": s is the oldest store. With write-through it goes to memory too.
+    fn drain_oldest(mut self, cache: &mut [u8], memory: &mut [u8], s: StoreEntry) -> Step
+        requires { ⌜ Shaped self (length (now cache)) × InOneLine (s .address) (s .width) × (s .address + s .width ≤ length (now memory)) × (s ≡ oldestStore (queuesOf self)) ⌝ }
+        ensures { λ r. ⌜ outcomeOf r (now (cache .exit)) (now (memory .exit)) ≡ drainOldest (queuesOf self) (hierarchyOf self (now (cache .entry)) (now (memory .entry))) ⌝ }
     {
         let tags = self.tags;
         let stores = self.stores;
         let figures = self.figures;
+        let policy = figures.policy;
+        line_bytes::write_through(policy, s, memory);
         let used = write_store(tags, figures, s, cache);
         let rest = store_queue::pop_store(stores);
         self.stores = rest;
@@ -74,9 +91,9 @@ impl State {
         }
     }
 
-    // (b), (c) and (d): what follows where nothing drains. Whether the oldest store is ready and its line is absent, and its address, are told.
+    // (b), (c) and (d): what follows where nothing drains. Whether the oldest store's line is to be requested, and its address, are told.
     fn idle_request(self, missing: bool, address: u32) -> Step
-        requires { ⌜ Shaped self (self .figures .sets * self .figures .ways * 16) × (address ≡ oldestStore (queuesOf self) .address) × (missing ≡ (storeReady (queuesOf self) && not (present (tabled (self .figures) (self .tags)) (lineOf address)))) ⌝ }
+        requires { ⌜ Shaped self (self .figures .sets * self .figures .ways * 16) × (address ≡ oldestStore (queuesOf self) .address) × (missing ≡ storeNeedsLine (queuesOf self) (tabled (self .figures) (self .tags))) ⌝ }
         ensures { λ r. ⌜ ((c m : List ℕ) → outcomeOf r c m ≡ idleRequest (queuesOf self) (hierarchyOf self c m)) ⌝ }
     {
         let request = self.request;
@@ -114,14 +131,14 @@ impl State {
         if ready {
             let tags = self.tags;
             let figures = self.figures;
-            if records::is_present(tags, figures, s.address / LINE_BYTES) {
-                return self.drain_oldest(cache, s);
+            if can_write(tags, figures, s.address / LINE_BYTES) {
+                return self.drain_oldest(cache, memory, s);
             }
         }
         self.idle_request(ready, s.address)
     }
 
-    // "Idle does the first that applies." Refused: 1, 10. (Memory is lent to be written, and is left as it was.)
+    // "Idle does the first that applies." Refused: 1, 10.
     pub fn idle(self, cache: &mut [u8], memory: &mut [u8]) -> Step
         ensures { λ r. ⌜ Does rules.idle (worldOf self (now (cache .entry)) (now (memory .entry))) r (now (cache .exit)) (now (memory .exit)) ⌝ }
     {

@@ -1,11 +1,13 @@
 -- What the functions leave is what the definitions say; and a refusal leaves everything as it was.
 use Prim.Native.Nat.{ℕ, _≤_}
 use mathlib.Core.Path.{_≡_, refl, sym, _∙_, ap}
-use mathlib.Core.Bool.{true, false}
+use mathlib.Core.Bool.{Bool, true, false}
 use mathlib.Core.List.{List, [], map}
 use mathlib.Core.Option.{Option, some, none}
 use native.Mathlib.Omega.{arith}
+use borrow.Author.Tests.{le-leb, lt-leb}
 use Rattle.lists.proofs.Cond.{cases, wrong}
+use Rattle.rules.specs.declared.Figures.{Figures}
 use Rattle.rules.specs.Shape.{Queues, Hierarchy, World}
 use Rattle.rules.specs.Calls as rules
 use Rattle.rules.specs.Runs.{ready, startRefused, startAllowed, startAnswer, startWorld, unstarted, refusal, outcome}
@@ -23,10 +25,10 @@ use Rattle.nicoisetarn.specs.declared.AnswerImage.{AnswerImage}
 use Rattle.nicoisetarn.specs.declared.ImageStep.{ImageStep}
 use Rattle.nicoisetarn.specs.declared.answers.Numbered.{Numbered}
 use Rattle.nicoisetarn.specs.declared.answers.Numbered.the-variants.{Known, Unknown}
-use Rattle.images.specs.Images.{imagedTag, figuresWith, openedOf, imagedWith, imagedOf, standsFor}
+use Rattle.images.specs.Images.{isProfile, imagedTag, figuresWith, openedOf, imagedWith, imagedOf, standsFor}
 use Rattle.images.proofs.Standing.{imaged-opened}
 use Rattle.nicoisetarn.specs.Answers.{callNumbered, numberedOf, coded, imagedAnswer, readyAnswer, noSuchCall}
-use Rattle.nicoisetarn.specs.Steps.{Left, leftOf, kept, leaves, startedBy, started, imageRefusal, outcomeFrom, called, stepped, lineShown, changesRecords, nextImage}
+use Rattle.nicoisetarn.specs.Steps.{Left, leftOf, kept, leaves, startedBy, startedWith, started, imageRefusal, outcomeFrom, called, stepped, lineShown, changesRecords, nextImage}
 use Rattle.nicoisetarn.specs.Claims.{Keeps, RefusedImagesKept, UnknownCallsKept, LooksKept}
 use Rattle.nicoisetarn.proofs.CallNumbers.{no-number, some-number}
 use Rattle.nicoisetarn.proofs.ShownPart.{image-over}
@@ -112,24 +114,24 @@ module _ (call x y z : ℕ) (i : Image) (cache memory : List ℕ) (n : Numbered)
 
 -- ---- start
 
-module _ (sets ways : ℕ) (i : Image) (cache memory : List ℕ) where
-  refused-cache : (k : ℕ) → startRefused k ≡ startAnswer (figuresWith sets ways) cache memory → startWorld (figuresWith sets ways) cache memory .hierarchy .cache ≡ cache
+module _ (f : Figures) (i : Image) (cache memory : List ℕ) where
+  refused-cache : (k : ℕ) → startRefused k ≡ startAnswer f cache memory → startWorld f cache memory .hierarchy .cache ≡ cache
   unfolding startAnswer startWorld unstarted
-  refused-cache k e = cases (startAllowed (figuresWith sets ways) cache memory)
+  refused-cache k e = cases (startAllowed f cache memory)
       (λ t. let f : startRefused k ≡ ready = rw t at e in let z : _≡_ {A = ℕ} 0 1 = cc in let no : ⊥ = omega arith in absurd no)
       (λ t. rw t)
 
-  module _ (r : Started) (cache′ : List ℕ) (a : startAnswerOf (r .answer) ≡ startAnswer (figuresWith sets ways) cache memory) (w : worldOf (r .state) cache′ memory ≡ startWorld (figuresWith sets ways) cache memory) (t : ImageStep) where
-    pub start-ready : r .answer ≡ Ready → t .answer ≡ readyAnswer → t .next ≡ imagedOf (r .state) → leftOf t cache′ memory ≡ started sets ways i cache memory
-    unfolding started
+  module _ (r : Started) (cache′ : List ℕ) (a : startAnswerOf (r .answer) ≡ startAnswer f cache memory) (w : worldOf (r .state) cache′ memory ≡ startWorld f cache memory) (t : ImageStep) where
+    pub start-ready : r .answer ≡ Ready → t .answer ≡ readyAnswer → t .next ≡ imagedOf (r .state) → leftOf t cache′ memory ≡ startedWith f i cache memory
+    unfolding startedWith
     start-ready told answer next =
         (λ j. record { answer = answer j; image = next j; cache = cache′; memory = memory })
         ∙ (λ j. startedBy ((sym (ap startAnswerOf told) ∙ a) j) (w j) i cache memory)
 
-    pub start-refused : (k : ℕ) → r .answer ≡ NotAllowed k → t .answer ≡ coded 0 k 0 → t .next ≡ i → leftOf t cache′ memory ≡ started sets ways i cache memory
-    unfolding started
+    pub start-refused : (k : ℕ) → r .answer ≡ NotAllowed k → t .answer ≡ coded 0 k 0 → t .next ≡ i → leftOf t cache′ memory ≡ startedWith f i cache memory
+    unfolding startedWith
     start-refused k told answer next =
-        let b : startRefused k ≡ startAnswer (figuresWith sets ways) cache memory = sym (ap startAnswerOf told) ∙ a in
+        let b : startRefused k ≡ startAnswer f cache memory = sym (ap startAnswerOf told) ∙ a in
         (λ j. record {
           answer = answer j;
           image = next j;
@@ -137,6 +139,19 @@ module _ (sets ways : ℕ) (i : Image) (cache memory : List ℕ) where
           memory = memory;
         })
         ∙ (λ j. startedBy (b j) (w j) i cache memory)
+
+-- a start by its numbers, once it is known whether there is such a profile
+module _ (sets ways profile : ℕ) (i : Image) (cache memory : List ℕ) (known : Bool) (e : known ≡ isProfile profile) where
+  pub start-known :
+      known ≡ true → (f : Figures) → f ≡ figuresWith sets ways profile → (l : Left) → l ≡ startedWith f i cache memory
+      → l ≡ started sets ways profile i cache memory
+  unfolding started
+  start-known t f o l g = g ∙ (ap (λ (f : Figures). startedWith f i cache memory) o ∙ rw (sym e ∙ t))
+
+  pub start-unknown : known ≡ false → (t : ImageStep) → t .answer ≡ noSuchCall → t .next ≡ i → leftOf t cache memory ≡ started sets ways profile i cache memory
+  unfolding started
+  start-unknown f t answer next =
+      (λ j. record { answer = answer j; image = next j; cache = cache; memory = memory }) ∙ rw (sym e ∙ f)
 
 -- ---- a refusal leaves everything as it was
 
@@ -170,15 +185,20 @@ module _ (i : Image) (cache memory : List ℕ) where
   called-keeps none = λ e. (refl, refl, refl)
   called-keeps (some c) = cases (standsFor i) (λ t. rw t (state-keeps c t)) (λ t. rw t (λ e. (refl, refl, refl)))
 
-  started-keeps : (sets ways : ℕ) → Keeps (started sets ways i cache memory) i cache memory
-  unfolding started startAnswer
-  started-keeps sets ways = cases (startAllowed (figuresWith sets ways) cache memory)
+  with-keeps : (f : Figures) → Keeps (startedWith f i cache memory) i cache memory
+  unfolding startedWith startAnswer
+  with-keeps f = cases (startAllowed f cache memory)
       (λ t. rw t (λ e. let no : ⊥ = omega arith in absurd no)) (λ t. rw t (λ e. (refl, refl, refl)))
+
+  started-keeps : (sets ways profile : ℕ) → Keeps (started sets ways profile i cache memory) i cache memory
+  unfolding started
+  started-keeps sets ways profile = cases (isProfile profile)
+      (λ t. rw t (with-keeps (figuresWith sets ways profile))) (λ t. rw t (λ e. (refl, refl, refl)))
 
 pub refused-kept : RefusedImagesKept
 unfolding stepped
 refused-kept = record {
-  by-start = λ sets ways i cache memory. started-keeps i cache memory sets ways;
+  by-start = λ sets ways profile i cache memory. started-keeps i cache memory sets ways profile;
   by-call = λ call x y z i cache memory. called-keeps i cache memory (callNumbered call x y z);
 }
 
@@ -209,11 +229,19 @@ module _ (i : Image) (cache memory : List ℕ) where
       no : (a : rules.Answer) → imagedAnswer a ≡ noSuchCall → some c ≡ none
       no a f = let w : ⊥ = omega (arith, kind-known a, ap (λ (r : AnswerImage). r .kind) f) in absurd w
 
+  -- no start with these figures answers so
+  with-known : (f : Figures) → startedWith f i cache memory .answer ≡ noSuchCall → ⊥
+  unfolding startedWith startAnswer
+  with-known f = cases (startAllowed f cache memory)
+      (λ t. rw t (λ e. omega (arith, ap (λ (r : AnswerImage). r .kind) e))) (λ t. rw t (λ e. omega (arith, ap (λ (r : AnswerImage). r .kind) e)))
+
 pub unknown-kept : UnknownCallsKept
-unfolding stepped called
+unfolding stepped called started
 unknown-kept = record {
   told = λ call x y z i cache memory h. ap (λ (o : Option rules.Call). called o i cache memory) (no-number call x y z h);
   known = λ call x y z i cache memory h e. let w = some-number call x y z (called-known i cache memory (callNumbered call x y z) e) in omega arith;
+  profile-told = λ sets ways profile i cache memory h. rw (lt-leb profile 1 h);
+  profile-known = λ sets ways profile i cache memory h e. with-known i cache memory (figuresWith sets ways profile) (rw (le-leb profile 1 h) at e);
 }
 
 -- ---- show line

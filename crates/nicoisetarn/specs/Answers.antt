@@ -53,7 +53,8 @@ imagedAnswer (rules.shown p bs) = coded 11 p (length bs)
 abbrev pub readyAnswer : AnswerImage
 readyAnswer = coded 12 0 0
 
--- the answer to a number that no call has, and to lists whose lengths do not fit: the boundary's own, no refusal of 01
+-- the answer to a number that no call has, to a start with a number that no profile has, and to lists whose lengths do not fit: the
+-- boundary's own, no refusal of 01
 abbrev pub noSuchCall : AnswerImage
 noSuchCall = coded 255 0 0
 

@@ -20,7 +20,7 @@ abbrev pub Keeps : Left → Image → List ℕ → List ℕ → Type 0
 Keeps l i cache memory = l .answer .kind ≡ 0 → (l .image ≡ i) × (l .cache ≡ cache) × (l .memory ≡ memory)
 
 pub record RefusedImagesKept : Type 0 where
-  pub by-start : (sets ways : ℕ) (i : Image) (cache memory : List ℕ) → Keeps (started sets ways i cache memory) i cache memory
+  pub by-start : (sets ways profile : ℕ) (i : Image) (cache memory : List ℕ) → Keeps (started sets ways profile i cache memory) i cache memory
   pub by-call : (call x y z : ℕ) (i : Image) (cache memory : List ℕ) → Keeps (stepped call x y z i cache memory) i cache memory
 
 pub record UnknownCallsKept : Type 0 where
@@ -28,6 +28,10 @@ pub record UnknownCallsKept : Type 0 where
   pub told : (call x y z : ℕ) (i : Image) (cache memory : List ℕ) → 8 < call → stepped call x y z i cache memory ≡ kept noSuchCall i cache memory
   -- no call answers so
   pub known : (call x y z : ℕ) (i : Image) (cache memory : List ℕ) → call ≤ 8 → stepped call x y z i cache memory .answer ≡ noSuchCall → ⊥
+  -- a number above 1 is no profile: that is the answer to a start, and everything stays
+  pub profile-told : (sets ways profile : ℕ) (i : Image) (cache memory : List ℕ) → 1 < profile → started sets ways profile i cache memory ≡ kept noSuchCall i cache memory
+  -- no other start answers so
+  pub profile-known : (sets ways profile : ℕ) (i : Image) (cache memory : List ℕ) → profile ≤ 1 → started sets ways profile i cache memory .answer ≡ noSuchCall → ⊥
 
 pub record LooksKept : Type 0 where
   -- call 8, show line, answers the look on shared bytes, and everything stays

@@ -3,6 +3,7 @@ use Prim.Native.Nat.{ℕ}
 use mathlib.Core.Bool.{Bool, true, false, cond}
 use mathlib.Core.List.{List, []}
 use mathlib.Core.Option.{Option, some, none}
+use Rattle.rules.specs.declared.Figures.{Figures}
 use Rattle.rules.specs.Shape.{Queues, Hierarchy, World, fits}
 use Rattle.rules.specs.Calls as rules
 use Rattle.rules.specs.Runs.{StartAnswer, ready, startRefused, startAnswer, startWorld, refusal, outcome}
@@ -12,7 +13,7 @@ use Rattle.model.specs.declared.State.{State}
 use Rattle.images.specs.declared.Image.{Image}
 use Rattle.nicoisetarn.specs.declared.AnswerImage.{AnswerImage}
 use Rattle.nicoisetarn.specs.declared.ImageStep.{ImageStep}
-use Rattle.images.specs.Images.{figuresWith, figuresOf, openedOf, imagedWith, imagedOf, standsFor}
+use Rattle.images.specs.Images.{isProfile, figuresWith, figuresOf, openedOf, imagedWith, imagedOf, standsFor}
 use Rattle.nicoisetarn.specs.Answers.{callNumbered, imagedAnswer, readyAnswer, noSuchCall}
 
 -- an answer, and what stands in the image, the cache and the memory after it
@@ -55,9 +56,13 @@ startedBy ready w i cache memory = leaves readyAnswer (w .queues) (w .hierarchy)
 startedBy (startRefused k) w i cache memory = kept (imagedAnswer (rules.refused k)) i cache memory
 
 -- an accepted start leaves the image of the started state, a refused one changes nothing
-unfoldable pub started : ℕ → ℕ → Image → List ℕ → List ℕ → Left
-started sets ways i cache memory =
-    startedBy (startAnswer (figuresWith sets ways) cache memory) (startWorld (figuresWith sets ways) cache memory) i cache memory
+unfoldable pub startedWith : Figures → Image → List ℕ → List ℕ → Left
+startedWith f i cache memory = startedBy (startAnswer f cache memory) (startWorld f cache memory) i cache memory
+
+-- a start by its numbers; where there is no such profile it is no call, and nothing changes
+unfoldable pub started : ℕ → ℕ → ℕ → Image → List ℕ → List ℕ → Left
+started sets ways profile i cache memory =
+    cond (isProfile profile) (startedWith (figuresWith sets ways profile) i cache memory) (kept noSuchCall i cache memory)
 
 -- ---- a call
 

@@ -70,7 +70,7 @@ pub const KIND_SHOWN: u32 = 11;
 pub const KIND_READY: u32 = 12;
 // A batch was made: the boundary's own, as the next. Kinds from 13 to 253 are free for answers to come.
 pub const KIND_RAN: u32 = 254;
-// There is no such call, or the lengths of a batch do not fit: the boundary's own, no answer of 01.
+// There is no such call, or no such profile, or the lengths of a batch do not fit: the boundary's own, no answer of 01.
 pub const KIND_NO_SUCH_CALL: u32 = 255;
 
 // ---- lists of calls and of answers (specs/Batch.antt)
@@ -88,18 +88,20 @@ pub struct ImageStep {
 
 // ---- the exported functions
 
-// Start: an accepted one stores the image of the started state, a refused one leaves image and cache as they were.
+// Start, with a profile by its number (`images` has the numbers): an accepted one stores the image of the started state, a refused one
+// leaves image and cache as they were. Where there is no such profile the answer is that of an unknown call, and nothing is looked at.
 #[no_mangle]
-pub extern "C" fn nicoisetarn_start_in(
+pub extern "C" fn nicoisetarn_start_with_in(
     image: &mut Image,
     sets: u32,
     ways: u32,
+    profile: u32,
     cache: &mut [u8],
     memory: &[u8],
 ) -> AnswerImage
-    ensures { λ r. ⌜ leftOf (record { answer = r; next = now (image .exit) }) (now (cache .exit)) (now (memory .entry)) ≡ started sets ways (now (image .entry)) (now (cache .entry)) (now (memory .entry)) ⌝ }
+    ensures { λ r. ⌜ leftOf (record { answer = r; next = now (image .exit) }) (now (cache .exit)) (now (memory .entry)) ≡ started sets ways profile (now (image .entry)) (now (cache .entry)) (now (memory .entry)) ⌝ }
 {
-    let r = steps::start_image(*image, sets, ways, cache, memory);
+    let r = steps::start_image(*image, sets, ways, profile, cache, memory);
     *image = r.next;
     r.answer
 }
@@ -159,7 +161,8 @@ pub fn refused_images_kept()
     ensures { λ r. ⌜ RefusedImagesKept ⌝ }
 {}
 
-// "No such call" is answered exactly to the numbers that no call has, and everything stays as it was.
+// "No such call" is answered exactly to the numbers that no call has, and to a start exactly where no profile has its number; and
+// everything stays as it was.
 pub fn unknown_calls_kept()
     ensures { λ r. ⌜ UnknownCallsKept ⌝ }
 {}

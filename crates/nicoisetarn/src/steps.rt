@@ -6,7 +6,7 @@ ghost use Rattle.rules.specs.Runs.{refusal};
 ghost use Rattle.model.specs.State.{callOf};
 ghost use Rattle.images.specs.Images.{usedRecords, standsFor};
 ghost use Rattle.nicoisetarn.specs.Answers.{imagedAnswer};
-ghost use Rattle.nicoisetarn.specs.Steps.{leftOf, started, imageRefusal, called, stepped, lineShown, changesRecords, nextImage};
+ghost use Rattle.nicoisetarn.specs.Steps.{leftOf, startedWith, started, imageRefusal, called, stepped, lineShown, changesRecords, nextImage};
 use crate::AnswerImage;
 use crate::ImageStep;
 use crate::KIND_NO_SUCH_CALL;
@@ -25,16 +25,10 @@ use rules::NOT_WELL_FORMED;
 
 // ---- start
 
-pub(crate) fn start_image(
-    image: Image,
-    sets: u32,
-    ways: u32,
-    cache: &mut [u8],
-    memory: &[u8],
-) -> ImageStep
-    ensures { λ r. ⌜ leftOf r (now (cache .exit)) (now (memory .entry)) ≡ started sets ways image (now (cache .entry)) (now (memory .entry)) ⌝ }
+// A start with these figures.
+fn start_figures(image: Image, figures: Figures, cache: &mut [u8], memory: &[u8]) -> ImageStep
+    ensures { λ r. ⌜ leftOf r (now (cache .exit)) (now (memory .entry)) ≡ startedWith figures image (now (cache .entry)) (now (memory .entry)) ⌝ }
 {
-    let figures = Figures { sets, ways };
     let r = State::start(figures, cache, memory);
     let answer = r.answer;
     match answer {
@@ -49,6 +43,27 @@ pub(crate) fn start_image(
             answer: answers::coded(KIND_REFUSED, k, 0),
             next: image,
         },
+    }
+}
+
+// A start by numbers.
+pub(crate) fn start_image(
+    image: Image,
+    sets: u32,
+    ways: u32,
+    profile: u32,
+    cache: &mut [u8],
+    memory: &[u8],
+) -> ImageStep
+    ensures { λ r. ⌜ leftOf r (now (cache .exit)) (now (memory .entry)) ≡ started sets ways profile image (now (cache .entry)) (now (memory .entry)) ⌝ }
+{
+    if images::is_profile(profile) {
+        let figures = images::figures_with(sets, ways, profile);
+        return start_figures(image, figures, cache, memory);
+    }
+    ImageStep {
+        answer: answers::coded(KIND_NO_SUCH_CALL, 0, 0),
+        next: image,
     }
 }
 
@@ -107,10 +122,7 @@ fn step_state(
 pub(crate) fn image_refusal(image: Image, cache: &[u8], memory: &[u8]) -> u32
     ensures { λ r. ⌜ r ≡ imageRefusal image (now (cache .entry)) (now (memory .entry)) ⌝ }
 {
-    let figures = Figures {
-        sets: image.sets,
-        ways: image.ways,
-    };
+    let figures = images::figures_with(image.sets, image.ways, image.profile);
     if line_checks::is_fit(figures, image.size, cache, memory) {
         return NOT_WELL_FORMED;
     }

@@ -9,7 +9,8 @@ use Rattle.rules.specs.declared.StoreEntry.{StoreEntry}
 use Rattle.rules.specs.declared.LoadEntry.{LoadEntry}
 use Rattle.rules.specs.declared.Request.{Request}
 use Rattle.rules.specs.declared.Request.the-variants.{Free, Line}
-use Rattle.rules.specs.Shape.{Queues, lineOf}
+use Rattle.rules.specs.declared.WritePolicy.{WritePolicy}
+use Rattle.rules.specs.Shape.{Queues, lineOf, isThrough}
 use Rattle.rules.specs.Calls.{committedStore, oldestStore, waitsBelow, storeReady}
 use Rattle.rules.specs.WellFormed.{waitsFor, requestWanted}
 use Rattle.queue_checks.specs.Good.{queuesWith}
@@ -35,20 +36,25 @@ module _ (h : ℕ) (ss : List StoreEntry) (ls : List LoadEntry) where
 
   -- ---- the request
 
-  pub wanted-free : (r : Request) → r ≡ Free → true ≡ requestWanted r q
+  pub wanted-free : (r : Request) (p : WritePolicy) → r ≡ Free → true ≡ requestWanted r q p
   unfolding requestWanted
-  wanted-free r e = rw e
+  wanted-free r p e = rw e
 
-  module _ (r : Request) (line : ℕ) (e : r ≡ Line line) where
-    pub wanted-by-load : any (waitsFor h line) ls ≡ true → true ≡ requestWanted r q
+  module _ (r : Request) (p : WritePolicy) (line : ℕ) (e : r ≡ Line line) where
+    pub wanted-by-load : any (waitsFor h line) ls ≡ true → true ≡ requestWanted r q p
     unfolding requestWanted
     wanted-by-load w = rw (e, w)
 
     module _ (w : any (waitsFor h line) ls ≡ false) where
-      pub wanted-by-none : storeReady q ≡ false → false ≡ requestWanted r q
+      pub wanted-through : isThrough p ≡ true → false ≡ requestWanted r q p
       unfolding requestWanted
-      wanted-by-none s = rw (e, w, s)
+      wanted-through t = rw (e, w, t)
 
-      pub wanted-by-store : storeReady q ≡ true → eqb (lineOf (oldestStore q .address)) line ≡ requestWanted r q
-      unfolding requestWanted
-      wanted-by-store s = rw (e, w, s)
+      module _ (t : isThrough p ≡ false) where
+        pub wanted-by-none : storeReady q ≡ false → false ≡ requestWanted r q p
+        unfolding requestWanted
+        wanted-by-none s = rw (e, w, t, s)
+
+        pub wanted-by-store : storeReady q ≡ true → eqb (lineOf (oldestStore q .address)) line ≡ requestWanted r q p
+        unfolding requestWanted
+        wanted-by-store s = rw (e, w, t, s)

@@ -18,6 +18,7 @@ use rules::LoadEntry;
 use rules::Request;
 use rules::STORE_PLACES;
 use rules::StoreEntry;
+use rules::WritePolicy;
 
 // ---- draining and requests
 
@@ -70,20 +71,25 @@ fn has_waiting_for(loads: [LoadEntry; LOAD_PLACES], h: u32, line: u32) -> bool
     false
 }
 
-// Whether the requested line is wanted by a committed waiting load, or by the oldest store, committed and with no older waiting load.
+// Whether the requested line is wanted by a committed waiting load, or by the oldest store, committed and with no older waiting load;
+// with write-through by a committed waiting load only.
 pub fn request_wanted(
+    policy: WritePolicy,
     request: Request,
     stores: [StoreEntry; STORE_PLACES],
     loads: [LoadEntry; LOAD_PLACES],
     committed: u32,
 ) -> bool
-    ensures { λ r. ⌜ r ≡ requestWanted request (queuesWith committed stores loads) ⌝ }
+    ensures { λ r. ⌜ r ≡ requestWanted request (queuesWith committed stores loads) policy ⌝ }
 {
     match request {
         Request::Free => true,
         Request::Line(line) => {
             if has_waiting_for(loads, committed, line) {
                 return true;
+            }
+            if let WritePolicy::WriteThrough = policy {
+                return false;
             }
             if store_ready(stores, loads, committed) {
                 let s = stores[0];

@@ -10,7 +10,7 @@ ghost use lib.ListN.{length, set, replicate};
 ghost use Rattle.lists.specs.Padded.{first, filter};
 ghost use Rattle.lists.specs.Counted.{firstFrom, greatestFrom, eachFrom};
 ghost use Rattle.rules.specs.Shape.{noTag, noLoad, tagAt, withDirty};
-ghost use Rattle.rules.specs.Lines.{holdsLine, present, agedAt, isDirty};
+ghost use Rattle.rules.specs.Lines.{holdsLine, present, agedAt, isDirty, dirtyAfter};
 ghost use Rattle.rules.specs.Calls.{answeredBy, useEach, wantsLine};
 ghost use Rattle.rules.specs.Runs.{startTags};
 ghost use Rattle.records.specs.Records.{hasRoom, inTable, inSet, tabled, usedTags, victimIn, installedIn, flushedTags};
@@ -22,6 +22,7 @@ use rules::NO_LOAD;
 use rules::NO_TAG;
 use rules::TAG_RECORDS;
 use rules::Tag;
+use rules::WritePolicy;
 
 // ---- places in the table
 
@@ -260,9 +261,19 @@ pub fn install(
     use_slot(out, first, ways, v)
 }
 
-// "mark the line dirty": the record of slot v.
-pub fn mark_dirty(tags: [Tag; TAG_RECORDS], v: usize) -> [Tag; TAG_RECORDS]
-    ensures { λ r. ⌜ r ≡ set tags v (withDirty true (tagAt tags v)) ⌝ }
+// The dirty mark after a store was written to the line; `dirty` is the mark before. Write-back sets it, write-through leaves it.
+fn mark_after(policy: WritePolicy, dirty: bool) -> bool
+    ensures { λ r. ⌜ r ≡ dirtyAfter policy dirty ⌝ }
+{
+    match policy {
+        WritePolicy::WriteBack => true,
+        WritePolicy::WriteThrough => dirty,
+    }
+}
+
+// "mark the line dirty", under write-back: the record of slot v, when a store was written to its line.
+pub fn mark_written(tags: [Tag; TAG_RECORDS], policy: WritePolicy, v: usize) -> [Tag; TAG_RECORDS]
+    ensures { λ r. ⌜ r ≡ set tags v (withDirty (dirtyAfter policy (tagAt tags v .dirty)) (tagAt tags v)) ⌝ }
 {
     if TAG_RECORDS <= v {
         return tags;
@@ -271,7 +282,7 @@ pub fn mark_dirty(tags: [Tag; TAG_RECORDS], v: usize) -> [Tag; TAG_RECORDS]
     let t = out[v];
     out[v] = Tag {
         valid: t.valid,
-        dirty: true,
+        dirty: mark_after(policy, t.dirty),
         line: t.line,
         age: t.age,
     };

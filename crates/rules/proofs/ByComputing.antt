@@ -1,44 +1,51 @@
 -- What the checker computes: the table of refusals, the shared table, 01's worked script, the states of well-formed, dropped stretches,
--- and runs beside flat memory.
+-- runs beside flat memory, and the write policies.
 -- Files are checked in the order of their names, this one first: an edited rule meets an example here before it meets a proof.
 use mathlib.Core.Path.{_≡_, refl}
-use mathlib.Core.Bool.{true}
+use mathlib.Core.Bool.{true, false}
 use mathlib.Core.List.{[], _∷_, _++_, map}
-use lib.ListN.{replicate}
+use lib.ListN.{replicate, set}
+use Rattle.rules.specs.declared.Request.the-variants.{Free, Line}
+use Rattle.rules.specs.declared.WritePolicy.{WritePolicy}
+use Rattle.rules.specs.declared.WritePolicy.the-variants.{WriteBack, WriteThrough}
 use Rattle.rules.specs.Shape.{geometry, fits}
-use Rattle.rules.specs.Calls.{abort, refused, stored, value, waits, committed, kept, drained, requested, filled, flushed, idled, shown}
+use Rattle.rules.specs.Calls.{retry, abort, idle, reply, show, refused, stored, value, waits, committed, kept, drained, requested, filled, flushed, idled, shown}
 use Rattle.rules.specs.WellFormed.{wellFormed}
 use Rattle.rules.specs.Runs.{answers, after, startAnswer, startWorld, ready}
 use Rattle.rules.specs.Dropped.{Dropped}
 use Rattle.rules.specs.Lines.{dirtyLines}
 use Rattle.rules.specs.Flat.{flatBefore, flatCommitted}
 use Rattle.lists.specs.Bytes.{valueAt}
-use Rattle.rules.specs.Examples.{table, script, whole, seenAnswers, struckAnswers, seenEnd, struckEnd, evicting, inquiring, waitingOnly, draining, otherCache, beginning, past, flatValue, twoLines, reusing, overtaken, evictedFlush}
-use Rattle.rules.specs.States.{richTags, richCache, richStores, richLoads, richQueues, richLines, clauses, broken, brokenClauses}
-use Rattle.rules.specs.RefusalTable.{startRows, inputRows, stateRows, clauseRows, orderRows, AsStarted, AsGiven}
+use Rattle.rules.specs.Examples.{table, script, whole, seenAnswers, struckAnswers, seenEnd, struckEnd, evicting, inquiring, waitingOnly, draining, otherCache, beginning, past, flatValue, twoLines, reusing, overtaken, evictedFlush, storeMisses, storeHits, afterIdle, writingTwice, storeToRequested, storedLine, drainingThrough}
+use Rattle.rules.specs.States.{tag, richTags, richCache, richStores, richLoads, richQueues, richLines, cleanTags, cleanCache, clauses, broken, brokenClauses}
+use Rattle.rules.specs.RefusalTable.{startRows, inputRows, stateRows, clauseRows, orderRows, AsStarted, AsGiven, GivenUnder}
 use Rattle.rules.specs.Computed.{computed}
 
 -- ---- the table of refusals
 
-pub start-refusals : AsStarted startRows
+pub start-refusals : (p : WritePolicy) → AsStarted p startRows
 unfolding computed startRows
-start-refusals = refl
+start-refusals WriteBack = refl
+start-refusals WriteThrough = refl
 
-pub input-refusals : AsGiven inputRows
+pub input-refusals : (p : WritePolicy) → GivenUnder p inputRows
 unfolding computed inputRows
-input-refusals = refl
+input-refusals WriteBack = refl
+input-refusals WriteThrough = refl
 
-pub state-refusals : AsGiven stateRows
+pub state-refusals : (p : WritePolicy) → GivenUnder p stateRows
 unfolding computed stateRows
-state-refusals = refl
+state-refusals WriteBack = refl
+state-refusals WriteThrough = refl
 
 pub clause-refusals : AsGiven clauseRows
-unfolding computed clauseRows richTags richCache richStores richLoads broken
+unfolding computed clauseRows richTags richCache richStores richLoads cleanTags cleanCache broken
 clause-refusals = refl
 
-pub refusals-in-order : AsGiven orderRows
+pub refusals-in-order : (p : WritePolicy) → GivenUnder p orderRows
 unfolding computed orderRows
-refusals-in-order = refl
+refusals-in-order WriteBack = refl
+refusals-in-order WriteThrough = refl
 
 -- ---- the shared table, and 01's worked script
 
@@ -48,12 +55,12 @@ unfolding computed table
 table-holds = refl
 
 -- 01's worked script: ready, and the ten answers after it
-pub script-starts : startAnswer (geometry 1 1) (replicate 16 0) (replicate 32 0) ≡ ready
+pub script-starts : startAnswer (geometry WriteBack 1 1) (replicate 16 0) (replicate 32 0) ≡ ready
 unfolding computed
 script-starts = refl
 
 pub script-answers :
-    answers script (startWorld (geometry 1 1) (replicate 16 0) (replicate 32 0))
+    answers script (startWorld (geometry WriteBack 1 1) (replicate 16 0) (replicate 32 0))
     ≡ stored 1
     ∷ value 2 7
     ∷ waits 3
@@ -81,7 +88,7 @@ rich-fits = refl
 
 -- each broken state breaks its clause alone (that it is not well formed is in the table of refusals)
 pub broken-clauses : map clauses broken ≡ brokenClauses
-unfolding computed richTags richCache richStores richLoads broken brokenClauses
+unfolding computed richTags richCache richStores richLoads cleanTags cleanCache broken brokenClauses
 broken-clauses = refl
 
 -- ---- dropped stretches
@@ -172,9 +179,10 @@ draining-struck-ends = refl
 -- ---- runs beside flat memory
 
 -- the start of each is accepted
-pub two-lines-start : startAnswer (geometry 1 1) otherCache twoLines ≡ ready
+pub two-lines-start : (p : WritePolicy) → startAnswer (geometry p 1 1) otherCache twoLines ≡ ready
 unfolding computed
-two-lines-start = refl
+two-lines-start WriteBack = refl
+two-lines-start WriteThrough = refl
 
 -- a value answered after its number was used again: byte 4 is store 1's, byte 5 as found; the dropped store does not count
 pub reusing-answers :
@@ -196,21 +204,25 @@ pub reusing-flat : flatValue 2 reusing ≡ 1543
 unfolding computed reusing
 reusing-flat = refl
 
--- an inquiry answered after a younger store was accepted: the byte as found, and not the store's
+-- an inquiry answered after a younger store was accepted: the byte as found, and not the store's, which is drained behind it
 pub overtaken-answers :
-    answers (overtaken .calls) (beginning overtaken)
-    ≡ waits 1 ∷ stored 2 ∷ committed 2 ∷ requested 0 ∷ filled 0 ∷ value 1 1 ∷ []
+    (p : WritePolicy)
+    → answers (overtaken p .calls) (beginning (overtaken p))
+    ≡ waits 1 ∷ stored 2 ∷ committed 2 ∷ requested 0 ∷ filled 0 ∷ idled ∷ value 1 1 ∷ drained 2 ∷ []
 unfolding computed overtaken
-overtaken-answers = refl
+overtaken-answers WriteBack = refl
+overtaken-answers WriteThrough = refl
 
-pub overtaken-flat : flatValue 1 overtaken ≡ 1
+pub overtaken-flat : (p : WritePolicy) → flatValue 1 (overtaken p) ≡ 1
 unfolding computed overtaken
-overtaken-flat = refl
+overtaken-flat WriteBack = refl
+overtaken-flat WriteThrough = refl
 
 -- a load numbered 3 would read the store
-pub overtaken-later : valueAt (flatBefore 3 (past overtaken) (overtaken .found)) 0 1 ≡ 9
+pub overtaken-later : (p : WritePolicy) → valueAt (flatBefore 3 (past (overtaken p)) (overtaken p .found)) 0 1 ≡ 9
 unfolding computed overtaken
-overtaken-later = refl
+overtaken-later WriteBack = refl
+overtaken-later WriteThrough = refl
 
 -- a flush after an eviction
 pub evicted-answers :
@@ -254,3 +266,170 @@ evicted-flat = refl
 pub evicted-clean : dirtyLines (after (evictedFlush .calls) (beginning evictedFlush) .hierarchy) ≡ 0
 unfolding computed evictedFlush
 evicted-clean = refl
+
+-- ---- the write policies
+
+-- a store to an absent line: write-through drains it to memory, and the cache stays zero; write-back requests the line
+pub through-misses :
+    afterIdle (storeMisses WriteThrough)
+    ≡ record {
+      says = drained 1;
+      memory = set (set twoLines 22 7) 23 9;
+      cache = replicate 32 0;
+      records = tag false false 0 0 ∷ tag false false 0 1 ∷ [];
+      request = Free;
+    }
+unfolding computed
+through-misses = refl
+
+pub back-misses :
+    afterIdle (storeMisses WriteBack)
+    ≡ record {
+      says = requested 16;
+      memory = twoLines;
+      cache = replicate 32 0;
+      records = tag false false 0 0 ∷ tag false false 0 1 ∷ [];
+      request = Line 1;
+    }
+unfolding computed
+back-misses = refl
+
+-- a store to a present line, which is used: write-through writes memory and the line, which stays clean; write-back writes the line
+-- alone, and marks it
+pub through-hits :
+    afterIdle (storeHits WriteThrough)
+    ≡ record {
+      says = drained 1;
+      memory = set (set twoLines 22 7) 23 9;
+      cache = set (set twoLines 22 7) 23 9;
+      records = tag true false 0 1 ∷ tag true false 1 0 ∷ [];
+      request = Free;
+    }
+unfolding computed
+through-hits = refl
+
+pub back-hits :
+    afterIdle (storeHits WriteBack)
+    ≡ record {
+      says = drained 1;
+      memory = twoLines;
+      cache = set (set twoLines 22 7) 23 9;
+      records = tag true false 0 1 ∷ tag true true 1 0 ∷ [];
+      request = Free;
+    }
+unfolding computed
+back-hits = refl
+
+-- a store to a line that is requested: write-through drains it, and the reply brings what it wrote; write-back holds it until the line
+-- is there
+pub through-requested :
+    answers (idle ∷ reply ∷ retry 2 ∷ idle ∷ show 0 ∷ []) (storeToRequested WriteThrough)
+    ≡ drained 1 ∷ filled 0 ∷ value 2 2 ∷ idled ∷ shown 0 storedLine ∷ []
+unfolding computed
+through-requested = refl
+
+pub back-requested :
+    answers (idle ∷ reply ∷ retry 2 ∷ idle ∷ show 0 ∷ []) (storeToRequested WriteBack)
+    ≡ idled ∷ filled 0 ∷ value 2 2 ∷ drained 1 ∷ shown 0 storedLine ∷ []
+unfolding computed
+back-requested = refl
+
+-- a run with write-through: no line is requested for a store, the load reads what was drained, and a flush has nothing to write
+pub through-answers :
+    answers (writingTwice WriteThrough .calls) (beginning (writingTwice WriteThrough))
+    ≡ stored 1
+    ∷ committed 1
+    ∷ drained 1
+    ∷ waits 2
+    ∷ committed 2
+    ∷ requested 0
+    ∷ filled 0
+    ∷ value 2 7
+    ∷ stored 3
+    ∷ committed 3
+    ∷ drained 3
+    ∷ flushed 0
+    ∷ []
+unfolding computed writingTwice
+through-answers = refl
+
+pub through-value : flatValue 2 (writingTwice WriteThrough) ≡ 7
+unfolding computed writingTwice
+through-value = refl
+
+pub through-memory :
+    after (writingTwice WriteThrough .calls) (beginning (writingTwice WriteThrough)) .hierarchy .memory
+    ≡ 1 ∷ 2 ∷ 3 ∷ 4 ∷ 5 ∷ 7 ∷ 8 ∷ 8 ∷ 9 ∷ 10 ∷ 11 ∷ 12 ∷ 13 ∷ 14 ∷ 15 ∷ 16
+    ∷ 17 ∷ 18 ∷ 19 ∷ 20 ∷ 21 ∷ 22 ∷ 23 ∷ 24 ∷ 25 ∷ 26 ∷ 27 ∷ 28 ∷ 29 ∷ 30 ∷ 31 ∷ 32 ∷ []
+unfolding computed writingTwice
+through-memory = refl
+
+pub through-flat :
+    flatCommitted (past (writingTwice WriteThrough)) (writingTwice WriteThrough .found)
+    ≡ 1 ∷ 2 ∷ 3 ∷ 4 ∷ 5 ∷ 7 ∷ 8 ∷ 8 ∷ 9 ∷ 10 ∷ 11 ∷ 12 ∷ 13 ∷ 14 ∷ 15 ∷ 16
+    ∷ 17 ∷ 18 ∷ 19 ∷ 20 ∷ 21 ∷ 22 ∷ 23 ∷ 24 ∷ 25 ∷ 26 ∷ 27 ∷ 28 ∷ 29 ∷ 30 ∷ 31 ∷ 32 ∷ []
+unfolding computed writingTwice
+through-flat = refl
+
+-- with write-back: the first idle call requests the line, so the load reads the held store; store 3 is still held at the flush
+pub back-answers :
+    answers (writingTwice WriteBack .calls) (beginning (writingTwice WriteBack))
+    ≡ stored 1
+    ∷ committed 1
+    ∷ requested 0
+    ∷ value 2 7
+    ∷ committed 2
+    ∷ idled
+    ∷ filled 0
+    ∷ refused 14
+    ∷ stored 3
+    ∷ committed 3
+    ∷ drained 1
+    ∷ refused 18
+    ∷ []
+unfolding computed writingTwice
+back-answers = refl
+
+pub back-memory :
+    after (writingTwice WriteBack .calls) (beginning (writingTwice WriteBack)) .hierarchy .memory
+    ≡ 1 ∷ 2 ∷ 3 ∷ 4 ∷ 5 ∷ 6 ∷ 7 ∷ 8 ∷ 9 ∷ 10 ∷ 11 ∷ 12 ∷ 13 ∷ 14 ∷ 15 ∷ 16
+    ∷ 17 ∷ 18 ∷ 19 ∷ 20 ∷ 21 ∷ 22 ∷ 23 ∷ 24 ∷ 25 ∷ 26 ∷ 27 ∷ 28 ∷ 29 ∷ 30 ∷ 31 ∷ 32 ∷ []
+unfolding computed writingTwice
+back-memory = refl
+
+-- a dropped stretch with write-through: the drain inside it is the struck run's, and the filled line shows what it wrote
+pub through-whole :
+    seenAnswers drainingThrough
+    ≡ drained 1
+    ∷ idled
+    ∷ refused 17
+    ∷ waits 2
+    ∷ committed 2
+    ∷ requested 16
+    ∷ filled 16
+    ∷ shown 0 (17 ∷ 18 ∷ 19 ∷ 20 ∷ 21 ∷ 22 ∷ 7 ∷ 9 ∷ 25 ∷ 26 ∷ 27 ∷ 28 ∷ 29 ∷ 30 ∷ 31 ∷ 32 ∷ [])
+    ∷ []
+unfolding computed drainingThrough
+through-whole = refl
+
+pub through-struck :
+    struckAnswers drainingThrough
+    ≡ drained 1
+    ∷ idled
+    ∷ refused 17
+    ∷ waits 2
+    ∷ committed 2
+    ∷ requested 16
+    ∷ filled 16
+    ∷ shown 0 (17 ∷ 18 ∷ 19 ∷ 20 ∷ 21 ∷ 22 ∷ 7 ∷ 9 ∷ 25 ∷ 26 ∷ 27 ∷ 28 ∷ 29 ∷ 30 ∷ 31 ∷ 32 ∷ [])
+    ∷ []
+unfolding computed drainingThrough
+through-struck = refl
+
+pub through-ends : seenEnd drainingThrough ≡ 2 ∷ 2 ∷ 0 ∷ 0 ∷ 2 ∷ 0 ∷ 0 ∷ 1 ∷ 1 ∷ []
+unfolding computed drainingThrough
+through-ends = refl
+
+pub through-struck-ends : struckEnd drainingThrough ≡ 2 ∷ 2 ∷ 0 ∷ 0 ∷ 2 ∷ 0 ∷ 0 ∷ 1 ∷ 1 ∷ []
+unfolding computed drainingThrough
+through-struck-ends = refl

@@ -1,24 +1,22 @@
 -- The laws of flat memory: what use, a store, a fill, a write back and a start do to each byte of it.
 use mathlib.Core.Path.{_≡_, refl, sym, ap, subst, _∙_}
-use mathlib.Core.Bool.{true, false, cond}
+use mathlib.Core.Bool.{true, false, cond, _||_}
 use mathlib.Core.List.{List}
 use mathlib.Core.Option.{some, none}
-use Prim.Native.Nat.{ℕ, zero, suc, _+_, _*_, _-_, _%_, _<_, _≤_}
+use Prim.Native.Nat.{ℕ, zero, suc, _+_, _*_, _%_, _<_, _≤_}
 use native.Mathlib.Omega.{arith}
-use native.Mathlib.Decide.{ℕ-discrete, decLt}
-use lib.Dec.{ltb, leb}
+use native.Mathlib.Decide.{ℕ-discrete}
 use lib.ListN.{length, getD}
 use lib.Seq.{getD-set-same, getD-set-other}
-use borrow.Author.Tests.{leb-true, leb-false, le-leb, lt-leb}
 use Rattle.lists.specs.Counted.{stepsFrom}
 use Rattle.lists.specs.Bytes.{among, overlaid}
-use Rattle.lists.proofs.Cond.{either, cases, wrong}
+use Rattle.lists.proofs.Cond.{either, cases, or-then, wrong}
 use Rattle.lists.proofs.Counting.{steps-keep, each-length, each-at, each-same}
 use Rattle.rules.specs.declared.Figures.{Figures}
 use Rattle.rules.specs.declared.Tag.{Tag}
 use Rattle.rules.specs.declared.StoreEntry.{StoreEntry}
-use Rattle.rules.specs.Shape.{Hierarchy, holding, noTag, tagAt, slots, setOf, firstSlot, lineOf, fits}
-use Rattle.rules.specs.Lines.{slotOf, present, placeOf, cachedByte, useSlot, useLine, dirtyAt, isDirty, cleaned, putStore, writeStore, writtenBackAt, writeBackSlot, writeBackAll, victim, install, fillLine}
+use Rattle.rules.specs.Shape.{Hierarchy, holding, noTag, tagAt, slots, setOf, firstSlot, lineOf, writesThrough, fits}
+use Rattle.rules.specs.Lines.{slotOf, present, placeOf, cachedByte, useSlot, useLine, dirtyAt, isDirty, cleaned, writtenThroughAt, storedMemory, putStore, writeStore, writtenBackAt, writeBackSlot, writeBackAll, victim, install, fillLine}
 use Rattle.rules.specs.Forward.{storeByte}
 use Rattle.rules.specs.WellFormed.{linesFormed}
 use Rattle.rules.specs.Runs.{started}
@@ -27,7 +25,7 @@ use Rattle.rules.proofs.Records.{SameLines}
 use Rattle.rules.proofs.Dirty.{clean-byte, cleaned-clean}
 use Rattle.rules.proofs.Recency.{use-lines, start-invalid}
 use Rattle.rules.proofs.LineFacts.{Fits, Lines, Good, At, fits-tells, present-tells, look, absent-tells, used-slot, byte-valid, good-tells}
-use Rattle.rules.proofs.LineSteps.{among-tells, slot-same, present-same, put-lines, put-other, put-good, saved-else, save-lines, install-tag, install-here, install-other-tag, install-other, install-good}
+use Rattle.rules.proofs.LineSteps.{same-lines, among-tells, overlaid-moved, through-is, through-out, slot-same, present-same, put-lines, put-other, put-good, saved-else, save-lines, install-tag, install-here, install-other-tag, install-other, install-good}
 use Rattle.rules.proofs.LineRules.{LinesKept, kept-refl, kept-then, kept-fits, shaped-slots, save-kept, victim-in}
 
 -- ---- reading flat memory
@@ -97,23 +95,19 @@ use-size l b = either (λ (c : Hierarchy). c .size ≡ b .size) (present b l) (�
 
 -- ---- a store is written
 
-same-leb : (m n x y : ℕ) → (m ≤ n → x ≤ y) → (x ≤ y → m ≤ n) → leb m n ≡ leb x y
-same-leb m n x y f g =
-    cases (leb m n) (λ e. e ∙ sym (le-leb x y (f (leb-true m n e))))
-    (λ e. e ∙ sym (lt-leb x y (elim (decLt y x) [
-      | yes h ↦ h
-      | no h ↦ let no : ⊥ = omega (arith, leb-false m n e, g (omega arith)) in absurd no
-    ])))
+-- no byte of the store stands in another line
+module _ (s : StoreEntry) (in-line : s .address % 16 + s .width ≤ 16) (a : ℕ) (d : lineOf a ≡ lineOf (s .address) → ⊥) where
+  other-byte : s .address ≤ a → a < s .address + s .width → ⊥
+  unfolding lineOf
+  other-byte p q = d (omega arith)
 
--- what stands at place j of bytes from p on stands at place k of bytes from q on
-overlaid-moved : (p j q k w v x : ℕ) → p + k ≡ q + j → overlaid p w v j x ≡ overlaid q w v k x
-unfolding overlaid
-overlaid-moved p j q k w v x e =
-    let low : leb p j ≡ leb q k = same-leb p j q k (λ h. omega arith) (λ h. omega arith) in
-    let high : ltb j (p + w) ≡ ltb k (q + w) = same-leb (suc j) (p + w) (suc k) (q + w) (λ h. omega arith) (λ h. omega arith) in
-    let byte : j - p ≡ k - q = omega arith in
-    rw (low, high, byte)
+  not-among : among (s .address) (s .width) a ≡ false
+  not-among =
+      cases (among (s .address) (s .width) a)
+      (λ e. let h = among-tells (s .address) (s .width) a e in absurd (other-byte (h .0) (h .1)))
+      (λ e. e)
 
+-- its line is present
 module _ (s : StoreEntry) (b : Hierarchy) (fit : Fits b) (g : Good b) (here : present b (lineOf (s .address)) ≡ true)
     (in-line : s .address % 16 + s .width ≤ 16) (a : ℕ) where
   abbrev v : ℕ
@@ -129,7 +123,7 @@ module _ (s : StoreEntry) (b : Hierarchy) (fit : Fits b) (g : Good b) (here : pr
   put-same = put-lines b fit g v s (at .valid)
 
   put-fine : Good put
-  put-fine = put-good b fit g v s (at .valid) in-line
+  put-fine = put-good b fit g v s (at .valid) in-line (at .line)
 
   -- a byte of the store's line
   put-hit : lineOf a ≡ lineOf (s .address) → flatByte put a ≡ overlaid (s .address) (s .width) (s .value) a (flatByte b a)
@@ -142,7 +136,7 @@ module _ (s : StoreEntry) (b : Hierarchy) (fit : Fits b) (g : Good b) (here : pr
 
   -- a byte of another line
   put-miss : (lineOf a ≡ lineOf (s .address) → ⊥) → flatByte put a ≡ flatByte b a
-  unfolding putStore
+  unfolding putStore storedMemory
   put-miss d =
       cases (present b (lineOf a))
       (λ e.
@@ -151,34 +145,63 @@ module _ (s : StoreEntry) (b : Hierarchy) (fit : Fits b) (g : Good b) (here : pr
       flat-here put (put-fine .lines) k a (put-same .valid k ∙ p .valid) (put-same .line k ∙ p .line)
       ∙ (put-other b v s in-line k (a % 16) (λ z. d (sym (p .line) ∙ (ap (λ (j : ℕ). tagAt (b .tags) j .line) z ∙ at .line))) (omega arith)
       ∙ sym (flat-here b (g .lines) k a (p .valid) (p .line))))
-      (λ e. flat-gone put a (present-same b (put .tags) (put .cache) (put .memory) put-same (lineOf a) ∙ e) ∙ sym (flat-gone b a e))
+      (λ e.
+      flat-gone put a (present-same b (put .tags) (put .cache) (put .memory) put-same (lineOf a) ∙ e)
+      ∙ (each-same _ (b .memory) 0 a (through-out (b .figures .policy) s a (other-byte s in-line a d)) ∙ sym (flat-gone b a e)))
 
-  -- no byte of the store stands in another line
-  not-among : (lineOf a ≡ lineOf (s .address) → ⊥) → among (s .address) (s .width) a ≡ false
-  unfolding lineOf
-  not-among d =
-      cases (among (s .address) (s .width) a)
-      (λ e. let h = among-tells (s .address) (s .width) a e in absurd (d (omega arith)))
-      (λ e. e)
-
-  stored-flat : flatByte (writeStore s b) a ≡ cond (among (s .address) (s .width) a) (storeByte s a) (flatByte b a)
-  unfolding writeStore overlaid
-  stored-flat =
+  hit-flat :
+      flatByte (useSlot (setOf b (lineOf (s .address))) v put) a
+      ≡ cond (among (s .address) (s .width) a) (storeByte s a) (flatByte b a)
+  unfolding overlaid
+  hit-flat =
       slot-flat (setOf b (lineOf (s .address))) v put a
       ∙ elim (ℕ-discrete (lineOf a) (lineOf (s .address))) [
         | yes e ↦ put-hit e
-        | no d ↦ rw (not-among d) (put-miss d)
+        | no d ↦ rw (not-among s in-line a d) (put-miss d)
       ]
 
--- a store written to its present line: exactly its bytes change
+-- its line is absent, and it is written through
+module _ (s : StoreEntry) (b : Hierarchy) (through : writesThrough b ≡ true) (absent : present b (lineOf (s .address)) ≡ false)
+    (in-line : s .address % 16 + s .width ≤ 16) (a : ℕ) (near : a < length (b .memory)) where
+  abbrev left : Hierarchy
+  left = holding b (b .tags) (b .cache) (storedMemory s b)
+
+  same-there : present left (lineOf a) ≡ present b (lineOf a)
+  same-there = present-same b (b .tags) (b .cache) (storedMemory s b) (same-lines (b .tags)) (lineOf a)
+
+  miss-flat : flatByte left a ≡ cond (among (s .address) (s .width) a) (storeByte s a) (flatByte b a)
+  unfolding storedMemory overlaid
+  miss-flat =
+      cases (present b (lineOf a))
+      (λ e.
+      rw (not-among s in-line a (λ z. wrong e (ap (present b) z ∙ absent)))
+      (unfold flatByte placeOf in (rw (same-there, slot-same b (b .tags) (b .cache) (storedMemory s b) (same-lines (b .tags)) (lineOf a), e))))
+      (λ e.
+      flat-gone left a (same-there ∙ e)
+      ∙ (each-at (writtenThroughAt (b .figures .policy) s) (b .memory) 0 a near
+      ∙ (through-is (b .figures .policy) s a _ through
+      ∙ ap (overlaid (s .address) (s .width) (s .value) a) (sym (flat-gone b a e)))))
+
+-- a store is written, to its present line or through: exactly its bytes change
 pub write-flat :
-    (s : StoreEntry) (b : Hierarchy) → fits b ≡ true → linesFormed b ≡ true → present b (lineOf (s .address)) ≡ true → s .address % 16 + s .width ≤ 16
-    → (a : ℕ) → flatByte (writeStore s b) a ≡ cond (among (s .address) (s .width) a) (storeByte s a) (flatByte b a)
-write-flat s b f g h w a = stored-flat s b (fits-tells b f) (good-tells b g) h w a
+    (s : StoreEntry) (b : Hierarchy) → fits b ≡ true → linesFormed b ≡ true → (writesThrough b || present b (lineOf (s .address))) ≡ true
+    → s .address % 16 + s .width ≤ 16 → (a : ℕ) → a < length (b .memory)
+    → flatByte (writeStore s b) a ≡ cond (among (s .address) (s .width) a) (storeByte s a) (flatByte b a)
+unfolding writeStore
+write-flat s b f g h w a near =
+    either (λ (c : Hierarchy). flatByte c a ≡ cond (among (s .address) (s .width) a) (storeByte s a) (flatByte b a)) (present b (lineOf (s .address)))
+    (λ p. hit-flat s b (fits-tells b f) (good-tells b g) p w a)
+    (λ p. miss-flat s b (cases (writesThrough b) (λ t. t) (λ t. wrong (or-then (writesThrough b) _ h t) p)) p w a near)
 
 pub write-size : (s : StoreEntry) (b : Hierarchy) → writeStore s b .size ≡ b .size
 unfolding writeStore useSlot putStore
-write-size s b = refl
+write-size s b = either (λ (c : Hierarchy). c .size ≡ b .size) (present b (lineOf (s .address))) (λ e. refl) (λ e. refl)
+
+pub write-length : (s : StoreEntry) (b : Hierarchy) → length (writeStore s b .memory) ≡ length (b .memory)
+unfolding writeStore useSlot putStore storedMemory
+write-length s b =
+    either (λ (c : Hierarchy). length (c .memory) ≡ length (b .memory)) (present b (lineOf (s .address)))
+    (λ e. each-length _ 0 (b .memory)) (λ e. each-length _ 0 (b .memory))
 
 -- ---- write back
 

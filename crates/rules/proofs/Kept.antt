@@ -16,7 +16,7 @@ use Rattle.rules.specs.declared.Figures.{Figures}
 use Rattle.rules.specs.declared.LoadEntry.{LoadEntry}
 use Rattle.rules.specs.declared.Request.{Request}
 use Rattle.rules.specs.declared.Request.the-variants.{Free, Line}
-use Rattle.rules.specs.Shape.{Queues, Hierarchy, World, noLoad, isFree, requestedLine, lineOf, fits}
+use Rattle.rules.specs.Shape.{Queues, Hierarchy, World, noLoad, isFree, requestedLine, lineOf, writesThrough, fits}
 use Rattle.rules.specs.Lines.{present, fillLine}
 use Rattle.rules.specs.Forward.{loadValue, someUncovered}
 use Rattle.rules.specs.Calls.{Call, Outcome, load, store, retry, commit, abort, idle, reply, flush, show, refused, isAccepted, unchanged, passes, accessChecks, callChecks, isNone, nextNumber, withRequest, loadRule, storeRule, answerLoad, retryWith, retryRule, answeredBy, useEach, commitRule, abortRule, oldestStore, storeReady, canDrain, wantsLine, canRequestLoad, lowestWanting, canRequestStore, idleRule, replyRule, flushRule, showRule, rule}
@@ -117,7 +117,7 @@ module _ (q : Queues) (b : Hierarchy) (wf : wellFormed q b ≡ true) where
   ready-access e = store-access b (q .last) (oldestStore q) (oldest-good q b p) (ready-tells q e .held)
 
   -- a line that is wanted is requested
-  requests : (a : ℕ) → present b (lineOf a) ≡ false → 16 * lineOf a < b .size → wantedBy q (lineOf a) ≡ true → wellFormed (withRequest (Line (lineOf a)) q) b ≡ true
+  requests : (a : ℕ) → present b (lineOf a) ≡ false → 16 * lineOf a < b .size → wantedBy q b (lineOf a) ≡ true → wellFormed (withRequest (Line (lineOf a)) q) b ≡ true
   unfolding storeReady
   requests a absent inside wanted = asks q b p (Line (lineOf a)) (asks-line (lineOf a) (withRequest (Line (lineOf a)) q) b absent inside wanted)
 
@@ -126,9 +126,8 @@ module _ (q : Queues) (b : Hierarchy) (wf : wellFormed q b ≡ true) where
   idle-formed =
       either Leaves (canDrain q b)
       (λ e.
-      let there = and-right (storeReady q) _ e in
-      with-lines _ _ (oldest-leaves q b p there)
-      (write-store (oldestStore q) b (p .fit) g there (fine b _ _ (ready-access (and-left _ _ e)) .one-line)))
+      with-lines _ _ (oldest-leaves q b p (and-right (storeReady q) _ e))
+      (write-store (oldestStore q) b (p .fit) g (fine b _ _ (ready-access (and-left _ _ e)) .one-line)))
       (λ e. either Leaves (canRequestLoad q b)
       (λ e₁.
       let l = lowestWanting q b in
@@ -140,10 +139,13 @@ module _ (q : Queues) (b : Hierarchy) (wf : wellFormed q b ≡ true) where
       (λ e₁. either Leaves (canRequestStore q b)
       (λ e₂.
       let s = oldestStore q in
-      let e₃ = and-right (isFree (q .request)) _ e₂ in
+      let needs = and-right (isFree (q .request)) _ e₂ in
+      let back = and-left (not (writesThrough b)) _ needs in
+      let e₃ = and-right (not (writesThrough b)) _ needs in
       let is-ready = and-left _ _ e₃ in
       requests (s .address) (not-true _ (and-right (storeReady q) _ e₃)) (line-inside b (s .address) (s .width) (ready-access is-ready))
-      (or-two (any (waitsFor (q .committed) (lineOf (s .address))) (q .loads)) _ (and-both _ _ is-ready (eq-eqb (lineOf (s .address)) (lineOf (s .address)) refl))))
+      (or-two (any (waitsFor (q .committed) (lineOf (s .address))) (q .loads)) _
+      (and-both (not (writesThrough b)) _ back (and-both _ _ is-ready (eq-eqb (lineOf (s .address)) (lineOf (s .address)) refl)))))
       (λ e₂. wf)))
 
   -- what a request tells

@@ -14,9 +14,9 @@ use Rattle.lists.specs.Counted.{firstFrom, allFrom}
 use Rattle.lists.proofs.Cond.{cases, and-left, and-right, and-both, or-then, or-by, wrong}
 use Rattle.lists.proofs.Counting.{first-low, first-hits, first-least, all-at, all-by, every-drop}
 use Rattle.rules.specs.declared.Tag.{Tag}
-use Rattle.rules.specs.Shape.{Hierarchy, noTag, tagAt, slots, firstSlot, setsAllowed, waysAllowed, memoryAllowed, figuresAllowed, fits}
+use Rattle.rules.specs.Shape.{Hierarchy, noTag, tagAt, slots, firstSlot, writesThrough, setsAllowed, waysAllowed, memoryAllowed, figuresAllowed, fits}
 use Rattle.rules.specs.Lines.{holdsLine, slotOf, present, dirtyAt, isDirty}
-use Rattle.rules.specs.WellFormed.{zeroTag, linesInsideAt, linesInSetAt, linesOnceAt, onlyValidDirtyAt, invalidZeroAt, invalidBytesAt, cleanEqualAt, tableLength, unusedZero, recencyFormed, linesInside, linesInSet, linesOnce, onlyValidDirty, invalidZero, invalidBytes, cleanEqual, lineClauses, linesFormed}
+use Rattle.rules.specs.WellFormed.{zeroTag, linesInsideAt, linesInSetAt, linesOnceAt, onlyValidDirtyAt, invalidZeroAt, invalidBytesAt, cleanEqualAt, isCleanAt, tableLength, unusedZero, recencyFormed, linesInside, linesInSet, linesOnce, onlyValidDirty, invalidZero, invalidBytes, cleanEqual, noneDirty, lineClauses, linesFormed}
 use Rattle.rules.proofs.Dirty.{dirty-byte, no-tag-clean}
 use Rattle.rules.proofs.Recency.{Recency, recency-tells, recency-are}
 pub use Rattle.rules.proofs.Records.{set-room}
@@ -53,6 +53,7 @@ pub record Good (b : Hierarchy) : Type 0 where
       (k : ℕ) → tagAt (b .tags) k .valid ≡ false → (isDirty (tagAt (b .tags) k) ≡ false) × (tagAt (b .tags) k .line ≡ 0)
   pub zeroed :
       (k i : ℕ) → k < slots b → tagAt (b .tags) k .valid ≡ false → i < 16 → getD (b .cache) (16 * k + i) 0 ≡ 0
+  pub none-dirty : writesThrough b ≡ true → (k : ℕ) → isDirty (tagAt (b .tags) k) ≡ false
 
 -- where a present line stands
 pub record At (b : Hierarchy) (l : ℕ) : Type 0 where
@@ -168,6 +169,7 @@ record Clauses (b : Hierarchy) : Type 0 where
   line : invalidZero b ≡ true
   bytes : invalidBytes b ≡ true
   clean : cleanEqual b ≡ true
+  none-dirty : noneDirty b ≡ true
 
 clauses-tell : (b : Hierarchy) → linesFormed b ≡ true → Clauses b
 unfolding linesFormed
@@ -184,6 +186,7 @@ clauses-tell b e =
       line = at 7;
       bytes = at 8;
       clean = at 9;
+      none-dirty = at 10;
     }
 
 clauses-are : (b : Hierarchy) → Clauses b → linesFormed b ≡ true
@@ -195,7 +198,8 @@ clauses-are b c =
     (and-both _ _ (c .inside)
     (and-both _ _ (c .own)
     (and-both _ _ (c .once)
-    (and-both _ _ (c .dirty) (and-both _ _ (c .line) (and-both _ _ (c .bytes) (and-both _ _ (c .clean) refl)))))))))
+    (and-both _ _ (c .dirty) (and-both _ _ (c .line) (and-both _ _ (c .bytes)
+    (and-both _ _ (c .clean) (and-both _ _ (c .none-dirty) refl))))))))))
 
 -- ---- zero records
 
@@ -268,6 +272,10 @@ module _ (b : Hierarchy) where
     unfolding invalidBytesAt
     zeroed-tells e v i h = eqb-true _ 0 (all-at _ 16 0 (or-then (tag .valid) _ e v) i (omega arith) (omega arith))
 
+    undirty-tells : isCleanAt b k ≡ true → isDirty tag ≡ false
+    unfolding isCleanAt
+    undirty-tells e = not-true _ e
+
 pub good-tells : (b : Hierarchy) → linesFormed b ≡ true → Good b
 good-tells b e =
     record {
@@ -286,6 +294,11 @@ good-tells b e =
             | no h ↦ let q = past k (omega arith) in (ap isDirty q ∙ no-tag-clean, ap (λ (t : Tag). t .line) q)
           ];
       zeroed = λ k i h v l. zeroed-tells b k (at-slot b (invalidBytesAt b) (c .bytes) k h) v i l;
+      none-dirty = λ t k.
+          elim (decLt k (slots b)) [
+            | yes h ↦ undirty-tells b k (at-slot b (isCleanAt b) (or-then (not (writesThrough b)) _ (c .none-dirty) (ap not t)) k h)
+            | no h ↦ ap isDirty (past k (omega arith)) ∙ no-tag-clean
+          ];
     }
   where
     c : Clauses b
@@ -356,6 +369,10 @@ module _ (b : Hierarchy) (g : Good b) (k : ℕ) where
   clean-is =
       or-by _ _ (λ n. all-by _ 16 0 (λ i a l. or-by _ _ (λ d. eq-eqb _ _ (g .clean k i (not-false _ n) d (omega arith)))))
 
+  undirty-is : writesThrough b ≡ true → isCleanAt b k ≡ true
+  unfolding isCleanAt
+  undirty-is t = ap not (g .none-dirty t k)
+
 pub good-is : (b : Hierarchy) → Good b → linesFormed b ≡ true
 good-is b g =
     clauses-are b (record {
@@ -371,4 +388,5 @@ good-is b g =
       line = all-by (invalidZeroAt b) (slots b) 0 (λ k a h. empty-is b g k);
       bytes = all-by (invalidBytesAt b) (slots b) 0 (λ k a h. zeroed-is b g k (omega arith));
       clean = all-by (cleanEqualAt b) (slots b) 0 (λ k a h. clean-is b g k);
+      none-dirty = or-by (not (writesThrough b)) _ (λ n. all-by (isCleanAt b) (slots b) 0 (λ k a h. undirty-is b g k (not-false _ n)));
     })

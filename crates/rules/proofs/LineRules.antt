@@ -10,12 +10,12 @@ use Rattle.lists.proofs.Cond.{either, wrong}
 use Rattle.lists.proofs.Counting.{steps-keep, each-length}
 use Rattle.rules.specs.declared.Tag.{Tag}
 use Rattle.rules.specs.declared.StoreEntry.{StoreEntry}
-use Rattle.rules.specs.Shape.{Hierarchy, tagAt, slots, setOf, firstSlot, lineOf, fits}
-use Rattle.rules.specs.Lines.{slotOf, present, useSlot, useLine, putStore, writeStore, writeBackSlot, writeBackAll, victim, install, fillLine}
+use Rattle.rules.specs.Shape.{Hierarchy, holding, tagAt, slots, setOf, firstSlot, lineOf, fits}
+use Rattle.rules.specs.Lines.{slotOf, present, useSlot, useLine, storedMemory, putStore, writeStore, writeBackSlot, writeBackAll, victim, install, fillLine}
 use Rattle.rules.proofs.Records.{set-room}
 use Rattle.rules.proofs.Recency.{use-lines, victim-range}
 use Rattle.rules.proofs.LineFacts.{Fits, Good, fits-tells, present-tells, look, absent-tells}
-use Rattle.rules.proofs.LineSteps.{present-same, use-good, put-lines, put-good, save-lines, save-good, install-tag, install-other-tag, install-good}
+use Rattle.rules.proofs.LineSteps.{same-lines, present-same, memory-good, use-good, put-lines, put-good, save-lines, save-good, install-tag, install-other-tag, install-good}
 
 -- ---- what stays
 
@@ -93,25 +93,39 @@ use-line l b e g =
 -- ---- a store is written
 
 put-kept :
-    (b : Hierarchy) → Fits b → Good b → (v : ℕ) (s : StoreEntry) → tagAt (b .tags) v .valid ≡ true → s .address % 16 + s .width ≤ 16
-    → LinesKept b (putStore v s b)
-unfolding putStore
-put-kept b fit g v s h w =
+    (b : Hierarchy) → Fits b → Good b → (v : ℕ) (s : StoreEntry) → tagAt (b .tags) v .valid ≡ true
+    → tagAt (b .tags) v .line ≡ lineOf (s .address) → s .address % 16 + s .width ≤ 16 → LinesKept b (putStore v s b)
+unfolding putStore storedMemory
+put-kept b fit g v s h e w =
     record {
-      shaped = record { figures = refl; size = refl; memory = refl; cache = each-length _ 0 (b .cache) };
-      good = put-good b fit g v s h w;
-      lines = present-same b _ _ (b .memory) (put-lines b fit g v s h);
+      shaped = record { figures = refl; size = refl; memory = each-length _ 0 (b .memory); cache = each-length _ 0 (b .cache) };
+      good = put-good b fit g v s h w e;
+      lines = present-same b _ _ _ (put-lines b fit g v s h);
+    }
+
+-- where its line is absent
+memory-kept :
+    (b : Hierarchy) → Good b → (s : StoreEntry) → s .address % 16 + s .width ≤ 16 → present b (lineOf (s .address)) ≡ false
+    → LinesKept b (holding b (b .tags) (b .cache) (storedMemory s b))
+unfolding storedMemory
+memory-kept b g s w a =
+    record {
+      shaped = record { figures = refl; size = refl; memory = each-length _ 0 (b .memory); cache = refl };
+      good = memory-good b g s w a;
+      lines = present-same b (b .tags) (b .cache) _ (same-lines (b .tags));
     }
 
 pub write-store :
-    (s : StoreEntry) (b : Hierarchy) → fits b ≡ true → Good b → present b (lineOf (s .address)) ≡ true → s .address % 16 + s .width ≤ 16
-    → LinesKept b (writeStore s b)
+    (s : StoreEntry) (b : Hierarchy) → fits b ≡ true → Good b → s .address % 16 + s .width ≤ 16 → LinesKept b (writeStore s b)
 unfolding writeStore putStore
-write-store s b e g p w =
+write-store s b e g w =
     let l = lineOf (s .address) in
+    either (LinesKept b) (present b l)
+    (λ p.
     let h = present-tells b l p in
-    let k = put-kept b (fits-tells b e) g (slotOf b l) s (h .valid) w in
-    kept-then b _ _ k (use-kept _ (fits-tells _ (kept-fits b _ e k)) (k .good) l (slotOf b l) (h .low) (h .high))
+    let k = put-kept b (fits-tells b e) g (slotOf b l) s (h .valid) (h .line) w in
+    kept-then b _ _ k (use-kept _ (fits-tells _ (kept-fits b _ e k)) (k .good) l (slotOf b l) (h .low) (h .high)))
+    (λ p. memory-kept b g s w p)
 
 -- ---- write back
 

@@ -39,4 +39,5 @@ module _ (f : Figures) (cache memory : List ℕ) (allowed : startAllowed f cache
         clean = λ k i v d h. wrong v (start-invalid f k);
         empty = λ k v. (start-clean f k, start-line f k);
         zeroed = λ k i h v l. getD-replicate (f .sets * f .ways * 16) (16 * k + i) 0 0 (omega arith);
+        none-dirty = λ t k. start-clean f k;
       }

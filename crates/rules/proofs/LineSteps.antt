@@ -2,24 +2,27 @@
 use mathlib.Core.Path.{_≡_, refl, sym, ap, fun-ext, _∙_}
 use mathlib.Core.Bool.{Bool, true, false, _&&_}
 use mathlib.Core.List.{List}
-use Prim.Native.Nat.{ℕ, _+_, _*_, _/_, _%_, _<_, _≤_}
+use Prim.Native.Nat.{ℕ, suc, _+_, _*_, _-_, _/_, _%_, _<_, _≤_}
 use native.Mathlib.Omega.{arith}
+use native.Mathlib.Decide.{decLt}
 use lib.Dec.{ltb, leb, eqb}
 use lib.ListN.{length, getD, set, length-set}
 use lib.Seq.{getD-set-same, getD-set-other}
-use borrow.Author.Tests.{ltb-true, leb-true, eqb-true, lt-ltb, le-leb, eq-eqb, ne-eqb}
+use borrow.Author.Tests.{ltb-true, leb-true, leb-false, eqb-true, lt-ltb, le-leb, lt-leb, eq-eqb, ne-eqb}
 use Rattle.lists.specs.Counted.{firstFrom}
 use Rattle.lists.specs.Bytes.{among, overlaid}
 use Rattle.lists.proofs.Cond.{either, cases, and-left, and-right, and-both, wrong}
 use Rattle.lists.proofs.Counting.{each-at, each-same}
 use Rattle.rules.specs.declared.Tag.{Tag}
 use Rattle.rules.specs.declared.StoreEntry.{StoreEntry}
-use Rattle.rules.specs.Shape.{Hierarchy, holding, noTag, tagAt, slots, setStart, firstSlot, lineOf}
-use Rattle.rules.specs.Lines.{holdsLine, slotOf, present, useSlot, dirtyAt, isDirty, marked, cleaned, putStore, writtenBackAt, writeBackSlot, copiedAt, install}
+use Rattle.rules.specs.declared.WritePolicy.{WritePolicy}
+use Rattle.rules.specs.declared.WritePolicy.the-variants.{WriteBack, WriteThrough}
+use Rattle.rules.specs.Shape.{Hierarchy, holding, noTag, tagAt, slots, setStart, firstSlot, lineOf, isThrough, writesThrough}
+use Rattle.rules.specs.Lines.{holdsLine, slotOf, present, useSlot, dirtyAt, isDirty, marked, cleaned, writtenThroughAt, storedMemory, putStore, writtenBackAt, writeBackSlot, copiedAt, install}
 use Rattle.rules.proofs.Records.{at-set, SameLines}
-use Rattle.rules.proofs.Dirty.{marked-tells, cleaned-clean}
-use Rattle.rules.proofs.Recency.{set-recency, use-lines, use-dirty, use-dirty-at, use-table, use-unused, use-recency}
-use Rattle.rules.proofs.LineFacts.{Fits, Lines, Good, used-slot, byte-valid}
+use Rattle.rules.proofs.Dirty.{marked-tells, marked-clean, cleaned-clean}
+use Rattle.rules.proofs.Recency.{recency-same, set-recency, use-lines, use-dirty, use-dirty-at, use-table, use-unused, use-recency}
+use Rattle.rules.proofs.LineFacts.{Fits, Lines, Good, absent-tells, used-slot, byte-valid}
 
 -- ---- what a change of records leaves
 
@@ -60,9 +63,13 @@ module _ (b : Hierarchy) (fit : Fits b) (g : Good b) (s v : ℕ) (s-in : s < b .
         clean = λ k i e d h. rw (same .line k) (g .clean k i (sym (same .valid k) ∙ e) (sym (use-dirty-at s v b i k) ∙ d) h);
         empty = λ k n. let e = g .empty k (sym (same .valid k) ∙ n) in (use-dirty s v b k ∙ e .0, same .line k ∙ e .1);
         zeroed = λ k i h v l. g .zeroed k i h (sym (same .valid k) ∙ v) l;
+        none-dirty = λ t k. use-dirty s v b k ∙ g .none-dirty t k;
       }
 
 -- ---- a record is written
+
+pub same-lines : (tags : List Tag) → SameLines tags tags
+same-lines tags = record { valid = λ k. refl; line = λ k. refl }
 
 module _ (b : Hierarchy) (fit : Fits b) (g : Good b) (v : ℕ) (v-in : v < slots b) (t : Tag) where
   in-table : v < length (b .tags)
@@ -90,6 +97,68 @@ unfolding overlaid
 overlaid-out p w v j o x =
     either (λ r. r ≡ x) (among p w j) (λ e. let h = among-tells p w j e in absurd (o (h .0) (h .1))) (λ e. refl)
 
+same-leb : (m n x y : ℕ) → (m ≤ n → x ≤ y) → (x ≤ y → m ≤ n) → leb m n ≡ leb x y
+same-leb m n x y f g =
+    cases (leb m n) (λ e. e ∙ sym (le-leb x y (f (leb-true m n e))))
+    (λ e. e ∙ sym (lt-leb x y (elim (decLt y x) [
+      | yes h ↦ h
+      | no h ↦ let no : ⊥ = omega (arith, leb-false m n e, g (omega arith)) in absurd no
+    ])))
+
+-- what stands at place j of bytes from p on stands at place k of bytes from q on
+pub overlaid-moved : (p j q k w v x : ℕ) → p + k ≡ q + j → overlaid p w v j x ≡ overlaid q w v k x
+unfolding overlaid
+overlaid-moved p j q k w v x e =
+    let low : leb p j ≡ leb q k = same-leb p j q k (λ h. omega arith) (λ h. omega arith) in
+    let high : ltb j (p + w) ≡ ltb k (q + w) = same-leb (suc j) (p + w) (suc k) (q + w) (λ h. omega arith) (λ h. omega arith) in
+    let byte : j - p ≡ k - q = omega arith in
+    rw (low, high, byte)
+
+-- what write-through does to a byte of memory, and that write-back does nothing to it
+pub through-is :
+    (w : WritePolicy) (s : StoreEntry) (a x : ℕ) → isThrough w ≡ true → writtenThroughAt w s a x ≡ overlaid (s .address) (s .width) (s .value) a x
+unfolding writtenThroughAt
+through-is WriteBack s a x t = wrong t refl
+through-is WriteThrough s a x t = refl
+
+back-is : (w : WritePolicy) (s : StoreEntry) (a : ℕ) → isThrough w ≡ false → (x : ℕ) → writtenThroughAt w s a x ≡ x
+unfolding writtenThroughAt
+back-is WriteBack s a t x = refl
+back-is WriteThrough s a t x = wrong refl t
+
+-- neither changes a byte that is none of the store's
+pub through-out :
+    (w : WritePolicy) (s : StoreEntry) (a : ℕ) → (s .address ≤ a → a < s .address + s .width → ⊥) → (x : ℕ) → writtenThroughAt w s a x ≡ x
+unfolding writtenThroughAt
+through-out WriteBack s a o x = refl
+through-out WriteThrough s a o x = overlaid-out (s .address) (s .width) (s .value) a o x
+
+-- the bytes of memory of another line
+memory-other :
+    (b : Hierarchy) (s : StoreEntry) → s .address % 16 + s .width ≤ 16 → (l i : ℕ) → (l ≡ lineOf (s .address) → ⊥) → i < 16
+    → getD (storedMemory s b) (16 * l + i) 0 ≡ getD (b .memory) (16 * l + i) 0
+unfolding storedMemory lineOf
+memory-other b s in-line l i d h =
+    each-same _ (b .memory) 0 (16 * l + i) (through-out (b .figures .policy) s (16 * l + i) (λ p q. d (omega arith)))
+
+-- memory alone is written, where the store's line is absent
+pub memory-good :
+    (b : Hierarchy) → Good b → (s : StoreEntry) → s .address % 16 + s .width ≤ 16 → present b (lineOf (s .address)) ≡ false
+    → Good (holding b (b .tags) (b .cache) (storedMemory s b))
+memory-good b g s in-line absent =
+    record {
+      table = g .table;
+      unused = g .unused;
+      recency = recency-same b (b .cache) (storedMemory s b) (g .recency) (b .tags) (λ k. refl);
+      lines = lines-same b (b .tags) (b .cache) (storedMemory s b) (same-lines (b .tags)) (g .lines);
+      clean = λ k i v d h.
+          g .clean k i v d h
+          ∙ sym (memory-other b s in-line (tagAt (b .tags) k .line) i (absent-tells b (g .lines) (lineOf (s .address)) absent k v) h);
+      empty = g .empty;
+      zeroed = g .zeroed;
+      none-dirty = g .none-dirty;
+    }
+
 -- a byte that is none of the store's
 put-outside :
     (b : Hierarchy) (v : ℕ) (s : StoreEntry) (j : ℕ) → (16 * v + s .address % 16 ≤ j → j < 16 * v + s .address % 16 + s .width → ⊥)
@@ -114,29 +183,56 @@ put-other b v s in-line k i d h = put-outside b v s (16 * k + i) (λ p q. omega 
 module _ (b : Hierarchy) (fit : Fits b) (g : Good b) (v : ℕ) (s : StoreEntry) (here : tagAt (b .tags) v .valid ≡ true) where
   pub put-lines : SameLines (b .tags) (putStore v s b .tags)
   unfolding putStore
-  put-lines = set-lines b fit g v (used-slot b g v here) (marked s (tagAt (b .tags) v)) refl refl
+  put-lines = set-lines b fit g v (used-slot b g v here) (marked (b .figures .policy) s (tagAt (b .tags) v)) refl refl
 
-  pub put-good : s .address % 16 + s .width ≤ 16 → Good (putStore v s b)
+  -- with write-through a byte of the line in the cache is that in memory, if it was
+  put-through :
+      tagAt (b .tags) v .line ≡ lineOf (s .address) → writesThrough b ≡ true → (i : ℕ) → dirtyAt (tagAt (b .tags) v) i ≡ false → i < 16
+      → getD (putStore v s b .cache) (16 * v + i) 0 ≡ getD (storedMemory s b) (16 * tagAt (b .tags) v .line + i) 0
+  unfolding putStore storedMemory lineOf
+  put-through line-is t i d h =
+      let a = 16 * tagAt (b .tags) v .line + i in
+      each-at (overlaid (16 * v + s .address % 16) (s .width) (s .value)) (b .cache) 0 (16 * v + i) (omega (arith, used-slot b g v here, fit .cache-long))
+      ∙ (overlaid-moved (16 * v + s .address % 16) (16 * v + i) (s .address) a (s .width) (s .value) _ (omega arith)
+      ∙ (ap (overlaid (s .address) (s .width) (s .value) a) (g .clean v i here d h)
+      ∙ sym (each-at (writtenThroughAt (b .figures .policy) s) (b .memory) 0 a (omega (arith, g .lines .inside v here, fit .by-lines, fit .memory-long))
+      ∙ through-is (b .figures .policy) s a _ t)))
+
+  -- with write-back a byte that is clean is none of the store's, and memory stays
+  put-back :
+      writesThrough b ≡ false → (i : ℕ) → among (s .address % 16) (s .width) i ≡ false → dirtyAt (tagAt (b .tags) v) i ≡ false → i < 16
+      → getD (putStore v s b .cache) (16 * v + i) 0 ≡ getD (storedMemory s b) (16 * tagAt (b .tags) v .line + i) 0
+  unfolding storedMemory
+  put-back t i o d h =
+      put-beside b v s i o ∙ (g .clean v i here d h ∙ sym (each-same _ (b .memory) 0 _ (back-is (b .figures .policy) s _ t)))
+
+  pub put-good : s .address % 16 + s .width ≤ 16 → tagAt (b .tags) v .line ≡ lineOf (s .address) → Good (putStore v s b)
   unfolding putStore
-  put-good in-line =
+  put-good in-line line-is =
       let v-in = used-slot b g v here in
-      let t = marked s (tagAt (b .tags) v) in
+      let t = marked (b .figures .policy) s (tagAt (b .tags) v) in
       let at = at-set (b .tags) v t (in-table b fit g v v-in t) in
       record {
         table = length-set (b .tags) v t ∙ g .table;
         unused = set-unused b fit g v v-in t;
         recency = set-recency b _ _ (g .recency) v t (in-table b fit g v v-in t) refl;
-        lines = lines-same b _ _ (b .memory) put-lines (g .lines);
+        lines = lines-same b _ _ _ put-lines (g .lines);
         clean = λ k i.
             at
-            (λ k u. u .valid ≡ true → dirtyAt u i ≡ false → i < 16 → getD (putStore v s b .cache) (16 * k + i) 0 ≡ getD (b .memory) (16 * u .line + i) 0)
-            (λ e f l. let m = marked-tells (tagAt (b .tags) v) i s l f in put-beside b v s i (m .0) ∙ g .clean v i here (m .1) l)
-            (λ k d e f l. put-other b v s in-line k i d l ∙ g .clean k i e f l) k;
+            (λ k u. u .valid ≡ true → dirtyAt u i ≡ false → i < 16 → getD (putStore v s b .cache) (16 * k + i) 0 ≡ getD (storedMemory s b) (16 * u .line + i) 0)
+            (λ e f l.
+            let m = marked-tells (tagAt (b .tags) v) i (b .figures .policy) s l f in
+            cases (writesThrough b) (λ t. put-through line-is t i (m .0) l) (λ t. put-back t i (m .1 t) (m .0) l))
+            (λ k d e f l.
+            put-other b v s in-line k i d l
+            ∙ (g .clean k i e f l
+            ∙ sym (memory-other b s in-line (tagAt (b .tags) k .line) i (λ z. d (g .lines .once k v e here (z ∙ sym line-is))) l))) k;
         empty =
             at (λ k u. u .valid ≡ false → (isDirty u ≡ false) × (u .line ≡ 0)) (λ e. wrong here e) (λ k d. g .empty k);
         zeroed = λ k i h.
             at (λ k u. k < slots b → u .valid ≡ false → i < 16 → getD (putStore v s b .cache) (16 * k + i) 0 ≡ 0)
             (λ h e. wrong here e) (λ k d h e l. put-other b v s in-line k i d l ∙ g .zeroed k i h e l) k h;
+        none-dirty = λ h. at (λ k u. isDirty u ≡ false) (marked-clean (b .figures .policy) s (tagAt (b .tags) v) h (g .none-dirty h v)) (λ k d. g .none-dirty h k);
       }
 
 -- ---- a line goes to memory
@@ -179,6 +275,7 @@ module _ (b : Hierarchy) (fit : Fits b) (g : Good b) (v : ℕ) (v-in : v < slots
             (λ k d e f l. g .clean k i e f l ∙ sym (untouched k i d e l)) k;
         empty = at (λ k u. u .valid ≡ false → (isDirty u ≡ false) × (u .line ≡ 0)) (λ e. (cleaned-clean (tagAt (b .tags) v), g .empty v e .1)) (λ k d. g .empty k);
         zeroed = λ k i h. at (λ k u. k < slots b → u .valid ≡ false → i < 16 → getD (b .cache) (16 * k + i) 0 ≡ 0) (g .zeroed v i) (λ k d. g .zeroed k i) k h;
+        none-dirty = λ h. at (λ k u. isDirty u ≡ false) (cleaned-clean (tagAt (b .tags) v)) (λ k d. g .none-dirty h k);
       }
     where
       -- the byte's place in memory is that of the line's byte i
@@ -271,4 +368,5 @@ module _ (b : Hierarchy) (fit : Fits b) (g : Good b) (v l : ℕ) (v-in : v < slo
         zeroed = λ k i h.
             at (λ k u. k < slots b → u .valid ≡ false → i < 16 → getD (install v l b .cache) (16 * k + i) 0 ≡ 0)
             (λ h e. wrong refl e) (λ k d h e m. install-other b v l k d i m ∙ g .zeroed k i h e m) k h;
+        none-dirty = λ h. at (λ k u. isDirty u ≡ false) refl (λ k d. g .none-dirty h k);
       }

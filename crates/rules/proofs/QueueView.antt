@@ -29,7 +29,7 @@ goodLoad b last h ss l =
 
 -- all that is asked of the register
 unfoldable pub goodRequest : Request → Queues → Hierarchy → Bool
-goodRequest r q b = requestAbsent r b && (requestInside r b && requestWanted r q)
+goodRequest r q b = requestAbsent r b && (requestInside r b && requestWanted r q (b .figures .policy))
 
 pub record Parts (q : Queues) (b : Hierarchy) : Type 0 where
   pub fit : fits b ≡ true
@@ -193,7 +193,7 @@ parts q b e =
       apart = and-left (numbersApart q) _ e₆;
       wanted =
           and-both (requestAbsent (q .request) b) _ (and-left _ _ r)
-          (and-both (requestInside (q .request) b) (requestWanted (q .request) q) (and-left _ _ r₁) (and-left _ _ r₂));
+          (and-both (requestInside (q .request) b) (requestWanted (q .request) q (b .figures .policy)) (and-left _ _ r₁) (and-left _ _ r₂));
     }
 
 pub whole : (q : Queues) (b : Hierarchy) → Parts q b → wellFormed q b ≡ true
@@ -215,6 +215,6 @@ whole q b p =
     (and-both _ _ (and-both _ _ (ss (storePasses b) (store-passes b (q .last))) (ls (loadPasses b) (load-passes b (q .last) (q .committed) (q .stores))))
     (and-both _ _ (ls (committedWaitAt (q .committed)) (load-waits b (q .last) (q .committed) (q .stores)))
     (and-both _ _ (ls (waitingUncoveredAt (q .stores)) (load-exposed b (q .last) (q .committed) (q .stores)))
-    (and-both (requestAbsent (q .request) b) _ (and-left (requestAbsent (q .request) b) (requestInside (q .request) b && requestWanted (q .request) q) (p .wanted))
+    (and-both (requestAbsent (q .request) b) _ (and-left (requestAbsent (q .request) b) (requestInside (q .request) b && requestWanted (q .request) q (b .figures .policy)) (p .wanted))
     (and-both (requestInside (q .request) b) _ (and-left (requestInside (q .request) b) _ w)
-    (and-both (requestWanted (q .request) q) true (and-right (requestInside (q .request) b) _ w) refl)))))))))))))))
+    (and-both (requestWanted (q .request) q (b .figures .policy)) true (and-right (requestInside (q .request) b) _ w) refl)))))))))))))))

@@ -7,7 +7,7 @@ use native.Mathlib.Omega.{arith}
 use lib.Dec.{leb, eqb}
 use borrow.Author.Tests.{leb-true, eqb-true, eqb-false, lt-ltb, le-leb, ne-eqb, not-true}
 use Rattle.lists.specs.Padded.{any, every, without, shifted, placed, changed}
-use Rattle.lists.proofs.Cond.{cases, and-left, and-right, and-both, or-one, or-two, wrong}
+use Rattle.lists.proofs.Cond.{cases, and-left, and-right, and-both, or-one, or-two, or-then, wrong}
 use Rattle.lists.proofs.Every.{every-imp, every-imp₂, every-first, every-head, every-placed, every-without, every-changed, every-shifted}
 use Rattle.lists.proofs.Some.{any-imp, any-placed, any-changed, any-without, none-placed, none-without, none-changed, none-shifted, none-every}
 use Rattle.lists.proofs.Rising.{rise-shifted, rise-without, rise-changed, rise-placed, any-without-one}
@@ -17,11 +17,11 @@ use Rattle.rules.specs.declared.StoreEntry.{StoreEntry}
 use Rattle.rules.specs.declared.LoadEntry.{LoadEntry}
 use Rattle.rules.specs.declared.Request.{Request}
 use Rattle.rules.specs.declared.Request.the-variants.{Free, Line}
-use Rattle.rules.specs.Shape.{Queues, Hierarchy, topNumber, noStore, noLoad, isFreeStore, isFreeLoad, lineInMemory, lineOf}
+use Rattle.rules.specs.Shape.{Queues, Hierarchy, topNumber, noStore, noLoad, isFreeStore, isFreeLoad, lineInMemory, lineOf, writesThrough}
 use Rattle.rules.specs.Lines.{present}
 use Rattle.rules.specs.Forward.{olderCovers}
 use Rattle.rules.specs.Calls.{retry, passes, callChecks, waitingAt, nextNumber, withLoads, withRequest, answered, answeredBy, waitsBelow, oldestStore, storeReady}
-use Rattle.rules.specs.WellFormed.{freeStoreZero, freeLoadZero, storePasses, loadPasses, committedWaitAt, waitingUncoveredAt, alone, requestAbsent, requestInside, requestWanted, waitsFor, wellFormed}
+use Rattle.rules.specs.WellFormed.{freeStoreZero, freeLoadZero, storePasses, loadPasses, committedWaitAt, waitingUncoveredAt, alone, requestAbsent, requestInside, storeWants, requestWanted, waitsFor, wellFormed}
 use Rattle.rules.proofs.LineFacts.{Good, good-is}
 use Rattle.rules.proofs.LineRules.{Shaped, shaped-fits}
 use Rattle.rules.proofs.QueueView.{Parts, parts, whole, goodStore, goodLoad, goodRequest, store-low, load-low, load-given, load-passes, good-load}
@@ -30,12 +30,12 @@ use Rattle.rules.proofs.Entries.{Ready, store-later, load-later, waitin
 -- ---- the request
 
 -- the line is wanted
-abbrev pub wantedBy : Queues → ℕ → Bool
-wantedBy q l = any (waitsFor (q .committed) l) (q .loads) || (storeReady q && eqb (lineOf (oldestStore q .address)) l)
+abbrev pub wantedBy : Queues → Hierarchy → ℕ → Bool
+wantedBy q b l = any (waitsFor (q .committed) l) (q .loads) || (not (writesThrough b) && storeWants q l)
 
 request-map :
     (r : Request) (q q′ : Queues) (b b′ : Hierarchy) → b′ .size ≡ b .size → ((l : ℕ) → r ≡ Line l → present b l ≡ false → present b′ l ≡ false)
-    → ((l : ℕ) → present b l ≡ false → wantedBy q l ≡ true → wantedBy q′ l ≡ true) → goodRequest r q b ≡ true → goodRequest r q′ b′ ≡ true
+    → ((l : ℕ) → present b l ≡ false → wantedBy q b l ≡ true → wantedBy q′ b′ l ≡ true) → goodRequest r q b ≡ true → goodRequest r q′ b′ ≡ true
 unfolding goodRequest requestAbsent requestInside requestWanted
 request-map Free q q′ b b′ s h k g = refl
 request-map (Line l) q q′ b b′ s h k g =
@@ -46,17 +46,19 @@ request-map (Line l) q q′ b b′ s h k g =
 
 -- a line that was wanted is wanted, if the loads that wait for it stay, and the oldest store with its turn
 wanted-map :
-    (q q′ : Queues) (l : ℕ) → (any (waitsFor (q .committed) l) (q .loads) ≡ true → any (waitsFor (q′ .committed) l) (q′ .loads) ≡ true)
-    → (Ready q → (Ready q′) × (oldestStore q′ ≡ oldestStore q)) → wantedBy q l ≡ true → wantedBy q′ l ≡ true
-wanted-map q q′ l f g e =
+    (q q′ : Queues) (b : Hierarchy) (l : ℕ) → (any (waitsFor (q .committed) l) (q .loads) ≡ true → any (waitsFor (q′ .committed) l) (q′ .loads) ≡ true)
+    → (Ready q → (Ready q′) × (oldestStore q′ ≡ oldestStore q)) → wantedBy q b l ≡ true → wantedBy q′ b l ≡ true
+wanted-map q q′ b l f g e =
     cases (any (waitsFor (q .committed) l) (q .loads)) (λ t. or-one (any (waitsFor (q′ .committed) l) (q′ .loads)) _ (f t))
     (λ t.
-    let r : (storeReady q && eqb (lineOf (oldestStore q .address)) l) ≡ true = rw t at e in
+    let s : (not (writesThrough b) && storeWants q l) ≡ true = rw t at e in
+    let r = and-right (not (writesThrough b)) _ s in
     let h = g (ready-tells q (and-left _ _ r)) in
     or-two (any (waitsFor (q′ .committed) l) (q′ .loads)) _
-    (and-both (storeReady q′) _ (ready-is q′ (h .0)) (rw (h .1) (and-right (storeReady q) _ r))))
+    (and-both (not (writesThrough b)) _ (and-left (not (writesThrough b)) _ s)
+    (and-both (storeReady q′) _ (ready-is q′ (h .0)) (rw (h .1) (and-right (storeReady q) _ r)))))
 
-pub asks-line : (l : ℕ) (q : Queues) (b : Hierarchy) → present b l ≡ false → 16 * l < b .size → wantedBy q l ≡ true → goodRequest (Line l) q b ≡ true
+pub asks-line : (l : ℕ) (q : Queues) (b : Hierarchy) → present b l ≡ false → 16 * l < b .size → wantedBy q b l ≡ true → goodRequest (Line l) q b ≡ true
 unfolding goodRequest requestAbsent requestInside requestWanted
 asks-line l q b a i w = and-both _ _ (ap not a) (and-both _ _ (lt-ltb (16 * l) (b .size) i) w)
 
@@ -81,7 +83,7 @@ other-lines q b c wf s g h =
           every-imp _ _ (λ l e. load-later b c (q .last) (q .last) (q .committed) (q .committed) (q .stores) (q .stores) l (s .size) (omega arith) (λ w. w) (λ x. x) e)
           (q .loads) (p .loads-good);
       apart = p .apart;
-      wanted = request-map (q .request) q q b c (s .size) h (λ l a w. w) (p .wanted);
+      wanted = request-map (q .request) q q b c (s .size) h (λ l a w. rw (s .figures) w) (p .wanted);
     })
 
 -- ---- the queues' part of each rule
@@ -134,7 +136,7 @@ module _ (q : Queues) (b : Hierarchy) (p : Parts q b) where
             (q .stores) (p .apart) (p .stores-good);
         wanted =
             request-map (q .request) q q′ b b refl (λ l r a. a)
-            (λ l a. wanted-map q q′ l
+            (λ l a. wanted-map q q′ b l
             (any-placed (waitsFor (q .committed) l) isFreeLoad e (free-for (q .committed) l) (q .loads))
             (λ r. (
               record {
@@ -175,7 +177,7 @@ module _ (q : Queues) (b : Hierarchy) (p : Parts q b) where
             (p .apart);
         wanted =
             request-map (q .request) q q′ b b refl (λ l r a. a)
-            (λ l a. wanted-map q q′ l (λ t. t)
+            (λ l a. wanted-map q q′ b l (λ t. t)
             (λ r.
             let same : oldestStore q′ ≡ oldestStore q = head-placed isFreeStore e noStore (q .stores) (r .held) in
             (record { held = rw same (r .held); low = rw same (r .low); first = rw same (r .first) }, same)))
@@ -208,7 +210,7 @@ module _ (q : Queues) (b : Hierarchy) (p : Parts q b) where
             (λ f. none-without (λ l. eqb (l .number) (s .number)) t noLoad (free-apart s f) (q .loads))) (q .stores) (p .apart);
         wanted =
             request-map (q .request) q q′ b b refl (λ l r a. a)
-            (λ l a. wanted-map q q′ l (λ e. keep l a (any-imp (waitsFor (q .committed) l) (waitsFor k l) (later l) (q .loads) e))
+            (λ l a. wanted-map q q′ b l (λ e. keep l a (any-imp (waitsFor (q .committed) l) (waitsFor k l) (later l) (q .loads) e))
             (λ r. (
               record {
                 held = r .held;
@@ -274,7 +276,7 @@ module _ (q : Queues) (b : Hierarchy) (p : Parts q b) where
             (λ f. none-changed (λ l. eqb (l .number) (s .number)) (waitingAt i) answered (λ x e. e) (q .loads))) (q .stores) (p .apart);
         wanted =
             request-map (q .request) q q′ b b refl (λ l r a. a)
-            (λ l a. wanted-map q q′ l
+            (λ l a. wanted-map q q′ b l
             (any-changed (waitsFor (q .committed) l) (waitingAt i) answered
             (λ x t. cases (waitingAt i x) (λ u. let no : ⊥ = omega (arith, for-tells (q .committed) l x t .low, at-tells i x u .numbered) in absurd no) (λ u. u)) (q .loads))
             (λ r. (
@@ -288,9 +290,9 @@ module _ (q : Queues) (b : Hierarchy) (p : Parts q b) where
             (p .wanted);
       })
 
-  -- the oldest store leaves; its line is present
+  -- the oldest store leaves; its line is present, or it is written through
   pub oldest-leaves :
-      present b (lineOf (oldestStore q .address)) ≡ true
+      (writesThrough b || present b (lineOf (oldestStore q .address))) ≡ true
       → wellFormed (record { last = q .last; committed = q .committed; request = q .request; stores = shifted noStore (q .stores); loads = q .loads }) b ≡ true
   unfolding alone olderCovers
   oldest-leaves there =
@@ -314,8 +316,10 @@ module _ (q : Queues) (b : Hierarchy) (p : Parts q b) where
             request-map (q .request) q q′ b b refl (λ l r a. a)
             (λ l a e. cases (any (waitsFor (q .committed) l) (q .loads)) (λ t. or-one (any (waitsFor (q .committed) l) (q .loads)) _ t)
             (λ t.
-            let r : (storeReady q && eqb (lineOf (oldestStore q .address)) l) ≡ true = rw t at e in
-            wrong (subst (λ (k : ℕ). present b k ≡ true) (eqb-true (lineOf (oldestStore q .address)) l (and-right (storeReady q) _ r)) there) a))
+            let s : (not (writesThrough b) && storeWants q l) ≡ true = rw t at e in
+            let r = and-right (not (writesThrough b)) _ s in
+            let here = or-then (writesThrough b) _ there (not-true _ (and-left _ _ s)) in
+            wrong (subst (λ (k : ℕ). present b k ≡ true) (eqb-true (lineOf (oldestStore q .address)) l (and-right (storeReady q) _ r)) here) a))
             (p .wanted);
       })
 

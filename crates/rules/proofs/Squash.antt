@@ -12,10 +12,9 @@ use Rattle.lists.specs.Bytes.{gather}
 use Rattle.lists.proofs.Cond.{both, cases, and-left, and-right}
 use Rattle.lists.proofs.Sweep.{Untouched, sweep-any, sweep-first, sweep-final, sweep-filter, sweep-without, sweep-changed, sweep-shifted, sweep-head, stays, agrees}
 use Rattle.rules.specs.declared.LoadEntry.{LoadEntry}
-use Rattle.rules.specs.Shape.{Queues, Hierarchy, noStore, noLoad, isFreeStore, isFreeLoad, isFree, lineOf}
-use Rattle.rules.specs.Lines.{present}
+use Rattle.rules.specs.Shape.{Queues, Hierarchy, noStore, noLoad, isFreeStore, isFreeLoad, isFree, writesThrough}
 use Rattle.rules.specs.Forward.{olderCovers, loadByte, loadValue}
-use Rattle.rules.specs.Calls.{Outcome, committedStore, waitingAt, answeredBy, waitsBelow, wantsLine, youngStore, youngLoad, squash, answered, answerLoad, retryWith, retryRule, commitRule, oldestStore, storeReady, canDrain, canRequestStore, idleRule, replyRule, flushRule, showRule}
+use Rattle.rules.specs.Calls.{Outcome, committedStore, waitingAt, answeredBy, waitsBelow, wantsLine, youngStore, youngLoad, squash, answered, answerLoad, retryWith, retryRule, commitRule, oldestStore, storeReady, canDrain, storeNeedsLine, canRequestStore, idleRule, replyRule, flushRule, showRule}
 
 -- the outcome with its queues squashed
 abbrev pub squashedOutcome : ℕ → Outcome → Outcome
@@ -185,9 +184,9 @@ module _ (n : ℕ) (q : Queues) (b : Hierarchy) (behind : q .committed < n) wher
   drain-check =
       cases (storeReady q) (λ e. rw (ready-squash, head-stays (ready-committed e))) (λ e. rw (ready-squash, e))
 
-  request-store-check : (isFree (q .request) && (storeReady (squash n q) && not (present b (lineOf (oldestStore (squash n q) .address))))) ≡ canRequestStore q b
+  request-store-check : (isFree (q .request) && storeNeedsLine (squash n q) b) ≡ canRequestStore q b
   request-store-check =
-      ap (λ (t : Bool). isFree (q .request) && t)
+      ap (λ (t : Bool). isFree (q .request) && (not (writesThrough b) && t))
       (cases (storeReady q) (λ e. rw (ready-squash, head-stays (ready-committed e))) (λ e. rw (ready-squash, e)))
 
   pub idle-squash : idleRule (squash n q) b ≡ squashedOutcome n (idleRule q b)
@@ -198,7 +197,7 @@ module _ (n : ℕ) (q : Queues) (b : Hierarchy) (behind : q .committed < n) wher
       (λ e. both (squashedOutcome n) (ap (λ (t : Bool). isFree (q .request) && t) (sweep-any wants (q .loads)))
       (λ f. rw (sweep-first wants (q .loads)))
       (λ f. both (squashedOutcome n) request-store-check
-      (λ g. rw (head-stays (ready-committed (and-left _ _ (and-right (isFree (q .request)) _ g)))))
+      (λ g. rw (head-stays (ready-committed (and-left _ _ (and-right (not (writesThrough b)) _ (and-right (isFree (q .request)) _ g))))))
       (λ g. refl)))
     where
       wants : Untouched (youngLoad n) noLoad (wantsLine b (q .committed))

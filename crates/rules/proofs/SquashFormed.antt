@@ -15,10 +15,10 @@ use Rattle.rules.specs.declared.StoreEntry.{StoreEntry}
 use Rattle.rules.specs.declared.LoadEntry.{LoadEntry}
 use Rattle.rules.specs.declared.Request.{Request}
 use Rattle.rules.specs.declared.Request.the-variants.{Free, Line}
-use Rattle.rules.specs.Shape.{Queues, Hierarchy, noStore, noLoad, isFreeStore, isFreeLoad, lineOf}
+use Rattle.rules.specs.Shape.{Queues, Hierarchy, noStore, noLoad, isFreeStore, isFreeLoad, writesThrough}
 use Rattle.rules.specs.Forward.{someUncovered}
-use Rattle.rules.specs.Calls.{youngStore, youngLoad, squash, oldestStore, storeReady}
-use Rattle.rules.specs.WellFormed.{freeStoreZero, freeLoadZero, storePasses, loadPasses, committedWaitAt, waitingUncoveredAt, alone, waitsFor, requestWanted, wellFormed}
+use Rattle.rules.specs.Calls.{youngStore, youngLoad, squash, storeReady}
+use Rattle.rules.specs.WellFormed.{freeStoreZero, freeLoadZero, storePasses, loadPasses, committedWaitAt, waitingUncoveredAt, alone, waitsFor, storeWants, requestWanted, wellFormed}
 use Rattle.rules.proofs.QueueView.{Parts, parts, whole, goodStore, goodLoad, goodRequest, store-zero, store-passes, good-store, load-zero, load-passes, load-waits, load-exposed, good-load}
 use Rattle.rules.proofs.Squash.{covers-untouched, ready-squash, ready-committed, head-stays}
 
@@ -73,15 +73,15 @@ module _ (n : ℕ) (q : Queues) (b : Hierarchy) (behind : q .committed < n) wher
     apart = λ l e. lt-leb n (l .number) (omega (arith, leb-true (l .number) (q .committed) (and-left _ _ (and-right (not (isFreeLoad l)) _ e))));
   }
 
-  wanted-squash : (r : Request) → requestWanted r (squash n q) ≡ requestWanted r q
+  wanted-squash : (r : Request) → requestWanted r (squash n q) (b .figures .policy) ≡ requestWanted r q (b .figures .policy)
   unfolding requestWanted
   wanted-squash Free = refl
   wanted-squash (Line l) =
       let loads : any (waitsFor (squash n q .committed) l) (squash n q .loads) ≡ any (waitsFor (q .committed) l) (q .loads) = unfold squash in sweep-any (for-untouched l) (q .loads) in
-      let store : (storeReady (squash n q) && eqb (lineOf (oldestStore (squash n q) .address)) l) ≡ (storeReady q && eqb (lineOf (oldestStore q .address)) l) = cases (storeReady q)
+      let store : storeWants (squash n q) l ≡ storeWants q l = cases (storeReady q)
       (λ e. rw (ready-squash n q b behind, head-stays n q b behind (ready-committed n q b behind e)))
       (λ e. rw (ready-squash n q b behind, e)) in
-      ap₂ (λ (s t : Bool). s || t) loads store
+      ap₂ (λ (s t : Bool). s || (not (writesThrough b) && t)) loads store
 
   request-squash : (r : Request) → goodRequest r (squash n q) b ≡ goodRequest r q b
   unfolding goodRequest

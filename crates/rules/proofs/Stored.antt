@@ -18,14 +18,14 @@ use Rattle.lists.proofs.Bytes.{put-length, put-byte, gather-known, some-lacking
 use Rattle.rules.specs.declared.Figures.{Figures}
 use Rattle.rules.specs.declared.StoreEntry.{StoreEntry}
 use Rattle.rules.specs.declared.LoadEntry.{LoadEntry}
-use Rattle.rules.specs.Shape.{Hierarchy, noStore, lineOf, fits}
-use Rattle.rules.specs.Lines.{present, useSlot, useLine, putStore, writeStore, writeBackSlot, writeBackAll, install, fillLine}
+use Rattle.rules.specs.Shape.{Hierarchy, noStore, lineOf, writesThrough, fits}
+use Rattle.rules.specs.Lines.{present, useSlot, useLine, writeStore, writeBackSlot, writeBackAll, install, fillLine}
 use Rattle.rules.specs.Forward.{olderCovers, storeByte, loadByte, loadValue, lacking}
 use Rattle.rules.specs.Calls.{value, waits, loadAnswer, useEach}
 use Rattle.rules.specs.WellFormed.{linesFormed}
 use Rattle.rules.specs.Runs.{started}
 use Rattle.rules.specs.Flat.{flatByte, flatOf, applied, appliedAll, heldStore, below}
-use Rattle.rules.proofs.FlatLines.{cached, use-flat, write-flat, back-flat, back-memory, back-length, fill-flat, start-flat}
+use Rattle.rules.proofs.FlatLines.{cached, use-flat, write-flat, write-length, back-flat, back-memory, back-length, fill-flat, start-flat}
 
 -- ---- stores applied
 
@@ -101,13 +101,13 @@ flat-use-each [] b = refl
 flat-use-each (l ∷ ls) b = flat-use-each ls (useLine (lineOf (l .address)) b) ∙ flat-use (lineOf (l .address)) b
 
 module _ (b : Hierarchy) (f : fits b ≡ true) (g : linesFormed b ≡ true) where
-  -- a store written to its line is applied
-  pub flat-write : (s : StoreEntry) → present b (lineOf (s .address)) ≡ true → s .address % 16 + s .width ≤ 16 → flatOf (writeStore s b) ≡ applied s (flatOf b)
+  -- a store written, to its present line or through, is applied
+  pub flat-write : (s : StoreEntry) → (writesThrough b || present b (lineOf (s .address))) ≡ true → s .address % 16 + s .width ≤ 16 → flatOf (writeStore s b) ≡ applied s (flatOf b)
   flat-write s here in-line =
-      flat-is (writeStore s b) (applied s (flatOf b)) (applied-length s (flatOf b) ∙ flat-length b ∙ (unfold writeStore useSlot putStore in refl))
+      flat-is (writeStore s b) (applied s (flatOf b)) (applied-length s (flatOf b) ∙ flat-length b ∙ sym (write-length s b))
       (λ a l.
       let near : a < length (flatOf b) = omega (arith, applied-length s (flatOf b)) in
-      write-flat s b f g here in-line a
+      write-flat s b f g here in-line a (omega (arith, flat-length b))
       ∙ ap (λ (x : ℕ). cond (covers a s) (storeByte s a) x) (sym (flat-at b a (omega (arith, flat-length b))))
       ∙ sym (applied-byte s (flatOf b) a near))
 

@@ -10,7 +10,7 @@ use Rattle.rules.specs.declared.StoreEntry.{StoreEntry}
 use Rattle.rules.specs.declared.LoadEntry.{LoadEntry}
 use Rattle.rules.specs.declared.Request.{Request}
 use Rattle.rules.specs.declared.Request.the-variants.{Free, Line}
-use Rattle.rules.specs.Shape.{Queues, Hierarchy, lineBytes, topNumber, noStore, noLoad, isFreeStore, isFreeLoad, isFree, requestedLine, lineOf}
+use Rattle.rules.specs.Shape.{Queues, Hierarchy, lineBytes, topNumber, noStore, noLoad, isFreeStore, isFreeLoad, isFree, requestedLine, lineOf, writesThrough}
 use Rattle.rules.specs.Lines.{present, placeOf, useLine, writeStore, writeBackAll, dirtyLines, fillLine}
 use Rattle.rules.specs.Forward.{loadValue}
 
@@ -307,11 +307,11 @@ unfoldable pub storeReady : Queues → Bool
 storeReady q =
     committedStore (q .committed) (oldestStore q) && not (any (waitsBelow (oldestStore q .number)) (q .loads))
 
--- (a) ".. and its line is present"
+-- (a) ".. and its line is present". 02, card 1: with write-through "Draining .. needs no line present"
 abbrev pub canDrain : Queues → Hierarchy → Bool
-canDrain q b = storeReady q && present b (lineOf (oldestStore q .address))
+canDrain q b = storeReady q && (writesThrough b || present b (lineOf (oldestStore q .address)))
 
--- "write it, mark the line dirty, use the line, remove the store"
+-- "write it, mark the line dirty, use the line, remove the store" (`writeStore` has it for both policies)
 abbrev pub drainOldest : Queues → Hierarchy → Outcome
 drainOldest q b = record {
   answer = drained (oldestStore q .number);
@@ -337,9 +337,14 @@ canRequestLoad q b = isFree (q .request) && any (wantsLine b (q .committed)) (q 
 abbrev pub lowestWanting : Queues → Hierarchy → LoadEntry
 lowestWanting q b = first (wantsLine b (q .committed)) noLoad (q .loads)
 
--- (c) "The register is free, the oldest store is committed, no waiting load is older and its line is absent"
+-- "the oldest store is committed, no waiting load is older and its line is absent". 02, card 1: with write-through "Rule (c) of idle
+-- disappears". (No store would meet it there: where (c) would apply, (a) does.)
+abbrev pub storeNeedsLine : Queues → Hierarchy → Bool
+storeNeedsLine q b = not (writesThrough b) && (storeReady q && not (present b (lineOf (oldestStore q .address))))
+
+-- (c) "The register is free, .."
 abbrev pub canRequestStore : Queues → Hierarchy → Bool
-canRequestStore q b = isFree (q .request) && (storeReady q && not (present b (lineOf (oldestStore q .address))))
+canRequestStore q b = isFree (q .request) && storeNeedsLine q b
 
 -- the line of this address is requested
 abbrev pub requestLine : ℕ → Queues → Hierarchy → Outcome

@@ -2,10 +2,11 @@
 use Prim.Native.Nat.{ℕ}
 use mathlib.Core.List.{List}
 use Rattle.rules.specs.declared.Figures.{Figures}
+use Rattle.rules.specs.declared.WritePolicy.{WritePolicy}
 use Rattle.rules.specs.Shape.{World}
 use Rattle.rules.specs.Calls.{Call}
 use Rattle.rules.specs.Refusals.{RefusedKeeps, RefusedExactly}
-use Rattle.rules.specs.RefusalTable.{AsStarted, AsGiven, startRows, inputRows, stateRows, clauseRows, orderRows}
+use Rattle.rules.specs.RefusalTable.{AsStarted, AsGiven, GivenUnder, startRows, inputRows, stateRows, clauseRows, orderRows}
 use Rattle.rules.specs.Numbers.{FirstNumber, NextNumber}
 use Rattle.rules.specs.Dropped.{DroppedStretch, DroppedAfterStart}
 use Rattle.rules.specs.Kept.{StartFormed, NextKept, RunKept, AdmittedAfterStart}
@@ -19,13 +20,13 @@ RefusedCallsKeep = (c : Call) (w : World) → RefusedKeeps c w
 abbrev pub RefusalsExact : Type 0
 RefusalsExact = (c : Call) (w : World) → RefusedExactly c w
 
--- the table of refusals, row by row
+-- the table of refusals, row by row, under either write policy; the rows of the clauses name theirs
 pub record RefusalTableHolds : Type 0 where
-  pub starts : AsStarted startRows
-  pub input : AsGiven inputRows
-  pub state : AsGiven stateRows
+  pub starts : (p : WritePolicy) → AsStarted p startRows
+  pub input : (p : WritePolicy) → GivenUnder p inputRows
+  pub state : (p : WritePolicy) → GivenUnder p stateRows
   pub clauses : AsGiven clauseRows
-  pub order : AsGiven orderRows
+  pub order : (p : WritePolicy) → GivenUnder p orderRows
 
 -- the next operation number
 abbrev pub NumbersGiven : Type 0

@@ -1,19 +1,23 @@
 -- The shared table: 01's bench examples marked P, each as what the rules give beside what 01 says. And 01's worked script,
--- dropped stretches, and runs beside flat memory.
+-- dropped stretches, runs beside flat memory, and the two write policies beside each other.
 use Prim.Native.Nat.{ℕ, _+_}
 use mathlib.Core.Bool.{Bool, true}
 use mathlib.Core.List.{List, [], _∷_, _++_, map}
-use lib.ListN.{getD, replicate}
+use lib.ListN.{getD, take, replicate}
 use Rattle.lists.specs.Padded.{select}
 use Rattle.lists.specs.Counted.{eachFrom}
 use Rattle.lists.specs.Bytes.{valueAt}
 use Rattle.rules.specs.Dropped.{remaining, struck}
+use Rattle.rules.specs.declared.Tag.{Tag}
 use Rattle.rules.specs.declared.StoreEntry.{StoreEntry}
+use Rattle.rules.specs.declared.Request.{Request}
 use Rattle.rules.specs.declared.Request.the-variants.{Free, Line}
+use Rattle.rules.specs.declared.WritePolicy.{WritePolicy}
+use Rattle.rules.specs.declared.WritePolicy.the-variants.{WriteBack, WriteThrough}
 use Rattle.rules.specs.Shape.{World, Hierarchy, world, geometry, noStore, noLoad, tagAt, lineOf, setOf}
 use Rattle.rules.specs.Lines.{slotOf, useLine, writeStore, victim, fillLine}
 use Rattle.rules.specs.Calls.{Call, Answer, load, store, retry, commit, abort, idle, reply, flush, show, refused, stored, value, waits, committed, kept, drained, requested, idled, filled}
-use Rattle.rules.specs.Runs.{emptyQueues, started, startWorld, answer, answers, after}
+use Rattle.rules.specs.Runs.{emptyQueues, started, startWorld, answer, next, answers, after}
 use Rattle.rules.specs.Flat.{History, noHistory, historyOf, loadOf, flatBefore}
 
 -- what an example shows: answers of calls, or numbers
@@ -27,7 +31,7 @@ pub record Example : Type 0 where
 
 -- a start that found zeros
 abbrev pub fresh : ℕ → ℕ → ℕ → World
-fresh sets ways size = started (geometry sets ways) (replicate size 0)
+fresh sets ways size = started (geometry WriteBack sets ways) (replicate size 0)
 
 -- the answers of a run from w on
 abbrev pub runs : World → List Call → Shown
@@ -123,7 +127,7 @@ table =
     -- the next idle drains 2"
     ∷ record {
       seen =
-          runs (started (geometry 1 1) (9 ∷ replicate 15 0))
+          runs (started (geometry WriteBack 1 1) (9 ∷ replicate 15 0))
           (load 0 1 ∷ store 0 1 7 ∷ commit 2 ∷ idle ∷ reply ∷ idle ∷ retry 1 ∷ idle ∷ []);
       expected =
           gives
@@ -242,8 +246,9 @@ draining = record {
 
 -- ---- runs beside flat memory
 
--- a start with one set and one way, what it found, and a run after it
+-- a start with one set and one way, its write policy, what it found, and a run after it
 pub record Run : Type 0 where
+  pub policy : WritePolicy
   pub found : List ℕ
   pub calls : List Call
 
@@ -252,7 +257,7 @@ abbrev pub otherCache : List ℕ
 otherCache = replicate 16 255
 
 abbrev pub beginning : Run → World
-beginning r = startWorld (geometry 1 1) otherCache (r .found)
+beginning r = startWorld (geometry (r .policy) 1 1) otherCache (r .found)
 
 abbrev pub past : Run → History
 past r = historyOf noHistory (r .calls) (beginning r)
@@ -269,21 +274,24 @@ twoLines = eachFrom (λ a x. a + 1) 0 (replicate 32 0)
 -- when its line has come.
 unfoldable pub reusing : Run
 reusing = record {
+  policy = WriteBack;
   found = twoLines;
   calls =
       store 4 1 7 ∷ load 16 1 ∷ store 4 1 8 ∷ abort 2 ∷ load 4 2 ∷ commit 2 ∷ idle ∷ reply ∷ retry 2 ∷ [];
 }
 
--- A younger store to the byte is accepted, and committed, before load 1 is answered.
-unfoldable pub overtaken : Run
-overtaken = record {
+-- A younger store to the byte is accepted, and committed, before load 1 is answered; it is drained behind it.
+unfoldable pub overtaken : WritePolicy → Run
+overtaken p = record {
+  policy = p;
   found = twoLines;
-  calls = load 0 1 ∷ store 0 1 9 ∷ commit 2 ∷ idle ∷ reply ∷ retry 1 ∷ [];
+  calls = load 0 1 ∷ store 0 1 9 ∷ commit 2 ∷ idle ∷ reply ∷ idle ∷ retry 1 ∷ idle ∷ [];
 }
 
 -- Store 1 is drained to line 0, which line 1 evicts; store 3 is drained to line 1; store 4 is held, not committed; then a flush.
 unfoldable pub evictedFlush : Run
 evictedFlush = record {
+  policy = WriteBack;
   found = twoLines;
   calls =
       store 0 1 9
@@ -302,4 +310,88 @@ evictedFlush = record {
       ∷ store 17 1 6
       ∷ flush
       ∷ [];
+}
+
+-- ---- the write policies (02, card 1): the same calls under each
+
+-- one set of two ways over two lines; store 1, of the bytes 7 and 9 to line 1, is committed, and no line is present
+abbrev pub storeMisses : WritePolicy → World
+storeMisses p = record {
+  queues = record {
+    last = 1;
+    committed = 1;
+    request = Free;
+    stores = record { number = 1; address = 22; width = 2; value = 2311 } ∷ replicate 15 noStore;
+    loads = replicate 8 noLoad;
+  };
+  hierarchy = started (geometry p 1 2) twoLines .hierarchy;
+}
+
+-- the same with both lines present, line 0 used last
+abbrev pub storeHits : WritePolicy → World
+storeHits p = world (storeMisses p .queues) (useLine 0 (fillLine 1 (fillLine 0 (storeMisses p .hierarchy))))
+
+-- what an idle call answers and leaves: memory, the cache, the records of the two ways, the register
+pub record AfterIdle : Type 0 where
+  pub says : Answer
+  pub memory : List ℕ
+  pub cache : List ℕ
+  pub records : List Tag
+  pub request : Request
+
+abbrev pub afterIdle : World → AfterIdle
+afterIdle w = record {
+  says = answer idle w;
+  memory = next idle w .hierarchy .memory;
+  cache = next idle w .hierarchy .cache;
+  records = take 2 (next idle w .hierarchy .tags);
+  request = next idle w .queues .request;
+}
+
+-- a store to an absent line; the line comes for a load; a store to the line; a flush
+unfoldable pub writingTwice : WritePolicy → Run
+writingTwice p = record {
+  policy = p;
+  found = twoLines;
+  calls =
+      store 5 1 7
+      ∷ commit 1
+      ∷ idle
+      ∷ load 5 1
+      ∷ commit 2
+      ∷ idle
+      ∷ reply
+      ∷ retry 2
+      ∷ store 6 1 8
+      ∷ commit 3
+      ∷ idle
+      ∷ flush
+      ∷ [];
+}
+
+-- line 0 is requested for the committed load 2 of byte 1; the older store 1, of 9 to byte 0, is committed
+abbrev pub storeToRequested : WritePolicy → World
+storeToRequested p = record {
+  queues = record {
+    last = 2;
+    committed = 2;
+    request = Line 0;
+    stores = record { number = 1; address = 0; width = 1; value = 9 } ∷ replicate 15 noStore;
+    loads = record { number = 2; address = 1; width = 1; waiting = true } ∷ replicate 7 noLoad;
+  };
+  hierarchy = started (geometry p 1 1) twoLines .hierarchy;
+}
+
+-- line 0 with that store
+abbrev pub storedLine : List ℕ
+storedLine = 9 ∷ 2 ∷ 3 ∷ 4 ∷ 5 ∷ 6 ∷ 7 ∷ 8 ∷ 9 ∷ 10 ∷ 11 ∷ 12 ∷ 13 ∷ 14 ∷ 15 ∷ 16 ∷ []
+
+-- With write-through: a load and a store are dropped, while the committed store is drained to its absent line.
+unfoldable pub drainingThrough : Stretch
+drainingThrough = record {
+  from = storeMisses WriteThrough;
+  before = [];
+  n = 2;
+  body = load 0 1 ∷ store 22 1 3 ∷ idle ∷ idle ∷ reply ∷ [];
+  later = load 22 1 ∷ commit 2 ∷ idle ∷ reply ∷ show 16 ∷ [];
 }

@@ -1,5 +1,6 @@
--- Lines: where a line stands, use, a store written to its line, write back, the victim and the fill.
--- Four steps on one slot or its set (use, put a store, write back, install) make up every change of the hierarchy.
+-- Lines: where a line stands, use, a store written, write back, the victim and the fill.
+-- Four steps on one slot or its set (use, put a store, write back, install), and memory written past the cache, make up every change of
+-- the hierarchy.
 use Prim.Native.Nat.{ℕ, _+_, _*_, _/_, _%_}
 use mathlib.Core.Bool.{Bool, true, false, cond, not, _&&_}
 use mathlib.Core.List.{List}
@@ -11,7 +12,9 @@ use Rattle.lists.specs.Counted.{firstFrom, greatestFrom, stepsFrom, eachFrom}
 use Rattle.lists.specs.Bytes.{overlaid}
 use Rattle.rules.specs.declared.Tag.{Tag}
 use Rattle.rules.specs.declared.StoreEntry.{StoreEntry}
-use Rattle.rules.specs.Shape.{Hierarchy, holding, lineBytes, lineOf, setOf, setStart, slots, firstSlot, tagAt, withAge, withDirty}
+use Rattle.rules.specs.declared.WritePolicy.{WritePolicy}
+use Rattle.rules.specs.declared.WritePolicy.the-variants.{WriteBack, WriteThrough}
+use Rattle.rules.specs.Shape.{Hierarchy, holding, lineBytes, lineOf, setOf, setStart, slots, firstSlot, tagAt, withAge, withDirty, writesThrough}
 
 -- ---- where a line stands
 
@@ -66,9 +69,14 @@ dirtyAt t i = t .dirty
 abbrev pub isDirty : Tag → Bool
 isDirty t = t .dirty
 
--- "mark the line dirty": the record, when the store was written to its line
-abbrev pub marked : StoreEntry → Tag → Tag
-marked s t = withDirty true t
+-- the dirty mark after a store was written to the line, from the mark d before. 01: "mark the line dirty"; write-through leaves it
+abbrev pub dirtyAfter : WritePolicy → Bool → Bool
+dirtyAfter WriteBack d = true
+dirtyAfter WriteThrough d = d
+
+-- the record, when the store was written to its line
+abbrev pub marked : WritePolicy → StoreEntry → Tag → Tag
+marked p s t = withDirty (dirtyAfter p (t .dirty)) t
 
 -- "marks it clean": the record, when its line was written back
 abbrev pub cleaned : Tag → Tag
@@ -76,17 +84,28 @@ cleaned t = withDirty false t
 
 -- ---- a store is written
 
--- the store's bytes go into slot v, whose line is now dirty
+-- byte a of memory, when the store is written: write-through "writes memory"
+unfoldable pub writtenThroughAt : WritePolicy → StoreEntry → ℕ → ℕ → ℕ
+writtenThroughAt WriteBack s a x = x
+writtenThroughAt WriteThrough s a x = overlaid (s .address) (s .width) (s .value) a x
+
+-- memory, when the store is written
+unfoldable pub storedMemory : StoreEntry → Hierarchy → List ℕ
+storedMemory s b = eachFrom (writtenThroughAt (b .figures .policy) s) 0 (b .memory)
+
+-- the store's bytes go into slot v, with write-through into memory too; with write-back the line is now dirty
 unfoldable pub putStore : ℕ → StoreEntry → Hierarchy → Hierarchy
 putStore v s b =
-    holding b (set (b .tags) v (marked s (tagAt (b .tags) v)))
-    (eachFrom (overlaid (slotPlace v + s .address % lineBytes) (s .width) (s .value)) 0 (b .cache)) (b .memory)
+    holding b (set (b .tags) v (marked (b .figures .policy) s (tagAt (b .tags) v)))
+    (eachFrom (overlaid (slotPlace v + s .address % lineBytes) (s .width) (s .value)) 0 (b .cache)) (storedMemory s b)
 
--- "write it, mark the line dirty, use the line": of a store whose line is present
+-- 01: "write it, mark the line dirty, use the line". 02, card 1: "it writes memory, and also the cached line where there is one,
+-- which it uses". (Write-back is asked this of a present line only, by `canDrain`; of an absent one it changes nothing.)
 unfoldable pub writeStore : StoreEntry → Hierarchy → Hierarchy
 writeStore s b =
     let l = lineOf (s .address) in
-    useSlot (setOf b l) (slotOf b l) (putStore (slotOf b l) s b)
+    cond (present b l) (useSlot (setOf b l) (slotOf b l) (putStore (slotOf b l) s b))
+    (holding b (b .tags) (b .cache) (storedMemory s b))
 
 -- ---- write back: a line goes to memory
 

@@ -1,22 +1,23 @@
 -- The table of refusals: for each number of 01's two tables states and calls that give it, beside neighbours that do not, on both
 -- sides of each bound; and for each call which refusal comes first where several apply. (6 is the script player's.)
--- A row is a state, a call and what the call answers there.
+-- A row is a state, a call and what the call answers there; under either write policy, unless said otherwise.
 use Prim.Native.Nat.{ℕ, _+_, _-_}
 use mathlib.Core.Path.{_≡_}
 use mathlib.Core.Bool.{true, false}
 use mathlib.Core.List.{List, [], _∷_, _++_, map}
 use lib.ListN.{replicate}
 use Rattle.lists.specs.Counted.{eachFrom}
-use Rattle.rules.specs.declared.Figures.{Figures}
 use Rattle.rules.specs.declared.StoreEntry.{StoreEntry}
 use Rattle.rules.specs.declared.LoadEntry.{LoadEntry}
 use Rattle.rules.specs.declared.Request.{Request}
 use Rattle.rules.specs.declared.Request.the-variants.{Free, Line}
+use Rattle.rules.specs.declared.WritePolicy.{WritePolicy}
+use Rattle.rules.specs.declared.WritePolicy.the-variants.{WriteBack, WriteThrough}
 use Rattle.rules.specs.Shape.{Queues, World, world, topNumber, geometry, noStore, noLoad, noTag}
 use Rattle.rules.specs.Calls.{Call, Answer, load, store, retry, commit, abort, idle, reply, flush, show, refused, stored, waits, committed, kept, drained, idled, filled, flushed, shown, emptyPart}
 use Rattle.rules.specs.Runs.{StartAnswer, ready, startRefused, emptyQueues, startAnswer, answer}
 use Rattle.rules.specs.Examples.{fresh}
-use Rattle.rules.specs.States.{tag, heldAt, waitingLoad, answeredLoad, queues, richQueues, richLines, broken}
+use Rattle.rules.specs.States.{tag, heldAt, waitingLoad, answeredLoad, queues, richQueues, richLines, cleanLines, requestedByStore, broken}
 
 pub record Row : Type 0 where
   pub at : World
@@ -67,7 +68,7 @@ abbrev pub storing : ℕ → ℕ → World
 storing h lent = record {
   queues = queues 1 h Free (stores 1) (loads 0);
   hierarchy = record {
-    figures = geometry 1 1;
+    figures = geometry WriteBack 1 1;
     size = 32;
     tags = tag true false 0 0 ∷ replicate 255 noTag;
     cache = replicate lent 0;
@@ -80,7 +81,7 @@ abbrev pub lending : ℕ → ℕ → World
 lending cache memory = record {
   queues = emptyQueues;
   hierarchy = record {
-    figures = geometry 1 1;
+    figures = geometry WriteBack 1 1;
     size = 32;
     tags = replicate 256 noTag;
     cache = replicate cache 0;
@@ -197,9 +198,15 @@ stateRows =
     ∷ row (holdingStores 2 2 0) flush (flushed 0)
     ∷ []
 
--- 10 for each clause of well-formed: the rich state, which keeps all of them, and for each one that breaks it
+-- 10 for each clause of well-formed. Not for the rich state, which keeps all of them; nor with no line dirty, under either write policy;
+-- nor for a line requested for a store, with write-back. But for the states that break a clause each. (Each row has its own policy.)
 unfoldable pub clauseRows : List Row
-clauseRows = row (world richQueues richLines) idle idled ∷ map (λ w. row w idle (refused 10)) broken
+clauseRows =
+    row (world richQueues richLines) idle idled
+    ∷ row (world richQueues (cleanLines WriteBack)) idle idled
+    ∷ row (world richQueues (cleanLines WriteThrough)) idle (drained 2)
+    ∷ row (world requestedByStore (cleanLines WriteBack)) idle idled
+    ∷ map (λ w. row w idle (refused 10)) broken
 
 -- ---- "Order: 6, 1, 10, 2, 3, 4, 5, 13, then 11 or 12; the others follow 10."
 
@@ -269,16 +276,16 @@ orderRows =
 
 -- ---- "Start reads no earlier state, so 1 alone can refuse it."
 
--- figures, the lengths of memory and of the cache that are lent to a start, and what it answers
+-- sets and ways, the lengths of memory and of the cache that are lent to a start, and what it answers under either write policy
 pub record StartRow : Type 0 where
-  pub figures : Figures
+  pub sets : ℕ
+  pub ways : ℕ
   pub memory : ℕ
   pub cache : ℕ
   pub gives : StartAnswer
 
 abbrev pub start : ℕ → ℕ → ℕ → ℕ → StartAnswer → StartRow
-start sets ways memory cache r =
-    record { figures = geometry sets ways; memory = memory; cache = cache; gives = r }
+start sets ways memory cache r = record { sets = sets; ways = ways; memory = memory; cache = cache; gives = r }
 
 unfoldable pub startRows : List StartRow
 startRows =
@@ -314,7 +321,23 @@ startRows =
 abbrev pub AsGiven : List Row → Type 0
 AsGiven rows = map (λ r. answer (r .call) (r .at)) rows ≡ map (λ r. r .gives) rows
 
-abbrev pub AsStarted : List StartRow → Type 0
-AsStarted rows =
-    map (λ r. startAnswer (r .figures) (replicate (r .cache) 0) (replicate (r .memory) 0)) rows
+-- the same state under a write policy
+abbrev pub under : WritePolicy → World → World
+under p w = record {
+  queues = w .queues;
+  hierarchy = record {
+    figures = geometry p (w .hierarchy .figures .sets) (w .hierarchy .figures .ways);
+    size = w .hierarchy .size;
+    tags = w .hierarchy .tags;
+    cache = w .hierarchy .cache;
+    memory = w .hierarchy .memory;
+  };
+}
+
+abbrev pub GivenUnder : WritePolicy → List Row → Type 0
+GivenUnder p rows = map (λ r. answer (r .call) (under p (r .at))) rows ≡ map (λ r. r .gives) rows
+
+abbrev pub AsStarted : WritePolicy → List StartRow → Type 0
+AsStarted p rows =
+    map (λ r. startAnswer (geometry p (r .sets) (r .ways)) (replicate (r .cache) 0) (replicate (r .memory) 0)) rows
     ≡ map (λ r. r .gives) rows

@@ -42,7 +42,7 @@ started f memory = record {
   };
 }
 
--- "Start reads no earlier state, so 1 alone can refuse it."
+-- "Start reads no earlier state, so 1 alone can refuse it." 02, card 1: "A start may choose this profile.": either write policy is allowed
 unfoldable pub startAllowed : Figures → List ℕ → List ℕ → Bool
 startAllowed f cache memory =
     figuresAllowed f (length memory) && eqb (length cache) (f .sets * f .ways * lineBytes)

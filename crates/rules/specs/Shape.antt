@@ -8,6 +8,8 @@ use mathlib.Core.List.{List}
 use lib.Dec.{ltb, leb, eqb}
 use lib.ListN.{length, getD}
 use Rattle.rules.specs.declared.Figures.{Figures}
+use Rattle.rules.specs.declared.WritePolicy.{WritePolicy}
+use Rattle.rules.specs.declared.WritePolicy.the-variants.{WriteBack, WriteThrough}
 use Rattle.rules.specs.declared.Tag.{Tag}
 use Rattle.rules.specs.declared.StoreEntry.{StoreEntry}
 use Rattle.rules.specs.declared.LoadEntry.{LoadEntry}
@@ -47,13 +49,13 @@ waysAllowed n = leb 1 n && leb n 4
 abbrev pub memoryAllowed : ℕ → Bool
 memoryAllowed n = eqb (n % lineBytes) 0 && (leb 16 n && leb n 65536)
 
--- so many sets of so many ways
-abbrev pub geometry : ℕ → ℕ → Figures
-geometry sets ways = record { sets = sets; ways = ways }
+-- so many sets of so many ways, with a write policy
+abbrev pub geometry : WritePolicy → ℕ → ℕ → Figures
+geometry p sets ways = record { sets = sets; ways = ways; policy = p }
 
--- figures of no store, all zero
+-- figures of no store: zero, and 01's write policy
 abbrev pub noFigures : Figures
-noFigures = geometry 0 0
+noFigures = geometry WriteBack 0 0
 
 -- ---- the two halves of the store
 
@@ -70,7 +72,7 @@ pub record Queues : Type 0 where
   pub loads : List LoadEntry
 
 pub record Hierarchy : Type 0 where
-  -- sets and ways
+  -- sets, ways and the write policy
   pub figures : Figures
   -- the memory length
   pub size : ℕ
@@ -91,6 +93,16 @@ world q b = record { queues = q; hierarchy = b }
 abbrev pub holding : Hierarchy → List Tag → List ℕ → List ℕ → Hierarchy
 holding b tags cache memory =
     record { figures = b .figures; size = b .size; tags = tags; cache = cache; memory = memory }
+
+-- ---- the write policy
+
+-- 02, card 1: the profile "write-through .. without write-allocate"; 01 has write-back
+abbrev pub isThrough : WritePolicy → Bool
+isThrough WriteBack = false
+isThrough WriteThrough = true
+
+abbrev pub writesThrough : Hierarchy → Bool
+writesThrough b = isThrough (b .figures .policy)
 
 -- ---- free places, unused records
 

@@ -1,4 +1,4 @@
--- States that show what well-formed asks: a rich one that keeps every clause, and for each clause one that breaks it.
+-- States that show what well-formed asks: rich ones that keep every clause, and for each clause one that breaks it, two for the last.
 use Prim.Native.Nat.{ℕ, _+_}
 use mathlib.Core.Bool.{Bool, true, false}
 use mathlib.Core.List.{List, [], _∷_, _++_}
@@ -9,6 +9,8 @@ use Rattle.rules.specs.declared.StoreEntry.{StoreEntry}
 use Rattle.rules.specs.declared.LoadEntry.{LoadEntry}
 use Rattle.rules.specs.declared.Request.{Request}
 use Rattle.rules.specs.declared.Request.the-variants.{Line}
+use Rattle.rules.specs.declared.WritePolicy.{WritePolicy}
+use Rattle.rules.specs.declared.WritePolicy.the-variants.{WriteBack, WriteThrough}
 use Rattle.rules.specs.Shape.{Queues, Hierarchy, World, geometry, noStore, noLoad, noTag}
 use Rattle.rules.specs.WellFormed.{lineClauses, queueClauses}
 
@@ -27,14 +29,17 @@ abbrev pub answeredLoad : ℕ → ℕ → ℕ → LoadEntry
 answeredLoad i a w = record { number = i; address = a; width = w; waiting = false }
 
 -- two sets of two ways over six lines of memory, in which byte a is a + 1
-abbrev lines : List Tag → List ℕ → Hierarchy
-lines tags cache = record {
-  figures = geometry 2 2;
+abbrev linesBy : WritePolicy → List Tag → List ℕ → Hierarchy
+linesBy p tags cache = record {
+  figures = geometry p 2 2;
   size = 96;
   tags = tags;
   cache = cache;
   memory = eachFrom (λ a x. a + 1) 0 (replicate 96 0);
 }
+
+abbrev lines : List Tag → List ℕ → Hierarchy
+lines tags cache = linesBy WriteBack tags cache
 
 abbrev pub queues : ℕ → ℕ → Request → List StoreEntry → List LoadEntry → Queues
 queues last h r ss ls = record { last = last; committed = h; request = r; stores = ss; loads = ls }
@@ -69,7 +74,23 @@ richLines = lines richTags richCache
 abbrev pub richQueues : Queues
 richQueues = queues 7 4 (Line 4) richStores richLoads
 
--- ---- one state for each clause
+-- the same lines with none dirty, as write-through has them: the way of line 2 is invalid
+unfoldable pub cleanTags : List Tag
+cleanTags = set richTags 1 (tag false false 0 0)
+
+unfoldable pub cleanCache : List ℕ
+cleanCache =
+    eachFrom (λ j x. j + 1) 0 (replicate 16 0)
+    ++ (replicate 16 0 ++ (eachFrom (λ j x. j + 17) 0 (replicate 16 0) ++ replicate 16 0))
+
+abbrev pub cleanLines : WritePolicy → Hierarchy
+cleanLines p = linesBy p cleanTags cleanCache
+
+-- line 3 is requested for store 2, which is the oldest
+abbrev pub requestedByStore : Queues
+requestedByStore = queues 7 4 (Line 3) richStores richLoads
+
+-- ---- a state for each clause, and for the last one under each write policy
 
 -- its clauses, those of the lines first
 abbrev pub clauses : World → List Bool
@@ -109,6 +130,8 @@ broken =
     ∷ withLines (lines richTags (set richCache 50 1))
     -- a clean line that differs from memory
     ∷ withLines (lines richTags (set richCache 0 0))
+    -- a dirty line with write-through
+    ∷ withLines (linesBy WriteThrough richTags richCache)
     -- a place too many
     ∷ withQueues (queues 7 4 (Line 4) (richStores ++ noStore ∷ []) richLoads)
     -- a free place with an address
@@ -137,14 +160,16 @@ broken =
     ∷ withQueues (queues 7 4 (Line 7) richStores richLoads)
     -- a requested line that only an uncommitted load wants
     ∷ withQueues (queues 7 4 (Line 5) richStores richLoads)
+    -- with write-through, a requested line that only the oldest store wants
+    ∷ record { queues = requestedByStore; hierarchy = cleanLines WriteThrough }
     ∷ []
 
 -- all of the clauses but number i
 abbrev pub allBut : ℕ → List Bool
-allBut i = set (replicate 24 true) i false
+allBut i = set (replicate 25 true) i false
 
 unfoldable pub brokenClauses : List (List Bool)
 brokenClauses =
     allBut 0 ∷ allBut 1 ∷ allBut 2 ∷ allBut 3 ∷ allBut 4 ∷ allBut 5 ∷ allBut 6 ∷ allBut 7 ∷ allBut 8 ∷ allBut 9
     ∷ allBut 10 ∷ allBut 11 ∷ allBut 12 ∷ allBut 13 ∷ allBut 14 ∷ allBut 15 ∷ allBut 16 ∷ allBut 17 ∷ allBut 18
-    ∷ allBut 19 ∷ allBut 20 ∷ allBut 21 ∷ set (allBut 22) 23 false ∷ allBut 23 ∷ []
+    ∷ allBut 19 ∷ allBut 20 ∷ allBut 21 ∷ allBut 22 ∷ set (allBut 23) 24 false ∷ allBut 24 ∷ allBut 24 ∷ []

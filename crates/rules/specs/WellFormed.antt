@@ -1,4 +1,4 @@
--- Well-formed: one named clause for each part of 01's paragraph, in its order.
+-- Well-formed: one named clause for each part of 01's paragraph, in its order, and of what 02 adds.
 use Prim.Native.Nat.{ℕ, _+_, _*_, _-_}
 use mathlib.Core.Bool.{Bool, true, not, _&&_, _||_}
 use mathlib.Core.List.{List, [], _∷_}
@@ -9,9 +9,10 @@ use Rattle.lists.specs.Counted.{allFrom}
 use Rattle.rules.specs.declared.Tag.{Tag}
 use Rattle.rules.specs.declared.StoreEntry.{StoreEntry}
 use Rattle.rules.specs.declared.LoadEntry.{LoadEntry}
+use Rattle.rules.specs.declared.WritePolicy.{WritePolicy}
 use Rattle.rules.specs.declared.Request.{Request}
 use Rattle.rules.specs.declared.Request.the-variants.{Free, Line}
-use Rattle.rules.specs.Shape.{Queues, Hierarchy, lineBytes, tableSize, storePlaces, loadPlaces, topNumber, isFreeStore, isFreeLoad, slots, setStart, firstSlot, tagAt, lineOf, lineInMemory, fits}
+use Rattle.rules.specs.Shape.{Queues, Hierarchy, lineBytes, tableSize, storePlaces, loadPlaces, topNumber, isFreeStore, isFreeLoad, slots, setStart, firstSlot, tagAt, lineOf, lineInMemory, isThrough, writesThrough, fits}
 use Rattle.rules.specs.Lines.{holdsLine, present, slotPlace, dirtyAt, isDirty}
 use Rattle.rules.specs.Forward.{someUncovered}
 use Rattle.rules.specs.Calls.{passes, accessChecks, valueCheck, oldestStore, storeReady}
@@ -132,6 +133,14 @@ cleanEqualAt b k =
 abbrev pub cleanEqual : Hierarchy → Bool
 cleanEqual b = allFrom (cleanEqualAt b) 0 (slots b)
 
+-- ---- 02, card 1, of write-through: "in a well-formed state no line is dirty"
+
+unfoldable pub isCleanAt : Hierarchy → ℕ → Bool
+isCleanAt b k = not (isDirty (tagAt (b .tags) k))
+
+abbrev pub noneDirty : Hierarchy → Bool
+noneDirty b = not (writesThrough b) || allFrom (isCleanAt b) 0 (slots b)
+
 -- ---- "listed numbers are strictly rising, from 1 to last, and no number is in both lists"
 -- (number 0 marks a free place)
 
@@ -175,7 +184,7 @@ abbrev pub waitingUncovered : Queues → Bool
 waitingUncovered q = every (waitingUncoveredAt (q .stores)) (q .loads)
 
 -- ---- "a requested line is absent, lies in memory, and is wanted by a committed waiting load or by the oldest store,
--- committed and with no older waiting load"
+-- committed and with no older waiting load". 02, card 1, of write-through: "only a committed waiting load can want a requested line"
 
 unfoldable pub requestAbsent : Request → Hierarchy → Bool
 requestAbsent Free b = true
@@ -189,10 +198,14 @@ requestInside (Line l) b = lineInMemory b l
 unfoldable pub waitsFor : ℕ → ℕ → LoadEntry → Bool
 waitsFor h line l = not (isFreeLoad l) && (leb (l .number) h && (l .waiting && eqb (lineOf (l .address)) line))
 
-unfoldable pub requestWanted : Request → Queues → Bool
-requestWanted Free q = true
-requestWanted (Line l) q =
-    any (waitsFor (q .committed) l) (q .loads) || (storeReady q && eqb (lineOf (oldestStore q .address)) l)
+-- the oldest store, committed and with no older waiting load, wants the line
+abbrev pub storeWants : Queues → ℕ → Bool
+storeWants q line = storeReady q && eqb (lineOf (oldestStore q .address)) line
+
+unfoldable pub requestWanted : Request → Queues → WritePolicy → Bool
+requestWanted Free q p = true
+requestWanted (Line l) q p =
+    any (waitsFor (q .committed) l) (q .loads) || (not (isThrough p) && storeWants q l)
 
 -- ---- all of them
 
@@ -209,6 +222,7 @@ lineClauses b =
     ∷ invalidZero b
     ∷ invalidBytes b
     ∷ cleanEqual b
+    ∷ noneDirty b
     ∷ []
 
 -- the clauses of the queues
@@ -227,7 +241,7 @@ queueClauses q b =
     ∷ waitingUncovered q
     ∷ requestAbsent (q .request) b
     ∷ requestInside (q .request) b
-    ∷ requestWanted (q .request) q
+    ∷ requestWanted (q .request) q (b .figures .policy)
     ∷ []
 
 unfoldable pub linesFormed : Hierarchy → Bool

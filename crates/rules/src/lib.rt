@@ -3,10 +3,17 @@
 // nothing.
 ghost use Rattle.rules.specs.Claims.{RefusedCallsKeep, RefusalsExact, RefusalTableHolds, NumbersGiven, DroppedStretches, KeptWellFormed, ValuesAreRight, WaitsAreExact, FlushesAreExact, FlatMemoryIsKept};
 
-// The figures of a store that a start chooses.
+// The figures of a store that a start chooses. (02, card 1: "A start may choose this profile.")
 pub struct Figures {
     pub sets: u32,
     pub ways: u32,
+    pub policy: WritePolicy,
+}
+
+// The write policy (02, card 1: the write profile): write-back with write-allocate, or write-through without it.
+pub enum WritePolicy {
+    WriteBack,
+    WriteThrough,
 }
 
 // A tag record: one way of one set. (Memory has at most 4,096 lines, and an age is at most 3.)
@@ -126,7 +133,11 @@ pub const NO_TAG: Tag = Tag {
 };
 
 // Figures of no store.
-pub const NO_FIGURES: Figures = Figures { sets: 0, ways: 0 };
+pub const NO_FIGURES: Figures = Figures {
+    sets: 0,
+    ways: 0,
+    policy: WritePolicy::WriteBack,
+};
 
 // ---- the claims about the rules: functions that do nothing and promise them
 

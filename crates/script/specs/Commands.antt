@@ -10,6 +10,7 @@ use Rattle.lists.specs.Padded.{every}
 use Rattle.rules.specs.Shape.{topNumber, geometry}
 use Rattle.rules.specs.Calls.{Call, load, store, retry, commit, abort, idle, reply, flush}
 use Rattle.rules.specs.declared.Figures.{Figures}
+use Rattle.rules.specs.declared.WritePolicy.the-variants.{WriteBack, WriteThrough}
 
 -- what a line asks for: a start (its figures and the memory length), or a call
 pub data Command : Type 0 where
@@ -87,9 +88,11 @@ withOne c n =
 abbrev pub withTwo : ℕ → ℕ → ℕ → Option Command
 withTwo c a w = cond (eqb c (code "L")) (some (make (load a w))) none
 
--- with three: G sets ways memory, S (store) address width value
+-- with three: G sets ways memory, S (store) address width value. 02, card 1: "The script player keeps to write-back."
 abbrev pub withThree : ℕ → ℕ → ℕ → ℕ → Option Command
-withThree c x y z = cond (eqb c (code "G")) (some (start (geometry x y) z)) (cond (eqb c (code "S")) (some (make (store x y z))) none)
+withThree c x y z =
+    cond (eqb c (code "G")) (some (start (geometry WriteBack x y) z))
+    (cond (eqb c (code "S")) (some (make (store x y z))) none)
 
 abbrev pub named : ℕ → Option (List ℕ) → Option Command
 named c none = none

@@ -10,9 +10,10 @@ use Rattle.lists.proofs.Cond.{either}
 use Rattle.rules.specs.Shape.{Queues, Hierarchy, slots, lineOf, noLoad}
 use Rattle.rules.specs.Lines.{present, useSlot, useLine, putStore, writeStore, writeBackSlot, writeBackAll, install, fillLine}
 use Rattle.rules.specs.Forward.{loadValue}
-use Rattle.rules.specs.Calls.{Call, Outcome, load, store, retry, commit, abort, idle, reply, flush, show, loadRule, storeRule, waitingAt, answeredBy, answerLoad, retryWith, retryRule, useEach, commitRule, abortRule, canDrain, canRequestLoad, canRequestStore, idleRule, replyRule, flushRule, showRule, rule}
+use Rattle.rules.specs.Calls.{Call, Outcome, load, store, retry, commit, abort, idle, reply, flush, show, loadRule, storeRule, waitingAt, answeredBy, answerLoad, retryWith, retryRule, useEach, commitRule, abortRule, oldestStore, canDrain, canRequestLoad, canRequestStore, idleRule, replyRule, flushRule, showRule, rule}
 use Rattle.rules.specs.Runs.{outcome}
 use Rattle.rules.specs.declared.LoadEntry.{LoadEntry}
+use Rattle.rules.specs.declared.StoreEntry.{StoreEntry}
 use Rattle.rules.proofs.Checks.{outcome-by}
 
 pub record SameFigures (old new : Hierarchy) : Type 0 where
@@ -39,6 +40,11 @@ unfolding stepsFrom writeBackSlot
 write-backs zero v b = same b
 write-backs (suc n) v b = then (record { figures = refl; size = refl }) (write-backs n (suc v) (writeBackSlot v b))
 
+write-store : (s : StoreEntry) (b : Hierarchy) → SameFigures b (writeStore s b)
+unfolding writeStore putStore useSlot
+write-store s b =
+    either (SameFigures b) (present b (lineOf (s .address))) (λ _. record { figures = refl; size = refl }) (λ _. record { figures = refl; size = refl })
+
 module _ (q : Queues) (b : Hierarchy) where
   abbrev Keeps : Outcome → Type 0
   Keeps o = SameFigures b (o .hierarchy)
@@ -49,7 +55,7 @@ module _ (q : Queues) (b : Hierarchy) where
   retried i l (some v) = either Keeps (leb i (q .committed)) (λ _. use-line (lineOf (l .address)) b) (λ _. same b)
 
   ruled : (c : Call) → Keeps (rule c q b)
-  unfolding loadRule storeRule retryRule commitRule abortRule idleRule replyRule flushRule showRule writeStore putStore useSlot fillLine install writeBackSlot writeBackAll
+  unfolding loadRule storeRule retryRule commitRule abortRule idleRule replyRule flushRule showRule useSlot fillLine install writeBackSlot writeBackAll
   ruled (load a w) = same b
   ruled (store a w v) = same b
   ruled (retry i) =
@@ -58,7 +64,7 @@ module _ (q : Queues) (b : Hierarchy) where
   ruled (commit k) = use-each (filter (answeredBy k) (q .loads)) b
   ruled (abort n) = same b
   ruled idle =
-      either Keeps (canDrain q b) (λ _. record { figures = refl; size = refl })
+      either Keeps (canDrain q b) (λ _. write-store (oldestStore q) b)
       (λ _. either Keeps (canRequestLoad q b) (λ _. same b) (λ _. either Keeps (canRequestStore q b) (λ _. same b) (λ _. same b)))
   ruled reply = record { figures = refl; size = refl }
   ruled flush = write-backs (slots b) 0 b

@@ -9,6 +9,7 @@ use crate::LONGEST_LINE;
 use model::Call;
 use rules::Figures;
 use rules::TOP_NUMBER;
+use rules::WritePolicy;
 
 // between two words
 const SPACE: u8 = b' ';
@@ -177,12 +178,17 @@ fn with_two(letter: u8, address: u32, width: u32) -> Command
     Command::Malformed
 }
 
-// G sets ways memory, S (store) address width value
+// G sets ways memory, S (store) address width value. The player keeps to write-back.
 fn with_three(letter: u8, x: u32, y: u32, z: u32) -> Command
     ensures { λ r. ⌜ askedOf r ≡ withThree letter x y z ⌝ }
 {
     if letter == b'G' {
-        return Command::Start(Figures { sets: x, ways: y }, z);
+        let figures = Figures {
+            sets: x,
+            ways: y,
+            policy: WritePolicy::WriteBack,
+        };
+        return Command::Start(figures, z);
     }
     if letter == b'S' {
         return Command::Make(Call::Store(x, y, z));

@@ -2,22 +2,31 @@
 //! played on both and compared.
 #![allow(dead_code)]
 
+pub mod layout;
+
 use compare::check;
 use compare::counts::{Counts, Needed};
 use compare::model::{Machine, Right};
 use compare::random::{self, Rng, Run};
-use compare::types::{Answer, Call, Figures, LoadEntry, Part, Request, State, StoreEntry, Tag};
+use compare::types::{
+    Answer, Call, Figures, LoadEntry, Part, Request, Setup, State, StoreEntry, Tag, WritePolicy,
+};
+use layout::{
+    COMMITTED, DIRTY, ENTRY, LAST, LOADS_AT, PROFILE, REQUESTED, REQUESTED_LINE, TAG, TAGS_AT,
+    UNUSED, WAITING,
+};
 use nicoisetarn::{Image, Refusal, LINE, LOADS, RECORDS, STORES};
 
-/// Where the parts of an image stand.
-pub const REQUESTED: usize = 20;
-pub const REQUESTED_LINE: usize = 24;
-pub const STORES_AT: usize = 28;
-pub const LOADS_AT: usize = 284;
-pub const TAGS_AT: usize = 412;
-/// Bytes of a place of a queue and of a tag record.
-pub const ENTRY: usize = 16;
-pub const TAG: usize = 6;
+/// The write policies, by the numbers of their profiles.
+pub const POLICIES: [WritePolicy; 2] = [WritePolicy::WriteBack, WritePolicy::WriteThrough];
+
+/// Setups, each in every write profile.
+pub fn in_each_profile(setups: &[Setup]) -> impl Iterator<Item = Setup> + '_ {
+    let in_profiles = |setup: Setup| {
+        POLICIES.map(|policy| Setup { figures: setup.figures.with_policy(policy), ..setup })
+    };
+    setups.iter().copied().flat_map(in_profiles)
+}
 
 /// An image with what is lent to it.
 #[derive(Clone, Debug, PartialEq, Eq)]
@@ -45,29 +54,47 @@ fn word(bytes: &[u8], at: usize) -> u32 {
     u32::from_ne_bytes([bytes[at], bytes[at + 1], bytes[at + 2], bytes[at + 3]])
 }
 
-/// Every flag is 0 or 1, a free register has no line, unused bytes are 0.
+/// The image with another number that stands so far into its bytes.
+pub fn with_word(image: &Image, at: usize, word: u32) -> Image {
+    let mut bytes = image.to_bytes();
+    bytes[at..at + 4].copy_from_slice(&word.to_ne_bytes());
+    Image::from_bytes(bytes)
+}
+
+/// There is such a profile, every flag is 0 or 1, a free register has no line, unused
+/// bytes are 0.
 pub fn stands(image: &Image) -> bool {
     let bytes = image.to_bytes();
+    let profile = (word(&bytes, PROFILE) as usize) < POLICIES.len();
     let register = match word(&bytes, REQUESTED) {
         0 => word(&bytes, REQUESTED_LINE) == 0,
         flag => flag == 1,
     };
     let mut loads = bytes[LOADS_AT..TAGS_AT].chunks_exact(ENTRY);
     let mut tags = bytes[TAGS_AT..].chunks_exact(TAG);
-    register
-        && loads.all(|load| word(load, 12) <= 1)
-        && tags.all(|tag| tag[0] <= 1 && tag[1] <= 1 && tag[5] == 0)
+    profile
+        && register
+        && loads.all(|load| word(load, WAITING) <= 1)
+        && tags.all(|tag| tag[0] <= 1 && tag[DIRTY] <= 1 && tag[UNUSED] == 0)
 }
 
 /// Figures of the model as those of the library.
 pub fn library_figures(figures: Figures) -> nicoisetarn::Figures {
-    nicoisetarn::Figures { sets: figures.sets, ways: figures.ways }
+    let policy = match figures.policy {
+        WritePolicy::WriteBack => nicoisetarn::WritePolicy::WriteBack,
+        WritePolicy::WriteThrough => nicoisetarn::WritePolicy::WriteThrough,
+    };
+    nicoisetarn::Figures::new(figures.sets, figures.ways).with_policy(policy)
 }
 
 /// The figures of an image as those of the model.
 fn figures_of(image: &Image) -> Figures {
     let figures = image.figures();
-    Figures::new(figures.sets, figures.ways)
+    let policy = match figures.policy {
+        nicoisetarn::WritePolicy::WriteBack => WritePolicy::WriteBack,
+        nicoisetarn::WritePolicy::WriteThrough => WritePolicy::WriteThrough,
+    };
+    Figures::new(figures.sets, figures.ways).with_policy(policy)
 }
 
 /// The state that an image stands for, as its accessors tell it.
@@ -106,14 +133,15 @@ pub fn image_of(state: &State) -> Image {
         Request::Free => (0, 0),
         Request::Line(line) => (1, line),
     };
-    let Figures { sets, ways } = state.figures;
-    let figures = [sets, ways, state.memory_length, state.last, state.committed];
+    let Figures { sets, ways, policy } = state.figures;
+    let figures = [sets, ways, policy as u32];
+    let numbers = [state.memory_length, state.last, state.committed, requested, line];
     let stores = state.stores.iter().flat_map(|s| [s.number, s.address, s.width, s.value]);
     let loads = state.loads.iter().flat_map(|load| {
         let waiting = load.answered == (load.number == 0);
         [load.number, load.address, load.width, u32::from(waiting)]
     });
-    let words = figures.into_iter().chain([requested, line]).chain(stores).chain(loads);
+    let words = figures.into_iter().chain(numbers).chain(stores).chain(loads);
     let mut bytes = [0; Image::SIZE];
     for (into, word) in bytes[..TAGS_AT].chunks_exact_mut(4).zip(words) {
         into.copy_from_slice(&word.to_ne_bytes());
@@ -188,19 +216,21 @@ impl Bench {
         image.run(cache, memory, &calls).into_iter().map(answer_of).collect()
     }
 
-    /// What a run begins with: a start, on the library.
+    /// What a run begins with: a start on the library, which is the model's.
     pub fn begin(run: &Run) -> Bench {
         let (mut cache, memory) = (run.found_cache(), run.found.clone());
         let figures = library_figures(run.figures);
         let mut image = Image::start(figures, &mut cache, &memory).unwrap();
         if run.numbered != 0 {
-            let mut bytes = image.to_bytes();
-            for at in [12, 16] {
-                bytes[at..at + 4].copy_from_slice(&run.numbered.to_ne_bytes());
+            for at in [LAST, COMMITTED] {
+                image = with_word(&image, at, run.numbered);
             }
-            image = Image::from_bytes(bytes);
         }
-        Bench { image, cache, memory }
+        let begun = Bench { image, cache, memory };
+        let (state, cache, memory) = run.begin(Right::step);
+        let expected = Bench { image: image_of(&state), cache, memory };
+        assert!(begun == expected, "seed {}: not the model's start", run.seed);
+        begun
     }
 
     /// What the run of a seed has led to somewhere on its way, on the model.
@@ -212,6 +242,16 @@ impl Bench {
             Right::step(&mut state, &mut cache, &mut memory, call);
         }
         Bench { image: image_of(&state), cache, memory }
+    }
+
+    /// What it leads to after each of its calls.
+    pub fn along_the_way(seed: u64) -> impl Iterator<Item = Bench> {
+        let run = random::run(seed);
+        let (mut state, mut cache, mut memory) = run.begin(Right::step);
+        run.calls.into_iter().map(move |call| {
+            Right::step(&mut state, &mut cache, &mut memory, call);
+            Bench { image: image_of(&state), cache: cache.clone(), memory: memory.clone() }
+        })
     }
 }
 
@@ -326,7 +366,7 @@ fn near_number(image: &Image, rng: &mut Rng) -> u32 {
 fn near_address(image: &Image, rng: &mut Rng) -> u32 {
     let store = image.stores()[rng.below(4) as usize].address;
     let load = image.loads()[rng.below(4) as usize].address;
-    let Figures { sets, ways } = figures_of(image);
+    let Figures { sets, ways, .. } = figures_of(image);
     let used = sets.wrapping_mul(ways).clamp(1, RECORDS as u32);
     let line = image.tag(rng.below(u64::from(used)) as usize).map_or(0, |tag| tag.line);
     let inside = rng.below(u64::from(image.memory_length().max(1))) as u32;
@@ -350,6 +390,7 @@ pub fn each_call(image: &Image, rng: &mut Rng) -> [Call; 10] {
     let value = rng.pick(&[0, 1, 200, odd]);
     let figures = image.figures();
     let (sets, ways) = (rng.pick(&[figures.sets, 1, 2, odd]), rng.pick(&[figures.ways, 1, odd]));
+    let policy = rng.pick(&POLICIES);
     [
         Call::ShowLine { address: address(rng) },
         Call::Load { address: address(rng), width },
@@ -360,6 +401,6 @@ pub fn each_call(image: &Image, rng: &mut Rng) -> [Call; 10] {
         Call::Idle,
         Call::Reply,
         Call::Flush,
-        Call::Start { figures: Figures::new(sets, ways) },
+        Call::Start { figures: Figures::new(sets, ways).with_policy(policy) },
     ]
 }

@@ -1,5 +1,6 @@
-//! Calls and batches by numbers, which the crate does not offer: what the library
-//! says of a number that no call has, and which operands it looks at.
+//! Starts, calls and batches by numbers, which the crate does not offer: what the
+//! library says of a number that no profile or no call has, and which operands it
+//! looks at.
 #![allow(dead_code)]
 
 use compare::types::{Answer, Call};
@@ -14,8 +15,10 @@ pub struct Numbers {
     pub second: u32,
 }
 
-/// No call has that number.
+/// No call, or no profile of a start, has that number.
 pub const NO_SUCH_CALL: Numbers = Numbers { kind: 255, first: 0, second: 0 };
+/// Numbers that no profile has.
+pub const NO_PROFILES: [u32; 8] = [2, 3, 4, 255, 256, 257, 1 << 31 | 1, u32::MAX];
 /// A batch was run.
 pub const RAN: Numbers = Numbers { kind: 254, first: 0, second: 0 };
 
@@ -27,6 +30,17 @@ pub const UNKNOWN: Listed = [255, 0, 0, 0, 0, 0];
 pub const UNTOUCHED: u32 = 0xA5A5_A5A5;
 
 extern "C" {
+    fn nicoisetarn_start_with_in(
+        image: *mut Image,
+        sets: u32,
+        ways: u32,
+        profile: u32,
+        cache: *mut u8,
+        cache_length: usize,
+        memory: *const u8,
+        memory_length: usize,
+    ) -> Numbers;
+
     fn nicoisetarn_step_in(
         image: *mut Image,
         call: u32,
@@ -50,6 +64,20 @@ extern "C" {
         memory: *mut u8,
         memory_length: usize,
     ) -> Numbers;
+}
+
+/// A start by its sets, its ways and the number of its profile.
+pub fn start(
+    image: &mut Image,
+    cache: &mut [u8],
+    memory: &[u8],
+    [sets, ways, profile]: [u32; 3],
+) -> Numbers {
+    let (cached, stored) = (cache.len(), memory.len());
+    let (cache, memory) = (cache.as_mut_ptr(), memory.as_ptr());
+    // SAFETY: three references, all but the memory exclusive, each slice with its own
+    // length; the library keeps no pointer, and any bytes are an image.
+    unsafe { nicoisetarn_start_with_in(image, sets, ways, profile, cache, cached, memory, stored) }
 }
 
 /// A call by its number.

@@ -4,6 +4,9 @@ use Rattle.images.specs.Images.{imagedWith}
 use Rattle.images.proofs.imaged_with.Statement.{statement}
 use Rattle.images.proofs.imaged_with.Tie as tie
 
+profile-of-requires : tie.Need-profile-of-requires
+profile-of-requires c κs = search needs
+
 requested-requires : tie.Need-requested-requires
 requested-requires c κs = search needs
 
@@ -19,7 +22,8 @@ image-loads-requires c κs = search needs
 returns : tie.Need-returns
 unfolding imagedWith
 returns c =
-    let args = c .before .before .before .before .before .before .before .args in
+    let args = c .before .before .before .before .before .before .before .before .args in
+    let profile-of = c .before .before .before .before .profile-of in
     let the-requested = c .before .before .before .requested in
     let line-named = c .before .before .line-named in
     let image-stores = c .before .image-stores in
@@ -27,6 +31,7 @@ returns c =
     λ j. record {
       sets = s .figures .sets;
       ways = s .figures .ways;
+      profile = profile-of .ensures j;
       size = s .size;
       last = s .last;
       committed = s .committed;
@@ -41,6 +46,7 @@ pub imaged-with-spec : {M : Type 1} → statement M
 imaged-with-spec =
     tie.close
     (tie.spec
+    profile-of-requires
     requested-requires
     line-named-requires
     image-stores-requires

@@ -22,15 +22,19 @@ rem-if2 c = search needs
 returns-2 : tie.Need-returns-2
 unfolding validGood
 returns-2 c =
-    let if1 = c .before .if1 in
+    let if1 = c .before .before .if1 in
     rw (lt-ltb _ _ (if1 .left), ne-eqb _ _ (c .if2 .taken))
+
+allows-dirty-requires : tie.Need-allows-dirty-requires
+allows-dirty-requires c κs = search needs
 
 returns-3 : tie.Need-returns-3
 unfolding validGood
 returns-3 c =
-    let if1 = c .before .before .if1 in
-    let if2 = c .before .if2 in
-    rw (lt-ltb _ _ (if1 .left), eq-eqb _ _ (if2 .left), c .if3 .taken)
+    let if1 = c .before .before .before .before .if1 in
+    let if2 = c .before .before .if2 in
+    let if3 = c .before .if3 in
+    rw (lt-ltb _ _ (if1 .left), eq-eqb _ _ (if2 .left), if3 .taken) (c .allows-dirty .ensures)
 
 mul-same-bytes : tie.Need-mul-same-bytes
 mul-same-bytes c = search needs
@@ -47,7 +51,7 @@ same-bytes-requires c κs = search needs
 returns-4 : tie.Need-returns-4
 unfolding validGood
 returns-4 c =
-    let if1 = c .before .before .before .if1 in
+    let if1 = c .before .before .before .before .if1 in
     let if2 = c .before .before .if2 in
     let if3 = c .before .if3 in
     rw (lt-ltb _ _ (if1 .left), eq-eqb _ _ (if2 .left), if3 .left) (c .same-bytes .ensures)
@@ -61,6 +65,7 @@ valid-good-spec =
     returns
     rem-if2
     returns-2
+    allows-dirty-requires
     returns-3
     mul-same-bytes
     cast-same-bytes

@@ -5,9 +5,12 @@ use Rattle.model.proofs.Moves.{drained-state}
 use Rattle.model.proofs.State.drain_oldest.Statement.{statement}
 use Rattle.model.proofs.State.drain_oldest.Tie as tie
 
+write-through-requires : tie.Need-write-through-requires
+write-through-requires c κs = search needs
+
 write-store-requires : tie.Need-write-store-requires
 write-store-requires c κs =
-    let p = c .before .before .before .before .before .pre in
+    let p = c .before .before .before .before .before .before .before .before .before .before .pre in
     record {
       some-set = p .0 .some-set;
       some-way = p .0 .some-way;
@@ -15,7 +18,6 @@ write-store-requires c κs =
       cache-long = p .0 .cache-long;
       narrow = p .1 .narrow;
       one-line = p .1 .one-line;
-      here = p .3;
     }
 
 pop-store-requires : tie.Need-pop-store-requires
@@ -24,12 +26,18 @@ pop-store-requires c κs = search needs
 same-length : tie.Need-same-length
 same-length c = search needs
 
+same-length-2 : tie.Need-same-length-2
+same-length-2 c = search needs
+
 returns : tie.Need-returns
 returns c =
-    let args = c .before .before .before .before .before .before .before .before .before .args in
-    let pre = c .before .before .before .before .before .before .before .before .before .pre in
+    let p = c .before .before .before .before .before .before .before .before .before .before .before .before .before .before .pre in
+    let a = c .before .before .before .before .before .before .before .before .before .before .before .before .before .before .args in
+    let write-through = c .before .before .before .before .before .before .before .write-through in
     let write-store = c .before .before .before .write-store in
-    λ m. drained-state (args .self) (now (args .cache)) m (args .s) _ _ _ (pre .2) (write-store .ensures) (c .pop-store .ensures)
+    drained-state (a .self) (now (a .cache)) (now (a .memory)) (a .s) _ _ _ _ (p .3) (p .1 .narrow) (p .2) (write-through .ensures) (write-store .ensures) (c .pop-store .ensures)
 
 pub drain-oldest-spec : {M : Type 1} → statement M
-drain-oldest-spec = tie.close (tie.spec write-store-requires pop-store-requires same-length returns)
+drain-oldest-spec =
+    tie.close
+    (tie.spec write-through-requires write-store-requires pop-store-requires same-length same-length-2 returns)

@@ -72,7 +72,7 @@ returns-4 c =
     let s = args .self in
     let x : requestAbsent (s .request) (tabled (s .figures) (s .tags)) ≡ true = rw (request .given .1, (sym (present-known _ _ _ _ (shaped-room _ _ pre) (is-present .ensures)) ∙ if1 .left)) in
     let y : requestInside (s .request) (sized (s .size)) ≡ true = rw (request .given .1, lt-ltb _ _ (if2 .left)) in
-    rw (x, y) (c .request-wanted .ensures ∙ wanted-at s [] [] _ ∙ ap (λ (r : Request). requestWanted r (queuesOf s)) (sym (request .given .1)))
+    rw (x, y) (c .request-wanted .ensures ∙ wanted-at s [] [] _ _ ∙ ap (λ (r : Request). requestWanted r (queuesOf s) (s .figures .policy)) (sym (request .given .1)))
 
 pub is-request-good-spec : {M : Type 1} → statement M
 is-request-good-spec =

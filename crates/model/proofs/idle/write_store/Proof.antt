@@ -1,14 +1,16 @@
 -- `write_store` meets its contract.
 use borrow.Author.Needs.{needs}
+use mathlib.Core.Path.{refl}
 use mathlib.Core.List.{[]}
 use native.Mathlib.Omega.{arith}
 use denote.Ref.{now}
 use Rattle.rules.specs.Shape.{lineOf}
-use Rattle.rules.specs.Lines.{present, slotOf}
+use Rattle.lists.specs.Counted.{eachFrom}
+use Rattle.rules.specs.Lines.{storedMemory}
 use Rattle.line_checks.specs.Refusal.{hierarchy}
 use Rattle.records.proofs.Places.{has-room}
 use Rattle.model.proofs.Leaves.{located}
-use Rattle.model.proofs.Moves.{written-whole}
+use Rattle.model.proofs.Moves.{unwritten, written-whole}
 use Rattle.model.proofs.idle.write_store.Statement.{statement}
 use Rattle.model.proofs.idle.write_store.Tie as tie
 
@@ -21,20 +23,28 @@ first-slot-requires c κs = search needs
 find-requires : tie.Need-find-requires
 find-requires c κs = search needs
 
-mul-at : tie.Need-mul-at
-mul-at c =
+add-if1 : tie.Need-add-if1
+add-if1 c =
     let a = c .before .before .before .before .before .args in
     let p = c .before .before .before .before .before .pre in
     let first-slot = c .before .first-slot in
     let b = hierarchy (a .figures) 0 (a .tags) (now (a .cache)) [] in
     let h = located b (has-room (a .figures) (p .some-set) (p .some-way) (p .room)) _ _ _ (first-slot .ensures) (c .find .ensures) in
-    omega (arith, h .high, h .within, h .room)
+    omega (arith, h .within, h .room)
 
-cast-at : tie.Need-cast-at
-cast-at c = search needs
+returns : tie.Need-returns
+unfolding lineOf
+returns c =
+    let a = c .before .before .before .before .before .before .args in
+    let p = c .before .before .before .before .before .before .pre in
+    let first-slot = c .before .before .first-slot in
+    let find = c .before .find in
+    let b = hierarchy (a .figures) 0 (a .tags) (now (a .cache)) [] in
+    let h = located b (has-room (a .figures) (p .some-set) (p .some-way) (p .room)) _ _ _ (first-slot .ensures) (find .ensures) in
+    unwritten b (a .s) _ _ h (c .if1 .taken) refl
 
-add-at : tie.Need-add-at
-add-at c =
+mul-at : tie.Need-mul-at
+mul-at c =
     let a = c .before .before .before .before .before .before .args in
     let p = c .before .before .before .before .before .before .pre in
     let first-slot = c .before .before .first-slot in
@@ -43,11 +53,24 @@ add-at c =
     let h = located b (has-room (a .figures) (p .some-set) (p .some-way) (p .room)) _ _ _ (first-slot .ensures) (find .ensures) in
     omega (arith, h .high, h .within, h .room)
 
+cast-at : tie.Need-cast-at
+cast-at c = search needs
+
+add-at : tie.Need-add-at
+add-at c =
+    let a = c .before .before .before .before .before .before .before .args in
+    let p = c .before .before .before .before .before .before .before .pre in
+    let first-slot = c .before .before .before .first-slot in
+    let find = c .before .before .find in
+    let b = hierarchy (a .figures) 0 (a .tags) (now (a .cache)) [] in
+    let h = located b (has-room (a .figures) (p .some-set) (p .some-way) (p .room)) _ _ _ (first-slot .ensures) (find .ensures) in
+    omega (arith, h .high, h .within, h .room)
+
 put-store-requires : tie.Need-put-store-requires
 put-store-requires c κs = search needs
 
-mark-dirty-requires : tie.Need-mark-dirty-requires
-mark-dirty-requires c κs = search needs
+mark-written-requires : tie.Need-mark-written-requires
+mark-written-requires c κs = search needs
 
 use-slot-requires : tie.Need-use-slot-requires
 use-slot-requires c κs = search needs
@@ -55,18 +78,19 @@ use-slot-requires c κs = search needs
 same-length : tie.Need-same-length
 same-length c = search needs
 
-returns : tie.Need-returns
-unfolding lineOf present slotOf
-returns c =
-    let a = c .before .before .before .before .before .before .before .before .before .before .before .before .args in
-    let p = c .before .before .before .before .before .before .before .before .before .before .before .before .pre in
-    let first-slot = c .before .before .before .before .before .before .before .before .first-slot in
-    let find = c .before .before .before .before .before .before .before .find in
+returns-2 : tie.Need-returns-2
+unfolding lineOf storedMemory eachFrom
+returns-2 c =
+    let a = c .before .before .before .before .before .before .before .before .before .before .before .before .before .args in
+    let p = c .before .before .before .before .before .before .before .before .before .before .before .before .before .pre in
+    let first-slot = c .before .before .before .before .before .before .before .before .before .first-slot in
+    let find = c .before .before .before .before .before .before .before .before .find in
+    let if1 = c .before .before .before .before .before .before .before .if1 in
     let put-store = c .before .before .before .before .put-store in
-    let mark-dirty = c .before .mark-dirty in
+    let mark-written = c .before .mark-written in
     let b = hierarchy (a .figures) 0 (a .tags) (now (a .cache)) [] in
     let h = located b (has-room (a .figures) (p .some-set) (p .some-way) (p .room)) _ _ _ (first-slot .ensures) (find .ensures) in
-    written-whole b (a .s) _ _ _ _ _ h (p .here) (p .narrow) (p .one-line) (p .cache-long) (put-store .ensures) (mark-dirty .ensures) (c .use-slot .ensures)
+    written-whole b (a .s) _ _ _ _ _ h (if1 .left) (p .narrow) (p .one-line) (p .cache-long) (put-store .ensures) (mark-written .ensures) (c .use-slot .ensures)
 
 pub write-store-spec : {M : Type 1} → statement M
 write-store-spec =
@@ -75,11 +99,13 @@ write-store-spec =
     cast-n
     first-slot-requires
     find-requires
+    add-if1
+    returns
     mul-at
     cast-at
     add-at
     put-store-requires
-    mark-dirty-requires
+    mark-written-requires
     use-slot-requires
     same-length
-    returns)
+    returns-2)

@@ -4,6 +4,7 @@ use Prim.Native.Nat.{ℕ}
 use mathlib.Core.Path.{_≡_, sym, _∙_}
 use mathlib.Core.Bool.{Bool, true, false}
 use mathlib.Core.List.{List, []}
+use Rattle.rules.specs.declared.Figures.{Figures}
 use Rattle.rules.specs.Shape.{fits}
 use Rattle.line_checks.specs.Refusal.{hierarchy}
 use Rattle.images.specs.declared.Image.{Image}
@@ -12,27 +13,32 @@ use Rattle.nicoisetarn.specs.Steps.{imageRefusal}
 use Rattle.nicoisetarn.proofs.steps.image_refusal.Statement.{statement}
 use Rattle.nicoisetarn.proofs.steps.image_refusal.Tie as tie
 
-module _ (i : Image) (cache memory : List ℕ) (fit : Bool) (e : fit ≡ fits (hierarchy (figuresOf i) (i .size) [] cache memory)) where
+module _ (i : Image) (cache memory : List ℕ) (f : Figures) (o : f ≡ figuresOf i) (fit : Bool) (e : fit ≡ fits (hierarchy f (i .size) [] cache memory)) where
   fitting : fit ≡ true → 10 ≡ imageRefusal i cache memory
   unfolding imageRefusal
-  fitting t = rw (sym e ∙ t)
+  fitting t = rw (← o, sym e ∙ t)
 
   unfitting : fit ≡ false → 1 ≡ imageRefusal i cache memory
   unfolding imageRefusal
-  unfitting t = rw (sym e ∙ t)
+  unfitting t = rw (← o, sym e ∙ t)
+
+figures-with-requires : tie.Need-figures-with-requires
+figures-with-requires c κs = search needs
 
 is-fit-requires : tie.Need-is-fit-requires
 is-fit-requires c κs = search needs
 
 returns : tie.Need-returns
 returns c =
+    let figures-with = c .before .before .figures-with in
     let is-fit = c .before .is-fit in
-    fitting _ _ _ _ (is-fit .ensures) (c .if1 .taken)
+    fitting _ _ _ _ (figures-with .ensures) _ (is-fit .ensures) (c .if1 .taken)
 
 returns-2 : tie.Need-returns-2
 returns-2 c =
+    let figures-with = c .before .before .figures-with in
     let is-fit = c .before .is-fit in
-    unfitting _ _ _ _ (is-fit .ensures) (c .if1 .left)
+    unfitting _ _ _ _ (figures-with .ensures) _ (is-fit .ensures) (c .if1 .left)
 
 pub image-refusal-spec : {M : Type 1} → statement M
-image-refusal-spec = tie.close (tie.spec is-fit-requires returns returns-2)
+image-refusal-spec = tie.close (tie.spec figures-with-requires is-fit-requires returns returns-2)

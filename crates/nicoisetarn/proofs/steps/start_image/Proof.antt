@@ -1,58 +1,47 @@
--- `steps::start_image` meets its contract: ready, or refused.
+-- `steps::start_image` meets its contract: there is such a profile, or not.
 use borrow.Author.Needs.{needs}
 use mathlib.Core.Path.{refl}
-use Rattle.nicoisetarn.proofs.Outcomes.{start-ready, start-refused}
+use Rattle.nicoisetarn.proofs.Outcomes.{start-known, start-unknown}
 use Rattle.nicoisetarn.proofs.steps.start_image.Statement.{statement}
 use Rattle.nicoisetarn.proofs.steps.start_image.Tie as tie
 
-start-requires : tie.Need-start-requires
-start-requires c κs = search needs
+is-profile-requires : tie.Need-is-profile-requires
+is-profile-requires c κs = search needs
 
-enum-told : tie.Need-enum-told
-enum-told c = search needs
+figures-with-requires : tie.Need-figures-with-requires
+figures-with-requires c κs = search needs
 
-coded-requires : tie.Need-coded-requires
-coded-requires c κs = search needs
-
-imaged-requires : tie.Need-imaged-requires
-imaged-requires c κs = search needs
-
-enum-known-answer : tie.Need-enum-known-answer
-enum-known-answer c = search needs
-
-coded-requires-2 : tie.Need-coded-requires-2
-coded-requires-2 c κs = search needs
+start-figures-requires : tie.Need-start-figures-requires
+start-figures-requires c κs = search needs
 
 same-length : tie.Need-same-length
 same-length c = search needs
 
 returns : tie.Need-returns
 returns c =
-    let start = c .before .before .before .before .before .before .before .start in
-    let enum-told = c .before .before .before .enum-told in
-    let coded = c .before .coded in
-    start-ready _ _ _ _ _ (start .result) _ (start .ensures .0) (start .ensures .1) _ (enum-told .given .1) (coded .ensures) (c .imaged .ensures)
+    let is-profile = c .before .before .before .before .before .before .is-profile in
+    let if1 = c .before .before .before .before .before .if1 in
+    let figures-with = c .before .before .before .before .figures-with in
+    let start-figures = c .before .before .start-figures in
+    start-known _ _ _ _ _ _ _ (is-profile .ensures) (if1 .taken) _ (figures-with .ensures) _ (start-figures .ensures)
 
-same-length-2 : tie.Need-same-length-2
-same-length-2 c = search needs
+coded-requires : tie.Need-coded-requires
+coded-requires c κs = search needs
 
 returns-2 : tie.Need-returns-2
 returns-2 c =
-    let start = c .before .before .before .before .before .before .start in
-    let answer = c .before .before .answer in
-    start-refused _ _ _ _ _ (start .result) _ (start .ensures .0) (start .ensures .1) _ _ (answer .given .1) (c .coded2 .ensures) refl
+    let is-profile = c .before .before .is-profile in
+    let if1 = c .before .if1 in
+    start-unknown _ _ _ _ _ _ _ (is-profile .ensures) (if1 .left) _ (c .coded .ensures) refl
 
 pub start-image-spec : {M : Type 1} → statement M
 start-image-spec =
     tie.close
     (tie.spec
-    start-requires
-    enum-told
-    coded-requires
-    imaged-requires
-    enum-known-answer
-    coded-requires-2
+    is-profile-requires
+    figures-with-requires
+    start-figures-requires
     same-length
     returns
-    same-length-2
+    coded-requires
     returns-2)

@@ -1,0 +1,30 @@
+//! Where the parts of an image stand, in bytes.
+
+pub const SETS: usize = 0;
+pub const WAYS: usize = 4;
+pub const PROFILE: usize = 8;
+pub const MEMORY_LENGTH: usize = 12;
+pub const LAST: usize = 16;
+pub const COMMITTED: usize = 20;
+pub const REQUESTED: usize = 24;
+pub const REQUESTED_LINE: usize = 28;
+/// The queues and the tag records, one after the other.
+pub const STORES_AT: usize = 32;
+pub const LOADS_AT: usize = 288;
+pub const TAGS_AT: usize = 416;
+
+/// Bytes of a place of a queue and of a tag record.
+pub const ENTRY: usize = 16;
+pub const TAG: usize = 6;
+
+/// In a place of a queue: behind its number.
+pub const ADDRESS: usize = 4;
+pub const WIDTH: usize = 8;
+pub const VALUE: usize = 12;
+pub const WAITING: usize = 12;
+
+/// In a tag record: behind its valid mark.
+pub const DIRTY: usize = 1;
+pub const LINE: usize = 2;
+pub const AGE: usize = 4;
+pub const UNUSED: usize = 5;
