@@ -1,7 +1,8 @@
 /*
  * A bench in C: plays the scope paper's worked script by calls and prints what the script player prints for it, then
- * a batch and its answers, then a drain in write-through. It checks the boundary: words, what the image tells, refused
- * calls, numbers that no call and no profile has, both profiles, show line, and batches.
+ * a batch and its answers, then a drain in write-through, then drains to two words of a line and their flush. It checks
+ * the boundary: words, what the image tells, refused calls, numbers that no call and no profile has, dirty marks, both
+ * profiles, show line, and batches.
  * Exits with 1, and a line on standard error, where a check fails.
  */
 #include "nicoisetarn.h"
@@ -149,6 +150,31 @@ static void play_write_through(bench *b) {
     const bench before = *b;
     print(nicoisetarn_start_with(&unit, 1, 1, NICOISETARN_WRITE_THROUGH + 1)); /* no such profile */
     CHECK(memcmp(b, &before, sizeof before) == 0);
+}
+
+/* ---- dirty words, printed */
+
+static void play_dirty_words(bench *b) {
+    nicoisetarn_unit unit = lent(b);
+    print(start(b));
+    print(nicoisetarn_store(&unit, 1, 1, 7));      /* to word 0 of line 0 */
+    print(nicoisetarn_store(&unit, 8, 4, 0x8090)); /* to word 2 */
+    print(nicoisetarn_store(&unit, 2, 2, 9));      /* to word 0 again */
+    print(nicoisetarn_commit(&unit, 3));
+    print(nicoisetarn_idle(&unit));
+    print(nicoisetarn_reply(&unit));
+    print(nicoisetarn_idle(&unit));
+    print(nicoisetarn_idle(&unit));
+    print(nicoisetarn_idle(&unit));
+    const nicoisetarn_tag tag = nicoisetarn_tag_at(&b->image, 0);
+    CHECK(tag.dirty == (1 | 1 << 2));
+    CHECK(nicoisetarn_is_dirty(tag, 0) && !nicoisetarn_is_dirty(tag, 1) && nicoisetarn_is_dirty(tag, 2));
+    CHECK(nicoisetarn_dirty_words(tag) == 2);
+    CHECK(all_zero(b->memory, sizeof b->memory));
+    print(nicoisetarn_flush(&unit)); /* two words, and not three stores or one line */
+    CHECK(nicoisetarn_tag_at(&b->image, 0).dirty == 0);
+    CHECK(b->memory[1] == 7 && b->memory[2] == 9 && b->memory[8] == 0x90 && b->memory[9] == 0x80);
+    CHECK(memcmp(b->memory, b->cache, NICOISETARN_LINE) == 0);
 }
 
 /* ---- words */
@@ -316,6 +342,71 @@ static void check_no_such_call(void) {
         CHECK(memcmp(&b, &before, sizeof b) == 0);
         memset(&b.image, 0xA5, sizeof b.image);
     }
+}
+
+/* ---- dirty marks */
+
+/* Line 0, clean. */
+static void make_present(bench *b) {
+    nicoisetarn_unit unit = lent(b);
+    CHECK(same(start(b), NICOISETARN_KIND_READY, 0, 0));
+    CHECK(same(nicoisetarn_load(&unit, 0, 1), NICOISETARN_KIND_WAITS, 1, 0));
+    CHECK(same(nicoisetarn_commit(&unit, 1), NICOISETARN_KIND_COMMITTED, 1, 0));
+    CHECK(same(nicoisetarn_idle(&unit), NICOISETARN_KIND_REQUEST, 0, 0));
+    CHECK(same(nicoisetarn_reply(&unit), NICOISETARN_KIND_FILLED, 0, 0));
+    CHECK(same(nicoisetarn_retry(&unit, 1), NICOISETARN_KIND_VALUE, 1, 0));
+}
+
+/* Its dirty marks stand behind valid. */
+static void put_marks(bench *b, uint8_t marks) {
+    memcpy((uint8_t *)&b->image + NICOISETARN_AT_RECORDS + 1, &marks, 1);
+}
+
+/* Every call is refused by 10, show line gives the empty part, and all stays. */
+static void check_ill_formed(bench *b) {
+    nicoisetarn_unit unit = lent(b);
+    const bench before = *b;
+    for (uint32_t call = NICOISETARN_CALL_LOAD; call <= NICOISETARN_CALL_FLUSH; call++) {
+        check_refused(nicoisetarn_step(&unit, (nicoisetarn_call)call, 1, 1, 1), NICOISETARN_REFUSED_STATE, b, &before);
+    }
+    CHECK(same(nicoisetarn_show_line(&unit, 0), NICOISETARN_KIND_SHOWN, 0, 0));
+}
+
+/* Any marks of the four words are taken, and a flush counts them; a fifth mark is refused. */
+static void check_marks(void) {
+    bench b;
+    nicoisetarn_unit unit = lent(&b);
+    make_present(&b);
+    for (uint32_t marks = 0; marks < 256; marks++) {
+        const uint32_t words = (marks & 1) + (marks >> 1 & 1) + (marks >> 2 & 1) + (marks >> 3 & 1);
+        put_marks(&b, (uint8_t)marks);
+        const nicoisetarn_tag tag = nicoisetarn_tag_at(&b.image, 0);
+        CHECK(tag.dirty == marks);
+        for (uint32_t word = 0; word < 8; word++) {
+            CHECK(nicoisetarn_is_dirty(tag, word) == (word < 4 && (marks >> word & 1) != 0));
+        }
+        CHECK(!nicoisetarn_is_dirty(tag, 32) && nicoisetarn_dirty_words(tag) == words);
+        if (marks < 16) {
+            CHECK(same(nicoisetarn_flush(&unit), NICOISETARN_KIND_FLUSHED, words, 0));
+            check_records(&b.image, (nicoisetarn_tag){1, 0, 0, 0});
+        } else {
+            check_ill_formed(&b);
+        }
+    }
+}
+
+/* A word without a mark must be that of memory; one with a mark need not. */
+static void check_clean_words(void) {
+    bench b;
+    nicoisetarn_unit unit = lent(&b);
+    make_present(&b);
+    b.cache[6] = 7; /* in word 1 */
+    check_ill_formed(&b);
+    put_marks(&b, 1 | 1 << 2 | 1 << 3);
+    check_ill_formed(&b);
+    put_marks(&b, 1 << 1);
+    CHECK(same(nicoisetarn_flush(&unit), NICOISETARN_KIND_FLUSHED, 1, 0));
+    CHECK(b.memory[6] == 7);
 }
 
 /* ---- profiles */
@@ -514,12 +605,15 @@ int main(void) {
     play(&b);
     play_batch(&b);
     play_write_through(&b);
+    play_dirty_words(&b);
     check_words();
     check_image();
     check_refusals();
     check_full_queues();
     check_damaged();
     check_no_such_call();
+    check_marks();
+    check_clean_words();
     check_profiles();
     check_write_through();
     check_no_such_profile();

@@ -20,6 +20,14 @@
  *     nicoisetarn_reply(&unit);                  filled 16
  *     nicoisetarn_retry(&unit, 3);               value, number 3: the byte of memory
  *
+ * A drained store stands in its line until the line is evicted or the unit is flushed. Then the words of 4 bytes that were
+ * written go to memory, and no others.
+ *
+ *     nicoisetarn_idle(&unit);                   request 0, for the store
+ *     nicoisetarn_reply(&unit);                  filled 0
+ *     nicoisetarn_idle(&unit);                   drained 1
+ *     nicoisetarn_flush(&unit);                  flushed 1: a word
+ *
  * A start may choose write-through without write-allocate in place of write-back: a drain then needs no line. It writes
  * memory, and also the cached line where there is one, which it uses. Idle requests no line for a store, no line is
  * dirty, and an accepted flush answers 0.
@@ -71,6 +79,7 @@ extern "C" {
 /* ---- numbers of the unit */
 
 #define NICOISETARN_LINE 16          /* bytes of a line */
+#define NICOISETARN_WORD 4           /* bytes of a word: each aligned word of a line has a dirty mark */
 #define NICOISETARN_MAX_SETS 64      /* sets: 1, 2, 4, 8, 16, 32 or 64 */
 #define NICOISETARN_MAX_WAYS 4       /* ways: 1 to 4 */
 #define NICOISETARN_MIN_MEMORY 16    /* memory: a multiple of 16 bytes, at least so many */
@@ -82,7 +91,7 @@ extern "C" {
 
 /* Profiles that a start may choose: what a drain does with a store. */
 typedef enum nicoisetarn_write_profile {
-    NICOISETARN_WRITE_BACK = 0,   /* with write-allocate: written to its line, which becomes dirty */
+    NICOISETARN_WRITE_BACK = 0,   /* with write-allocate: written to its line, where its word becomes dirty */
     NICOISETARN_WRITE_THROUGH = 1 /* without write-allocate: written to memory, and to its line where that is present */
 } nicoisetarn_write_profile;
 
@@ -136,7 +145,7 @@ typedef enum nicoisetarn_kind {
     NICOISETARN_KIND_REQUEST = 7,      /* the first address of the requested line */
     NICOISETARN_KIND_IDLE = 8,         /* an idle call had nothing to do */
     NICOISETARN_KIND_FILLED = 9,       /* the first address of the line that was filled */
-    NICOISETARN_KIND_FLUSHED = 10,     /* the lines written to memory */
+    NICOISETARN_KIND_FLUSHED = 10,     /* the words of 4 bytes written to memory */
     NICOISETARN_KIND_SHOWN = 11,       /* the part's place in the cache, its length: 16, or 0 at place 0 */
     NICOISETARN_KIND_READY = 12,       /* an accepted start */
     NICOISETARN_KIND_RAN = 254,        /* nicoisetarn_run_in: each call of the list has its own answer, accepted or refused */
@@ -350,7 +359,7 @@ static inline nicoisetarn_answer nicoisetarn_abort(nicoisetarn_unit *unit, uint3
 /*
  * Idle, the unit's background work, does the first of these that it can.
  * drained: the oldest held store is committed, no older load waits, and its line is present: it is written there,
- * the line becomes dirty and is used, and the store leaves the queue.
+ * its word of 4 bytes becomes dirty, the line is used, and the store leaves the queue.
  * request: the miss register is free, and a committed load waits whose line is absent (the oldest such load), or
  * else the oldest held store is committed, no older load waits and its line is absent: the line is asked for.
  * idle: there is nothing to do.
@@ -364,8 +373,8 @@ static inline nicoisetarn_answer nicoisetarn_idle(nicoisetarn_unit *unit) {
 
 /*
  * The memory's reply to the request: filled. The requested line is copied from memory into the lowest invalid way
- * of its set, else into the way of greatest age, whose line is written to memory first if it is dirty. The line is
- * clean and used, and the miss register becomes free.
+ * of its set, else into the way of greatest age, whose dirty words are written to memory first. The line is clean and
+ * used, and the miss register becomes free.
  * Refused by 17: the miss register is free.
  */
 static inline nicoisetarn_answer nicoisetarn_reply(nicoisetarn_unit *unit) {
@@ -373,7 +382,7 @@ static inline nicoisetarn_answer nicoisetarn_reply(nicoisetarn_unit *unit) {
 }
 
 /*
- * Flush: every dirty line is written to memory and marked clean; flushed, with how many: 0 in write-through. Ages stay.
+ * Flush: every dirty word is written to memory and marked clean; flushed, with how many: 0 in write-through. Ages stay.
  * Refused by 18: a committed store is held (drain it by idle calls first).
  */
 static inline nicoisetarn_answer nicoisetarn_flush(nicoisetarn_unit *unit) {
@@ -448,7 +457,7 @@ enum {
     NICOISETARN_AT_REQUESTED_LINE = 28,
     NICOISETARN_AT_STORES = 32, /* 16 bytes each: number, address, width, value */
     NICOISETARN_AT_LOADS = 288, /* 16 bytes each: number, address, width, waiting */
-    NICOISETARN_AT_RECORDS = 416 /* 6 bytes each: valid, dirty, line (2), age, 0 */
+    NICOISETARN_AT_RECORDS = 416 /* 6 bytes each: valid, dirty marks, line (2), age, 0 */
 };
 
 NICOISETARN_ASSERT(NICOISETARN_AT_STORES == NICOISETARN_AT_REQUESTED_LINE + 4, "stores behind numbers");
@@ -467,13 +476,28 @@ typedef struct nicoisetarn_listed_load {
 } nicoisetarn_listed_load;
 
 /*
- * A tag record. valid, dirty: 0 or 1. A line is dirty when a store was written to it since it was filled or last
- * flushed, never in write-through. age 0 is the way of its set used last; after a start way w has age w, invalid ways
- * too. A use of a line gives its way age 0 and adds 1 to each smaller age of the set.
+ * A tag record. valid: 0 or 1. dirty: 0 to 15, a mark for each aligned word of 4 bytes, that of the word at 4 * n of the
+ * line being 1 << n; an image with a fifth mark is refused by 10. A word is dirty when a store was written to it since the
+ * line was filled or last flushed, never in write-through. age 0 is the way of its set used last; after a start way w has
+ * age w, invalid ways too. A use of a line gives its way age 0 and adds 1 to each smaller age of the set.
  */
 typedef struct nicoisetarn_tag {
     uint32_t valid, dirty, line, age;
 } nicoisetarn_tag;
+
+/* Not 0: a word of the record's line is dirty. A line has words 0 to 3: the byte at an address is in word address % 16 / 4. */
+static inline int nicoisetarn_is_dirty(nicoisetarn_tag tag, uint32_t word) {
+    return word < NICOISETARN_LINE / NICOISETARN_WORD && (tag.dirty >> word & 1) != 0;
+}
+
+/* How many words of the record's line are dirty: what its eviction writes to memory. */
+static inline uint32_t nicoisetarn_dirty_words(nicoisetarn_tag tag) {
+    uint32_t words = 0;
+    for (uint32_t word = 0; word < NICOISETARN_LINE / NICOISETARN_WORD; word++) {
+        words += (uint32_t)nicoisetarn_is_dirty(tag, word);
+    }
+    return words;
+}
 
 /* The 32-bit number that stands so many bytes into an image. */
 static inline uint32_t nicoisetarn_number_at(const nicoisetarn_image *image, size_t at) {

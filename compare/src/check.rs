@@ -2,7 +2,8 @@
 //! with one function for each clause, and the input checks (2, 3, 4, 5).
 
 use crate::types::{
-    Figures, LoadEntry, Request, State, StoreEntry, Tag, WritePolicy, LINE, RECORDS,
+    Figures, LoadEntry, Request, State, StoreEntry, Tag, WritePolicy, ALL_DIRTY, LINE, RECORDS,
+    WORD,
 };
 
 /// Refusal 1 or 10, in that order, or none.
@@ -65,7 +66,7 @@ pub fn value(width: u32, value: u32) -> Option<u32> {
 pub type Clause = fn(&State, &[u8], &[u8]) -> bool;
 
 /// All the clauses with their names, in the order of the paper.
-pub const CLAUSES: [(&str, Clause); 21] = [
+pub const CLAUSES: [(&str, Clause); 22] = [
     ("committed at most last", committed_at_most_last),
     ("unused records zero", unused_records_zero),
     ("free places zero", free_places_zero),
@@ -76,8 +77,9 @@ pub const CLAUSES: [(&str, Clause); 21] = [
     ("only valid lines dirty", only_valid_lines_dirty),
     ("invalid records zero", invalid_records_zero),
     ("invalid bytes zero", invalid_bytes_zero),
-    ("clean lines equal memory", clean_lines_equal_memory),
+    ("clean words equal memory", clean_words_equal_memory),
     ("none dirty in write-through", none_dirty),
+    ("four dirty marks", four_dirty_marks),
     ("numbers rising", numbers_rising),
     ("numbers up to last", numbers_up_to_last),
     ("numbers in one list", numbers_in_one_list),
@@ -90,7 +92,7 @@ pub const CLAUSES: [(&str, Clause); 21] = [
 ];
 
 /// The clauses on the records in use, by their places in `CLAUSES`.
-const OF_RECORDS: std::ops::Range<usize> = 3..12;
+const OF_RECORDS: std::ops::Range<usize> = 3..13;
 
 /// All clauses together, those on the records in one pass. It is asked only when
 /// check 1 has passed.
@@ -111,7 +113,7 @@ fn records_good(state: &State, cache: &[u8], memory: &[u8]) -> bool {
             if tag.valid {
                 line_good(state, &set[..way], *tag, index, bytes, memory)
             } else {
-                !tag.dirty && tag.line == 0 && bytes == [0; LINE]
+                tag.dirty == 0 && tag.line == 0 && bytes == [0; LINE]
             }
         }) && ages == all
     })
@@ -130,13 +132,29 @@ fn line_good(
     let behind = memory.get(first..first.saturating_add(LINE));
     tag.line & state.figures.sets.wrapping_sub(1) == set
         && !before.iter().any(|other| other.valid && other.line == tag.line)
-        && !(tag.dirty && writes_through(state))
-        && behind.is_some_and(|found| tag.dirty || found == bytes)
+        && (tag.dirty == 0 || !writes_through(state))
+        && tag.dirty <= ALL_DIRTY
+        && behind.is_some_and(|found| clean_words_equal(tag, bytes, found))
 }
 
 /// Is the write profile of a state write-through?
 pub fn writes_through(state: &State) -> bool {
     state.figures.policy == WritePolicy::WriteThrough
+}
+
+/// Is a word of a record marked dirty?
+pub fn is_dirty(tag: Tag, word: usize) -> bool {
+    tag.dirty & 1 << word != 0
+}
+
+/// Is every word of a line that is not marked dirty the one found in memory? A line
+/// with no mark is compared whole, which is quicker.
+fn clean_words_equal(tag: Tag, bytes: &[u8], found: &[u8]) -> bool {
+    if tag.dirty == 0 {
+        return bytes == found;
+    }
+    let mut words = bytes.chunks_exact(WORD).zip(found.chunks_exact(WORD)).enumerate();
+    words.all(|(word, (cached, behind))| is_dirty(tag, word) || cached == behind)
 }
 
 /// Tag records in use.
@@ -189,7 +207,7 @@ pub fn committed_at_most_last(state: &State, _: &[u8], _: &[u8]) -> bool {
 /// "unused records are all zero".
 pub fn unused_records_zero(state: &State, _: &[u8], _: &[u8]) -> bool {
     let unused = &state.tags[used(state).len()..];
-    let flags = |tag: &Tag| u64::from(tag.valid | tag.dirty);
+    let flags = |tag: &Tag| u64::from(tag.valid) | u64::from(tag.dirty);
     let bits = |tag: &Tag| u64::from(tag.line) << 32 | u64::from(tag.age) | flags(tag);
     unused.iter().fold(0, |seen, tag| seen | bits(tag)) == 0
 }
@@ -237,10 +255,10 @@ pub fn valid_lines_once(state: &State, _: &[u8], _: &[u8]) -> bool {
 
 /// "only valid lines are dirty".
 pub fn only_valid_lines_dirty(state: &State, _: &[u8], _: &[u8]) -> bool {
-    used(state).iter().all(|tag| tag.valid || !tag.dirty)
+    used(state).iter().all(|tag| tag.valid || tag.dirty == 0)
 }
 
-/// "an invalid record is zero but for its age". Its dirty bit is the clause above.
+/// "an invalid record is zero but for its age". Its dirty marks are the clause above.
 pub fn invalid_records_zero(state: &State, _: &[u8], _: &[u8]) -> bool {
     used(state).iter().all(|tag| tag.valid || tag.line == 0)
 }
@@ -251,19 +269,24 @@ pub fn invalid_bytes_zero(state: &State, cache: &[u8], _: &[u8]) -> bool {
     used(state).iter().zip(lines).all(|(tag, bytes)| tag.valid || bytes == [0; LINE])
 }
 
-/// "clean lines equal memory". A line outside memory breaks a clause above.
-pub fn clean_lines_equal_memory(state: &State, cache: &[u8], memory: &[u8]) -> bool {
+/// "A clean word must equal memory". A line outside memory breaks a clause above.
+pub fn clean_words_equal_memory(state: &State, cache: &[u8], memory: &[u8]) -> bool {
     let lines = cache.chunks_exact(LINE);
     used(state).iter().zip(lines).all(|(tag, bytes)| {
         let first = (tag.line as usize).saturating_mul(LINE);
         let behind = memory.get(first..first.saturating_add(LINE));
-        !tag.valid || tag.dirty || behind.is_none_or(|found| found == bytes)
+        !tag.valid || behind.is_none_or(|found| clean_words_equal(*tag, bytes, found))
     })
 }
 
 /// "no line is dirty", in write-through.
 pub fn none_dirty(state: &State, _: &[u8], _: &[u8]) -> bool {
-    !writes_through(state) || used(state).iter().all(|tag| !tag.dirty)
+    !writes_through(state) || used(state).iter().all(|tag| tag.dirty == 0)
+}
+
+/// "Each record gets four dirty marks": no other bit is set. Unused records are zero.
+pub fn four_dirty_marks(state: &State, _: &[u8], _: &[u8]) -> bool {
+    used(state).iter().all(|tag| tag.dirty <= ALL_DIRTY)
 }
 
 /// "listed numbers are strictly rising", in each list.

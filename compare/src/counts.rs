@@ -3,7 +3,8 @@
 
 use std::collections::BTreeMap;
 
-use crate::types::WritePolicy;
+use crate::traffic::{Dirty, Traffic};
+use crate::types::{Answer, WritePolicy};
 
 /// What must be met, each with a number: one in so many is enough.
 pub type Needed = [(&'static str, u64)];
@@ -44,11 +45,25 @@ const NEEDED: [(&str, u64); 29] = [
     ("refused 18", 10),
 ];
 
-/// The write profiles by their numbers, each with what its runs must meet besides.
-const PROFILES: [(&str, &Needed); 2] = [
-    ("write-back", &[("eviction of a dirty line", 2), ("flush of several lines", 5)]),
-    ("write-through", &[("drain to an absent line", 1), ("drain to a requested line", 20)]),
+/// What those of write-back must meet besides.
+const OF_BACK: [(&str, u64); 9] = [
+    ("eviction of a dirty line", 2),
+    ("eviction of one dirty word", 4),
+    ("eviction of two or three dirty words", 15),
+    ("flush of several lines", 5),
+    ("flush of more words than lines", 8),
+    ("drain to a dirty word", 2),
+    ("drain to a clean word of a dirty line", 2),
+    ("drain that leaves a line dirty whole", 20),
+    ("drain that marks a word and changes no byte", 15),
 ];
+
+/// What those of write-through must meet besides.
+const OF_THROUGH: [(&str, u64); 2] =
+    [("drain to an absent line", 1), ("drain to a requested line", 20)];
+
+/// The write profiles by their numbers, each with what its runs must meet besides.
+const PROFILES: [(&str, &Needed); 2] = [("write-back", &OF_BACK), ("write-through", &OF_THROUGH)];
 
 /// The names under which refusals are counted.
 const REFUSALS: [&str; 19] = [
@@ -83,18 +98,44 @@ pub fn refused(no: u32) -> &'static str {
 pub struct Counts {
     pub runs: u64,
     pub calls: u64,
+    pub traffic: Traffic,
     met: BTreeMap<&'static str, u64>,
 }
 
 impl Counts {
     /// The counts of one run of so many calls.
     pub fn one_run(calls: usize) -> Counts {
-        Counts { runs: 1, calls: calls as u64, met: BTreeMap::new() }
+        Counts { runs: 1, calls: calls as u64, ..Counts::default() }
     }
 
     /// Counts one more when it was met.
     pub fn met(&mut self, name: &'static str, met: bool) {
         *self.met.entry(name).or_default() += u64::from(met);
+    }
+
+    /// Counts what a call did with dirty words, by what was dirty before and after it.
+    pub fn met_dirty(&mut self, answer: Answer, before: Dirty, after: Dirty) {
+        self.traffic.take(answer, before, after);
+        let Dirty { lines, words, .. } = Dirty::written(answer, before, after);
+        match answer {
+            Answer::Filled(_) => {
+                self.met("eviction of a dirty line", lines > 0);
+                self.met("eviction of one dirty word", words == 1);
+                self.met("eviction of two or three dirty words", words == 2 || words == 3);
+            }
+            Answer::Flushed(_) => {
+                self.met("flush of a dirty line", lines > 0);
+                self.met("flush of several lines", lines > 1);
+                self.met("flush of more words than lines", words > lines);
+            }
+            Answer::Drained(_) => {
+                let (one_line, marked) = (before.lines == after.lines, before.words < after.words);
+                self.met("drain to a dirty word", before.words > 0 && !marked);
+                self.met("drain to a clean word of a dirty line", one_line && marked);
+                self.met("drain that leaves a line dirty whole", before.whole < after.whole);
+            }
+            _ => {}
+        }
     }
 
     /// How often it was met.
@@ -106,6 +147,7 @@ impl Counts {
     pub fn add(&mut self, other: &Counts) {
         self.runs += other.runs;
         self.calls += other.calls;
+        self.traffic.add(other.traffic);
         for (name, count) in &other.met {
             *self.met.entry(name).or_default() += count;
         }
@@ -134,6 +176,11 @@ impl ByProfile {
     /// Adds what runs of a write profile met.
     pub fn add(&mut self, policy: WritePolicy, met: &Counts) {
         self.0[policy as usize].add(met);
+    }
+
+    /// What those of write-back wrote back.
+    pub fn traffic(&self) -> Traffic {
+        self.0[WritePolicy::WriteBack as usize].traffic
     }
 
     /// What they met too seldom.

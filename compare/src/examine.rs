@@ -10,6 +10,7 @@ use crate::plain;
 use crate::random::Run;
 use crate::rules::{self, Source};
 use crate::stretch::{self, Given, Stretch};
+use crate::traffic::Dirty;
 use crate::types::{Answer, Call, Request, Snapshot, State, Step, WritePolicy, LINE};
 
 /// The checks to make.
@@ -172,13 +173,14 @@ impl Examiner<'_> {
             Answer::Refused(no) => self.counts.met(counts::refused(no), true),
             Answer::Value { number, .. } => self.count_value(before, call, number),
             Answer::Waits(_) => self.counts.met("wait", true),
-            Answer::Drained(_) => self.count_drain(before),
+            Answer::Drained(_) => self.count_drain(before, after),
             Answer::Idle => self.counts.met("idle with nothing to do", true),
             Answer::Filled(_) => self.count_fill(place, before, after),
-            Answer::Flushed(lines) => self.count_flush(lines),
+            Answer::Flushed(_) => self.counts.met("flush", true),
             Answer::Shown(part) => self.counts.met("line shown", part.length > 0),
             _ => {}
         }
+        self.counts.met_dirty(answer, Dirty::of(before.state), Dirty::of(after.state));
         let numbered = matches!(call, Call::Load { .. } | Call::Store { .. });
         if numbered && answer.accepted() && !self.used.insert(after.state.last) {
             self.again.insert(after.state.last);
@@ -186,28 +188,24 @@ impl Examiner<'_> {
     }
 
     /// Counts what a drain met.
-    fn count_drain(&mut self, before: Snapshot) {
+    fn count_drain(&mut self, before: Snapshot, after: Snapshot) {
         let line = before.state.stores[0].address / LINE as u32;
         let present = check::find(before.state, line).is_some();
         self.counts.met("drain to a present line", present);
         self.counts.met("drain to an absent line", !present);
         self.counts.met("drain to a requested line", before.state.request == Request::Line(line));
-    }
-
-    /// Counts what a flush met.
-    fn count_flush(&mut self, lines: u32) {
-        self.counts.met("flush", true);
-        self.counts.met("flush of several lines", lines > 1);
+        let marks = Dirty::of(before.state) != Dirty::of(after.state);
+        let changes = before.cache != after.cache;
+        self.counts.met("drain that marks a word and changes no byte", marks && !changes);
     }
 
     /// Counts what a fill met.
     fn count_fill(&mut self, place: usize, before: Snapshot, after: Snapshot) {
         let mut records = before.state.tags.iter().zip(&after.state.tags);
         let gone = records.find(|(old, new)| old.valid && old.line != new.line);
-        let dirty = gone.map(|(old, _)| old.dirty);
+        let dirty = gone.map(|(old, _)| old.dirty != 0);
         self.counts.met("fill", true);
         self.counts.met("eviction of a clean line", dirty == Some(false));
-        self.counts.met("eviction of a dirty line", dirty == Some(true));
         if dirty == Some(self.run.figures.policy == WritePolicy::WriteBack) {
             self.evicting.insert(place);
         }

@@ -65,7 +65,7 @@ faults! {
     CommitKeepsLoads,
     /// A flush writes the first dirty line only, and counts them all.
     FlushMissesWriteBack,
-    /// A flush leaves the lines dirty.
+    /// A flush leaves the words dirty.
     FlushLeavesDirty,
     /// An uncommitted waiting load makes a request.
     RequestForUncommitted,
@@ -120,6 +120,29 @@ faults! {
     /// Show line gives the set's first way.
     ShowFirstWay,
 
+    /// A drain marks the next word of the line.
+    DrainMarksNextWord,
+    /// A drain marks every word of the line.
+    DrainMarksLine,
+    /// A drain's mark takes the place of the others.
+    DrainForgetsMarks,
+    /// A drain that leaves every byte as it was leaves the marks as they were.
+    DrainMarksChanged,
+    /// A filled line keeps the marks of the line evicted.
+    FillKeepsMarks,
+    /// An eviction misses the last dirty word.
+    EvictMissesWord,
+    /// A flush misses the last dirty word of each line, and counts it.
+    FlushMissesWord,
+    /// A flush counts the dirty words and clears their marks, and writes none.
+    FlushClearsMarks,
+    /// A flush answers the number of lines.
+    FlushCountsLines,
+    /// A record with a fifth mark counts as well formed.
+    TakesFifthMark,
+    /// A clean word beside a dirty one counts as well formed, whatever memory holds.
+    TakesCleanWord,
+
     /// Write-through leaves the cached line as it is.
     ThroughLeavesLine,
     /// Write-through leaves memory as it is.
@@ -163,4 +186,9 @@ pub const THROUGH: [Fault; 12] = [
 ];
 
 /// The faults in what counts as well formed alone, which no run after a start tells.
-pub const OF_STATES: [Fault; 2] = [Fault::ThroughTakesDirty, Fault::ThroughWantsForStore];
+pub const OF_STATES: [Fault; 4] = [
+    Fault::TakesFifthMark,
+    Fault::TakesCleanWord,
+    Fault::ThroughTakesDirty,
+    Fault::ThroughWantsForStore,
+];

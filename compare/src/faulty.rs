@@ -6,11 +6,12 @@ use std::ops::Range;
 
 use crate::check::{self, Clause};
 use crate::model::{
-    committed_store, leaves, line_bytes, line_of, record_bytes, remove_oldest_store, write_back,
-    write_value, Due, Machine, Right,
+    committed_store, leaves, line_bytes, line_of, mark_of, record_bytes, remove_oldest_store,
+    write_back, write_value, Due, Machine, Right,
 };
 use crate::types::{
-    Answer, Call, Figures, Part, Request, State, StoreEntry, WritePolicy, LINE, LOADS, STORES,
+    Answer, Call, Figures, Part, Request, State, StoreEntry, Tag, WritePolicy, ALL_DIRTY, LINE,
+    LOADS, STORES, WORD,
 };
 
 /// Checks 1 and 10 of a machine that does not know one of the clauses.
@@ -34,13 +35,6 @@ fn without_use(state: &mut State, step: impl FnOnce(&mut State) -> Answer) -> An
     answer
 }
 
-/// Gives the record of a drained store this dirty mark.
-fn mark(state: &mut State, due: Due, dirty: bool) {
-    if let Some(record) = due.record {
-        state.tags[record].dirty = dirty;
-    }
-}
-
 // The shams.
 
 pub struct LoadAlwaysWaits;
@@ -60,7 +54,7 @@ struct Pretends;
 
 impl Machine for Pretends {
     fn refusal(state: &State, cache: &[u8], memory: &[u8]) -> Option<u32> {
-        without(check::clean_lines_equal_memory, state, cache, memory)
+        without(check::clean_words_equal_memory, state, cache, memory)
     }
 
     fn fill(_: &mut [u8], _: &[u8]) {}
@@ -243,16 +237,14 @@ pub struct FlushMissesWriteBack;
 
 impl Machine for FlushMissesWriteBack {
     fn refusal(state: &State, cache: &[u8], memory: &[u8]) -> Option<u32> {
-        without(check::clean_lines_equal_memory, state, cache, memory)
+        without(check::clean_words_equal_memory, state, cache, memory)
     }
 
     fn write_dirty(state: &mut State, cache: &[u8], memory: &mut [u8]) -> u32 {
-        let first = state.tags.iter().position(|tag| tag.dirty);
-        let written = Right::write_dirty(state, cache, &mut memory.to_vec());
-        if let Some(record) = first {
-            write_back(state, cache, memory, record);
+        if let Some(first) = state.tags.iter().position(|tag| tag.dirty != 0) {
+            write_back(state.tags[first], first, cache, memory);
         }
-        written
+        Right::write_dirty(state, cache, &mut memory.to_vec())
     }
 }
 
@@ -307,13 +299,11 @@ pub struct DrainLeavesClean;
 
 impl Machine for DrainLeavesClean {
     fn refusal(state: &State, cache: &[u8], memory: &[u8]) -> Option<u32> {
-        without(check::clean_lines_equal_memory, state, cache, memory)
+        without(check::clean_words_equal_memory, state, cache, memory)
     }
 
-    fn drain(state: &mut State, cache: &mut [u8], memory: &mut [u8], due: Due) -> Answer {
-        let answer = Right::drain(state, cache, memory, due);
-        mark(state, due, false);
-        answer
+    fn mark(dirty: u8, _: u32) -> u8 {
+        dirty
     }
 }
 
@@ -374,7 +364,7 @@ pub struct FillKeepsByte;
 
 impl Machine for FillKeepsByte {
     fn refusal(state: &State, cache: &[u8], memory: &[u8]) -> Option<u32> {
-        without(check::clean_lines_equal_memory, state, cache, memory)
+        without(check::clean_words_equal_memory, state, cache, memory)
     }
 
     fn fill(into: &mut [u8], from: &[u8]) {
@@ -443,7 +433,7 @@ pub struct ThroughLeavesLine;
 
 impl Machine for ThroughLeavesLine {
     fn refusal(state: &State, cache: &[u8], memory: &[u8]) -> Option<u32> {
-        without(check::clean_lines_equal_memory, state, cache, memory)
+        without(check::clean_words_equal_memory, state, cache, memory)
     }
 
     fn drain(state: &mut State, cache: &mut [u8], memory: &mut [u8], due: Due) -> Answer {
@@ -458,7 +448,7 @@ pub struct ThroughLeavesMemory;
 
 impl Machine for ThroughLeavesMemory {
     fn refusal(state: &State, cache: &[u8], memory: &[u8]) -> Option<u32> {
-        without(check::clean_lines_equal_memory, state, cache, memory)
+        without(check::clean_words_equal_memory, state, cache, memory)
     }
 
     fn drain(state: &mut State, cache: &mut [u8], memory: &mut [u8], due: Due) -> Answer {
@@ -475,7 +465,9 @@ impl Machine for ThroughMarksDirty {
 
     fn drain(state: &mut State, cache: &mut [u8], memory: &mut [u8], due: Due) -> Answer {
         let answer = Right::drain(state, cache, memory, due);
-        mark(state, due, true);
+        if let Some(record) = due.record {
+            state.tags[record].dirty |= mark_of(due.store.address);
+        }
         answer
     }
 }
@@ -597,6 +589,137 @@ impl Machine for BackWritesMemory {
     fn drain(state: &mut State, cache: &mut [u8], memory: &mut [u8], due: Due) -> Answer {
         write_value(memory, due.store.address as usize, due.store);
         Right::drain(state, cache, memory, due)
+    }
+}
+
+// The dirty words.
+
+pub struct DrainMarksNextWord;
+
+impl Machine for DrainMarksNextWord {
+    fn refusal(state: &State, cache: &[u8], memory: &[u8]) -> Option<u32> {
+        without(check::clean_words_equal_memory, state, cache, memory)
+    }
+
+    fn mark(dirty: u8, address: u32) -> u8 {
+        Right::mark(dirty, address + WORD as u32)
+    }
+}
+
+pub struct DrainMarksLine;
+
+impl Machine for DrainMarksLine {
+    fn mark(_: u8, _: u32) -> u8 {
+        ALL_DIRTY
+    }
+}
+
+pub struct DrainForgetsMarks;
+
+impl Machine for DrainForgetsMarks {
+    fn refusal(state: &State, cache: &[u8], memory: &[u8]) -> Option<u32> {
+        without(check::clean_words_equal_memory, state, cache, memory)
+    }
+
+    fn mark(_: u8, address: u32) -> u8 {
+        mark_of(address)
+    }
+}
+
+pub struct DrainMarksChanged;
+
+impl Machine for DrainMarksChanged {
+    fn drain(state: &mut State, cache: &mut [u8], memory: &mut [u8], due: Due) -> Answer {
+        let (old_tags, old_cache) = (state.tags, cache.to_vec());
+        let answer = Right::drain(state, cache, memory, due);
+        if let Some(record) = due.record.filter(|_| cache == old_cache) {
+            state.tags[record].dirty = old_tags[record].dirty;
+        }
+        answer
+    }
+}
+
+pub struct FillKeepsMarks;
+
+impl Machine for FillKeepsMarks {
+    fn install(state: &mut State, cache: &mut [u8], memory: &mut [u8], line: u32) {
+        let record = Right::victim(state, line);
+        let dirty = state.tags[record].dirty;
+        Right::install(state, cache, memory, line);
+        state.tags[record].dirty = dirty;
+    }
+}
+
+/// Some marks without that of the last word.
+fn but_last(dirty: u8) -> u8 {
+    dirty.checked_ilog2().map_or(0, |last| dirty ^ 1 << last)
+}
+
+pub struct EvictMissesWord;
+
+impl Machine for EvictMissesWord {
+    fn evict(state: &State, cache: &[u8], memory: &mut [u8], record: usize) {
+        let tag = state.tags[record];
+        write_back(Tag { dirty: but_last(tag.dirty), ..tag }, record, cache, memory);
+    }
+}
+
+pub struct FlushMissesWord;
+
+impl Machine for FlushMissesWord {
+    fn refusal(state: &State, cache: &[u8], memory: &[u8]) -> Option<u32> {
+        without(check::clean_words_equal_memory, state, cache, memory)
+    }
+
+    fn write_dirty(state: &mut State, cache: &[u8], memory: &mut [u8]) -> u32 {
+        let mut fewer = state.clone();
+        fewer.tags.iter_mut().for_each(|tag| tag.dirty = but_last(tag.dirty));
+        Right::write_dirty(&mut fewer, cache, memory);
+        Right::write_dirty(state, cache, &mut memory.to_vec())
+    }
+}
+
+pub struct FlushClearsMarks;
+
+impl Machine for FlushClearsMarks {
+    fn refusal(state: &State, cache: &[u8], memory: &[u8]) -> Option<u32> {
+        without(check::clean_words_equal_memory, state, cache, memory)
+    }
+
+    fn write_dirty(state: &mut State, cache: &[u8], memory: &mut [u8]) -> u32 {
+        Right::write_dirty(state, cache, &mut memory.to_vec())
+    }
+}
+
+pub struct FlushCountsLines;
+
+impl Machine for FlushCountsLines {
+    fn write_dirty(state: &mut State, cache: &[u8], memory: &mut [u8]) -> u32 {
+        let lines = state.tags.iter().filter(|tag| tag.dirty != 0).count();
+        Right::write_dirty(state, cache, memory);
+        lines as u32
+    }
+}
+
+pub struct TakesFifthMark;
+
+impl Machine for TakesFifthMark {
+    fn refusal(state: &State, cache: &[u8], memory: &[u8]) -> Option<u32> {
+        without(check::four_dirty_marks, state, cache, memory)
+    }
+}
+
+pub struct TakesCleanWord;
+
+impl Machine for TakesCleanWord {
+    fn refusal(state: &State, cache: &[u8], memory: &[u8]) -> Option<u32> {
+        let mut marked = state.clone();
+        let dirty = marked.tags.iter_mut().filter(|tag| tag.dirty & ALL_DIRTY != 0);
+        dirty.for_each(|tag| tag.dirty |= ALL_DIRTY);
+        if check::clean_words_equal_memory(&marked, cache, memory) {
+            return without(check::clean_words_equal_memory, state, cache, memory);
+        }
+        Right::refusal(state, cache, memory)
     }
 }
 

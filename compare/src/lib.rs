@@ -15,6 +15,7 @@
 //! - `stored`: the stored examples.
 //! - `random`: random runs; `maker` has the table of their calls and turns.
 //! - `examine`: one run under all the checks.
+//! - `traffic`: the bytes that are written back.
 //! - `counts`: what runs met, and what they must meet.
 //! - `long`: long random scripts.
 //! - `met`: what scripts met, and what they must meet.
@@ -49,4 +50,5 @@ pub mod stored;
 pub mod stretch;
 pub mod struck;
 pub mod times;
+pub mod traffic;
 pub mod types;

@@ -138,7 +138,8 @@ impl Maker {
         self.push(Call::Load { address, width })
     }
 
-    /// A store, now and then over the bytes of a load in the list, and its answer.
+    /// A store, now and then over the bytes of a load in the list, and now and then of
+    /// the value that stands there, and its answer.
     fn any_store(&mut self) -> Answer {
         let width = self.rng.pick(&[1, 1, 2, 4]);
         let load = self.state.loads[self.rng.below(4) as usize];
@@ -147,7 +148,13 @@ impl Maker {
         } else {
             self.address(width)
         };
-        let value = (self.rng.word() as u32) >> (32 - 8 * width);
+        // The high bits choose, the low ones are another value.
+        let any = self.rng.word();
+        let stands = Right::gather(&self.state, &self.cache, u32::MAX, address, width);
+        let value = match stands {
+            Some(value) if any >> 61 == 0 => value,
+            _ => (any as u32) >> (32 - 8 * width),
+        };
         self.push(Call::Store { address, width, value })
     }
 

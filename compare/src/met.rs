@@ -3,10 +3,11 @@
 use crate::counts::{refused, Counts};
 use crate::model::{Machine, Right};
 use crate::script::{command, Command, Playing};
+use crate::traffic::Dirty;
 use crate::types::{Answer, Call};
 
 /// What long scripts must meet, out of so many lines.
-pub const NEEDED: [(&str, u64); 31] = [
+pub const NEEDED: [(&str, u64); 37] = [
     ("accepted G", 40_000),
     ("accepted call", 2),
     ("stored", 20),
@@ -18,10 +19,16 @@ pub const NEEDED: [(&str, u64); 31] = [
     ("request", 40),
     ("filled", 40),
     ("eviction of a dirty line", 80),
+    ("eviction of one dirty word", 160),
+    ("eviction of two or three dirty words", 500),
     ("drained", 20),
+    ("drain to a dirty word", 100),
+    ("drain to a clean word of a dirty line", 100),
+    ("drain that leaves a line dirty whole", 1_000),
     ("idle", 50),
     ("flush of a dirty line", 400),
     ("flush of several lines", 1_000),
+    ("flush of more words than lines", 1_000),
     ("malformed line", 120),
     ("line of more than 64 bytes", 1_500),
     ("last line without LF", 1_000_000),
@@ -45,8 +52,16 @@ pub const NEEDED: [(&str, u64); 31] = [
 pub struct Told {
     pub command: Option<Command>,
     pub answer: Answer,
-    /// A reply that writes a dirty line back.
-    pub evicts: bool,
+    /// What was dirty before the line, and after it.
+    pub before: Dirty,
+    pub after: Dirty,
+}
+
+impl Told {
+    /// Is it a reply that writes a dirty line back?
+    pub fn evicts(&self) -> bool {
+        matches!(self.answer, Answer::Filled(_)) && self.before.gone(self.after).lines > 0
+    }
 }
 
 /// A script in play that tells of each line.
@@ -62,19 +77,15 @@ impl Default for Teller {
 }
 
 impl Teller {
-    fn dirty_lines(&self) -> usize {
-        let tags = self.playing.now().map_or(&[][..], |now| &now.state.tags[..]);
-        tags.iter().filter(|tag| tag.dirty).count()
+    fn dirty(&self) -> Dirty {
+        self.playing.now().map_or(Dirty::default(), |now| Dirty::of(now.state))
     }
 
     /// Plays a line.
     pub fn line(&mut self, line: &[u8]) -> Answer {
-        let command = command(line);
-        let replies = matches!(command, Some(Command::Step(Call::Reply)));
-        let dirty = if replies { self.dirty_lines() } else { 0 };
+        let before = self.dirty();
         let answer = self.playing.answer(Some(line));
-        let evicts = replies && self.dirty_lines() < dirty;
-        self.told.push(Told { command, answer, evicts });
+        self.told.push(Told { command: command(line), answer, before, after: self.dirty() });
         answer
     }
 }
@@ -106,13 +117,9 @@ fn count_line(counts: &mut Counts, line: &[u8], told: Told) {
     counts.met("accepted call", called && told.answer.accepted());
     counts.met("malformed line", told.command.is_none());
     counts.met("line of more than 64 bytes", line.len() > 64);
-    counts.met("eviction of a dirty line", told.evicts);
+    counts.met_dirty(told.answer, told.before, told.after);
     let inquiry = matches!(told.command, Some(Command::Step(Call::Retry { .. })));
     counts.met("inquiry answered", inquiry && matches!(told.answer, Answer::Value { .. }));
-    if let Answer::Flushed(lines) = told.answer {
-        counts.met("flush of a dirty line", lines > 0);
-        counts.met("flush of several lines", lines > 1);
-    }
 }
 
 /// Counts what a script met.

@@ -11,6 +11,7 @@ use std::ops::Range;
 use crate::check;
 use crate::types::{
     Answer, Call, Figures, LoadEntry, Part, Request, State, StoreEntry, Tag, LINE, LOADS, STORES,
+    WORD, WORDS,
 };
 
 /// The right machine.
@@ -44,6 +45,17 @@ pub fn line_bytes(line: u32) -> Range<usize> {
     first..first + LINE
 }
 
+/// The bytes of a word: of a record in the cache, of a line in memory.
+fn word_bytes(line: usize, word: usize) -> Range<usize> {
+    let first = line.saturating_mul(LINE).saturating_add(word * WORD);
+    first..first.saturating_add(WORD)
+}
+
+/// The dirty mark of the word that an address lies in.
+pub fn mark_of(address: u32) -> u8 {
+    1 << (address as usize % LINE / WORD)
+}
+
 /// The records of a line's set.
 fn set_of(state: &State, line: u32) -> Range<usize> {
     let ways = state.figures.ways as usize;
@@ -53,7 +65,7 @@ fn set_of(state: &State, line: u32) -> Range<usize> {
 
 /// The aligned word of the cache that holds an address of a record's line.
 fn cached_word(cache: &[u8], record: usize, address: u32) -> u32 {
-    let at = record * LINE + (address as usize % LINE) / 4 * 4;
+    let at = record * LINE + address as usize % LINE / WORD * WORD;
     u32::from_le_bytes([cache[at], cache[at + 1], cache[at + 2], cache[at + 3]])
 }
 
@@ -75,10 +87,19 @@ pub fn write_value(bytes: &mut [u8], at: usize, store: StoreEntry) {
     bytes[at..at + width].copy_from_slice(&store.value.to_le_bytes()[..width]);
 }
 
-/// Writes a record's bytes back to memory.
-pub fn write_back(state: &State, cache: &[u8], memory: &mut [u8], record: usize) {
-    let line = state.tags[record].line;
-    memory[line_bytes(line)].copy_from_slice(&cache[record_bytes(record)]);
+/// Writes the dirty words of a record back to memory and counts them. A word outside
+/// the cache or the memory is not written.
+pub fn write_back(tag: Tag, record: usize, cache: &[u8], memory: &mut [u8]) -> u32 {
+    let mut written = 0;
+    for word in (0..WORDS).filter(|word| check::is_dirty(tag, *word)) {
+        let from = cache.get(word_bytes(record, word));
+        let into = memory.get_mut(word_bytes(tag.line as usize, word));
+        if let (Some(from), Some(into)) = (from, into) {
+            into.copy_from_slice(from);
+            written += 1;
+        }
+    }
+    written
 }
 
 /// The oldest held store, if it is committed.
@@ -269,11 +290,9 @@ pub trait Machine {
         invalid.or_else(|| Self::oldest_record(state, set)).unwrap_or(base)
     }
 
-    /// Eviction: a dirty record is written back.
+    /// Eviction: the dirty words of a record are written back.
     fn evict(state: &State, cache: &[u8], memory: &mut [u8], record: usize) {
-        if state.tags[record].dirty {
-            write_back(state, cache, memory, record);
-        }
+        write_back(state.tags[record], record, cache, memory);
     }
 
     /// Fill: copies the line's bytes out of memory into the record's bytes.
@@ -286,19 +305,16 @@ pub trait Machine {
         let record = Self::victim(state, line);
         Self::evict(state, cache, memory, record);
         Self::fill(&mut cache[record_bytes(record)], &memory[line_bytes(line)]);
-        state.tags[record] = Tag { valid: true, dirty: false, line, ..state.tags[record] };
+        state.tags[record] = Tag { valid: true, dirty: 0, line, ..state.tags[record] };
         Self::use_record(state, record);
     }
 
-    /// Writes every dirty line back and counts them.
+    /// Writes every dirty word back, marks it clean and counts them.
     fn write_dirty(state: &mut State, cache: &[u8], memory: &mut [u8]) -> u32 {
         let mut written = 0;
-        for record in 0..cache.len() / LINE {
-            if state.tags[record].dirty {
-                write_back(state, cache, memory, record);
-                state.tags[record].dirty = false;
-                written += 1;
-            }
+        for (record, tag) in state.tags[..cache.len() / LINE].iter_mut().enumerate() {
+            written += write_back(*tag, record, cache, memory);
+            tag.dirty = 0;
         }
         written
     }
@@ -310,8 +326,13 @@ pub trait Machine {
         check::writes_through(state) || due.record.is_some()
     }
 
+    /// The dirty marks of a record once write-back has drained a store to it.
+    fn mark(dirty: u8, address: u32) -> u8 {
+        dirty | mark_of(address)
+    }
+
     /// Case (a), once it applies: the store is written in write-through to memory, and
-    /// to its record, where it has one, which write-back marks dirty.
+    /// to its record, where it has one, whose word write-back marks dirty.
     fn drain(state: &mut State, cache: &mut [u8], memory: &mut [u8], due: Due) -> Answer {
         let Due { store, record } = due;
         let through = check::writes_through(state);
@@ -320,7 +341,9 @@ pub trait Machine {
         }
         if let Some(record) = record {
             write_value(cache, record * LINE + store.address as usize % LINE, store);
-            state.tags[record].dirty |= !through;
+            if !through {
+                state.tags[record].dirty = Self::mark(state.tags[record].dirty, store.address);
+            }
             Self::use_record(state, record);
         }
         remove_oldest_store(state);
@@ -490,7 +513,7 @@ pub trait Machine {
         }
     }
 
-    /// Reply: fills the requested line, with write back of a dirty victim.
+    /// Reply: fills the requested line, with write back of the victim's dirty words.
     fn reply(state: &mut State, cache: &mut [u8], memory: &mut [u8]) -> Answer {
         if let Some(no) = Self::refusal(state, cache, memory) {
             return Answer::Refused(no);
@@ -503,7 +526,7 @@ pub trait Machine {
         Answer::Filled(line * LINE as u32)
     }
 
-    /// Flush: writes every dirty line back and counts them.
+    /// Flush: writes every dirty word back and counts them.
     fn flush(state: &mut State, cache: &[u8], memory: &mut [u8]) -> Answer {
         let refused = Self::refusal(state, cache, memory).or_else(|| Self::flush_refusal(state));
         match refused {

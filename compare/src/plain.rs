@@ -10,7 +10,8 @@ use crate::types::{Figures, LoadEntry, Request, Snapshot, State, StoreEntry, Tag
 pub struct Present {
     pub set: usize,
     pub way: usize,
-    pub dirty: bool,
+    /// The dirty words, from the lowest address on.
+    pub dirty: [bool; 4],
     pub bytes: Vec<u8>,
 }
 
@@ -148,6 +149,7 @@ fn read_record(
     record: usize,
 ) -> Result<(), &'static str> {
     let Tag { valid, dirty, line, .. } = now.state.tags[record];
+    let dirty = marks(dirty)?;
     let bytes = now.cache[record * 16..record * 16 + 16].to_vec();
     if !valid {
         return nothing_there(dirty, line, &bytes);
@@ -159,11 +161,11 @@ fn read_record(
     if line as usize % view.sets() != set {
         return Err("a valid line is in its own set");
     }
-    if dirty && view.figures.policy == WritePolicy::WriteThrough {
+    if dirty.contains(&true) && view.figures.policy == WritePolicy::WriteThrough {
         return Err("in write-through no line is dirty");
     }
-    if !dirty && bytes != now.memory[first..first + 16] {
-        return Err("clean lines equal memory");
+    if (0..16).any(|at| !dirty[at / 4] && bytes[at] != now.memory[first + at]) {
+        return Err("clean words equal memory");
     }
     match view.present.insert(line, Present { set, way, dirty, bytes }) {
         Some(_) => Err("a valid line is there only once"),
@@ -171,9 +173,17 @@ fn read_record(
     }
 }
 
+/// The dirty words of a record: the mark of word q weighs 2 to the power q.
+fn marks(dirty: u8) -> Result<[bool; 4], &'static str> {
+    if dirty >= 16 {
+        return Err("a record has four dirty marks");
+    }
+    Ok([0, 1, 2, 3].map(|word| dirty / 2u8.pow(word) % 2 == 1))
+}
+
 /// An invalid record.
-fn nothing_there(dirty: bool, line: u32, bytes: &[u8]) -> Result<(), &'static str> {
-    if dirty {
+fn nothing_there(dirty: [bool; 4], line: u32, bytes: &[u8]) -> Result<(), &'static str> {
+    if dirty != [false; 4] {
         return Err("only valid lines are dirty");
     }
     if line != 0 || bytes != [0; 16] {

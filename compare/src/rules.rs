@@ -281,7 +281,7 @@ fn idle(mut view: View) -> (Answer, View) {
 }
 
 /// Case (a) of idle: the oldest store is written to its line, if that is present, and
-/// in write-through to memory. Write-back leaves the line dirty.
+/// in write-through to memory. Write-back leaves the word dirty that each byte is in.
 fn drain(mut view: View, store: StoreEntry) -> (Answer, View) {
     let line = store.address / 16;
     let through = view.figures.policy == WritePolicy::WriteThrough;
@@ -290,7 +290,7 @@ fn drain(mut view: View, store: StoreEntry) -> (Answer, View) {
         let byte = (store.value as u64 / 256u64.pow(k) % 256) as u8;
         if let Some(present) = view.present.get_mut(&line) {
             present.bytes[at % 16] = byte;
-            present.dirty = !through;
+            present.dirty[at % 16 / 4] = !through;
         }
         if through {
             view.memory[at] = byte;
@@ -312,27 +312,29 @@ fn reply(mut view: View) -> (Answer, View) {
     let way = invalid.unwrap_or(view.recency[set][view.ways() - 1]);
     if let Some(old) = holders.get(&way) {
         let gone = view.present.remove(old).expect("it is held");
-        if gone.dirty {
-            view.memory[*old as usize * 16..][..16].copy_from_slice(&gone.bytes);
-        }
+        written(&mut view.memory, *old, &gone);
     }
     let bytes = view.memory[line as usize * 16..][..16].to_vec();
-    view.present.insert(line, Present { set, way, dirty: false, bytes });
+    view.present.insert(line, Present { set, way, dirty: [false; 4], bytes });
     use_line(&mut view, line);
     (Answer::Filled(line * 16), view)
 }
 
-fn flush(mut view: View) -> (Answer, View) {
-    let dirty = view.present.values().filter(|p| p.dirty).count();
-    for (at, byte) in view.memory.iter_mut().enumerate() {
-        if let Some(p) = view.present.get(&((at / 16) as u32)) {
-            if p.dirty {
-                *byte = p.bytes[at % 16];
-            }
+/// Memory gets the bytes of a line that are in its dirty words.
+fn written(memory: &mut [u8], line: u32, present: &Present) {
+    for (at, byte) in present.bytes.iter().enumerate() {
+        if present.dirty[at / 4] {
+            memory[line as usize * 16 + at] = *byte;
         }
     }
-    for present in view.present.values_mut() {
-        present.dirty = false;
+}
+
+fn flush(mut view: View) -> (Answer, View) {
+    let marks = view.present.values().flat_map(|present| present.dirty);
+    let dirty = marks.filter(|dirty| *dirty).count();
+    for (line, present) in &mut view.present {
+        written(&mut view.memory, *line, present);
+        present.dirty = [false; 4];
     }
     (Answer::Flushed(dirty as u32), view)
 }

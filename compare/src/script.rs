@@ -193,7 +193,7 @@ fn words(answer: Answer) -> (&'static str, Option<u32>, Option<u32>) {
         Answer::Filled(address) => ("filled", Some(address), None),
         Answer::Drained(number) => ("drained", Some(number), None),
         Answer::Idle => ("idle", None, None),
-        Answer::Flushed(lines) => ("flushed", Some(lines), None),
+        Answer::Flushed(words) => ("flushed", Some(words), None),
         Answer::Refused(no) => ("refused", Some(no), None),
         // No letter of the script shows a line.
         Answer::Shown(_) => ("", None, None),

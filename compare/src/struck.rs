@@ -99,7 +99,7 @@ fn inside(told: &[Told], stretch: Stretch) -> [bool; 9] {
         waits && answers(|answer| matches!(answer, Answer::Requested(_))),
         waits && answers(|answer| matches!(answer, Answer::Drained(_))),
         waits && answers(|answer| matches!(answer, Answer::Filled(_))),
-        waits && lines.iter().any(|one| one.evicts),
+        waits && lines.iter().any(Told::evicts),
     ]
 }
 

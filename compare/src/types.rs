@@ -3,6 +3,12 @@
 
 /// Bytes of a line.
 pub const LINE: usize = 16;
+/// Bytes of a word, the unit of the dirty marks.
+pub const WORD: usize = 4;
+/// Words of a line.
+pub const WORDS: usize = LINE / WORD;
+/// The dirty marks of a line whose every word is dirty.
+pub const ALL_DIRTY: u8 = (1 << WORDS) - 1;
 /// Places of the tag table.
 pub const RECORDS: usize = 256;
 /// Places of the store queue.
@@ -33,7 +39,8 @@ pub struct LoadEntry {
 #[derive(Clone, Copy, Debug, Default, PartialEq, Eq)]
 pub struct Tag {
     pub valid: bool,
-    pub dirty: bool,
+    /// The dirty marks: bit q is that of word q, bytes 4q to 4q + 3 of the line.
+    pub dirty: u8,
     pub line: u32,
     pub age: u32,
 }
@@ -49,7 +56,7 @@ pub enum Request {
 /// Where a drain writes a store: the write profile.
 #[derive(Clone, Copy, Debug, Default, PartialEq, Eq)]
 pub enum WritePolicy {
-    /// Write-back, with write-allocate: to the cached line, which is then dirty.
+    /// Write-back, with write-allocate: to the cached line, whose word is then dirty.
     #[default]
     WriteBack = 0,
     /// Write-through, without write-allocate: to memory, and to the cached line where
@@ -194,7 +201,7 @@ pub enum Answer {
     /// The number of the store written.
     Drained(u32),
     Idle,
-    /// Lines written back.
+    /// Words written back.
     Flushed(u32),
     Shown(Part),
     /// The number of the refusal.

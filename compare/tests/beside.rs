@@ -34,13 +34,15 @@ fn long_scripts_meet_enough() {
 }
 
 /// Faults that no script tells: what an empty cache holds, which invalid way is
-/// filled, and what memory holds under a dirty line.
-const UNSEEN: [Fault; 5] = [
+/// filled, what memory holds under a dirty word, and what counts as well formed.
+const UNSEEN: [Fault; 7] = [
     Fault::VictimPassesInvalid,
     Fault::VictimHighestInvalid,
     Fault::BackWritesMemory,
     Fault::StartKeepsCache,
     Fault::ShowFirstWay,
+    Fault::TakesFifthMark,
+    Fault::TakesCleanWord,
 ];
 
 #[test]

@@ -5,16 +5,18 @@ mod judged;
 
 use compare::check::{self, CLAUSES};
 use compare::counts::{refused, Counts};
-use compare::fault::OF_STATES;
-use compare::model::{Machine, Right};
+use compare::fault::{Fault, OF_STATES};
+use compare::model::{record_bytes, Machine, Right};
 use compare::plain;
 use compare::random::{self, Rng};
 use compare::rules;
-use compare::types::{Answer, Call, Figures, Part, Request, State, Step, Tag, WritePolicy};
+use compare::types::{
+    Answer, Call, Figures, Part, Request, State, Step, Tag, WritePolicy, ALL_DIRTY, LINE, RECORDS,
+};
 use judged::Judged;
 
-/// A machine in which every part of the state is in use: line 0 dirty, line 2
-/// clean, set 1 invalid, stores 4, 5, 8, loads 3 (committed, waits), 6 (waits)
+/// A machine in which every part of the state is in use: word 0 of line 0 dirty, line
+/// 2 clean, set 1 invalid, stores 4, 5, 8, loads 3 (committed, waits), 6 (waits)
 /// and 7 (answered), line 1 requested, h 3 and last 8.
 fn rich() -> Judged {
     let mut judged = Judged::new(2, 2, 128);
@@ -101,7 +103,8 @@ fn committed_at_most_last() {
 fn unused_records() {
     let names = ["unused records zero"];
     damage(&names, |b| b.state.tags[4].valid = true);
-    damage(&names, |b| b.state.tags[4].dirty = true);
+    damage(&names, |b| b.state.tags[4].dirty = 1);
+    damage(&names, |b| b.state.tags[255].dirty = 16);
     damage(&names, |b| b.state.tags[100].line = 1);
     damage(&names, |b| b.state.tags[255].age = 1);
 }
@@ -132,26 +135,63 @@ fn valid_lines() {
     damage(&["valid lines in memory"], |b| b.state.tags[0].line = 8);
     damage(&["valid lines in memory"], |b| b.state.tags[0].line = 1 << 28);
     damage(&["valid lines in memory"], |b| b.state.tags[1].line = u32::MAX - 1);
-    damage(&["valid lines in own set"], |b| b.state.tags[0].line = 3);
+    damage(&["valid lines in own set"], |b| {
+        b.state.tags[0].line = 3;
+        b.state.tags[0].dirty = ALL_DIRTY;
+    });
     damage(&["valid lines once"], |b| {
         b.state.tags[1].line = 0;
-        b.state.tags[1].dirty = true;
+        b.state.tags[1].dirty = ALL_DIRTY;
     });
 }
 
 #[test]
 fn invalid_records() {
-    damage(&["only valid lines dirty"], |b| b.state.tags[2].dirty = true);
+    for dirty in [1, 2, 4, 8, ALL_DIRTY] {
+        damage(&["only valid lines dirty"], |b| b.state.tags[2].dirty = dirty);
+    }
     damage(&["invalid records zero"], |b| b.state.tags[3].line = 5);
     damage(&["invalid bytes zero"], |b| b.cache[32] = 1);
     damage(&["invalid bytes zero"], |b| b.cache[63] = 1);
 }
 
 #[test]
-fn clean_lines() {
-    damage(&["clean lines equal memory"], |b| b.cache[16 + 5] ^= 1);
-    damage(&["clean lines equal memory"], |b| b.memory[32 + 15] ^= 128);
-    damage(&["clean lines equal memory"], |b| b.state.tags[0].dirty = false);
+fn clean_words() {
+    let names = ["clean words equal memory"];
+    damage(&names, |b| b.cache[16 + 5] ^= 1);
+    damage(&names, |b| b.memory[32 + 15] ^= 128);
+    damage(&names, |b| b.state.tags[0].dirty = 0);
+    // Word 0 of line 0 is dirty, and each byte of the other words must be memory's.
+    for at in 4..16 {
+        damage(&names, |b| b.cache[at] ^= 1);
+        damage(&names, |b| b.memory[at] ^= 128);
+    }
+    damage(&names, |b| b.state.tags[0].dirty = 0b1110);
+}
+
+/// A word may be dirty and equal memory; what it holds is not asked.
+#[test]
+fn dirty_words() {
+    let mut judged = rich();
+    judged.cache[..4].fill(0x5A);
+    for dirty in [0b0001, 0b0011, 0b1001, ALL_DIRTY] {
+        judged.state.tags[0].dirty = dirty;
+        assert_eq!(broken(&judged), Vec::<&str>::new(), "{dirty:b}");
+    }
+}
+
+#[test]
+fn four_dirty_marks() {
+    let names = ["four dirty marks"];
+    for more in [16, 32, 64, 128, 240] {
+        // Line 0 has a dirty word, line 2 none.
+        damage(&names, |b| b.state.tags[0].dirty |= more);
+        damage(&names, |b| b.state.tags[1].dirty = more);
+        damage(&["only valid lines dirty", names[0]], |b| b.state.tags[2].dirty = more);
+        let mut judged = ready_store(WritePolicy::WriteThrough);
+        judged.state.tags[0].dirty = more;
+        breaks(&["none dirty in write-through", names[0]], judged);
+    }
 }
 
 #[test]
@@ -233,23 +273,50 @@ fn ready_store(policy: WritePolicy) -> Judged {
     judged
 }
 
-/// States that are well formed in write-back, and in write-through only to one of
-/// the faults of states.
+/// A dirty line beside that store.
+fn dirty_line(policy: WritePolicy) -> Judged {
+    let mut judged = ready_store(policy);
+    judged.state.tags[0].dirty = 1;
+    judged
+}
+
+/// That store with its line requested.
+fn requested_for_store(policy: WritePolicy) -> Judged {
+    let mut judged = ready_store(policy);
+    judged.state.request = Request::Line(3);
+    judged
+}
+
+/// States that are well formed in write-back and not in write-through.
 #[test]
 fn states_of_write_through() {
-    let dirty: fn(&mut Judged) = |b| b.state.tags[0].dirty = true;
-    let requested: fn(&mut Judged) = |b| b.state.request = Request::Line(3);
-    let cases = [("none dirty in write-through", dirty), ("request wanted", requested)];
-    for ((name, change), fault) in cases.into_iter().zip(OF_STATES) {
-        let [back, through] = [WritePolicy::WriteBack, WritePolicy::WriteThrough].map(|policy| {
-            let mut judged = ready_store(policy);
-            change(&mut judged);
-            judged
-        });
-        assert_eq!(broken(&back), Vec::<&str>::new());
-        assert_eq!(check_call(Right::step, &through, Call::Idle), Ok(()));
-        assert!(check_call(fault.step(), &through, Call::Idle).is_err(), "{fault:?}");
-        breaks(&[name], through);
+    let none: [&str; 0] = [];
+    assert_eq!(broken(&dirty_line(WritePolicy::WriteBack)), none);
+    assert_eq!(broken(&requested_for_store(WritePolicy::WriteBack)), none);
+    breaks(&["none dirty in write-through"], dirty_line(WritePolicy::WriteThrough));
+    breaks(&["request wanted"], requested_for_store(WritePolicy::WriteThrough));
+}
+
+/// For each of the faults of states, a state that breaks one clause alone and is well
+/// formed to this fault.
+#[test]
+fn states_of_faults() {
+    let [mut fifth_mark, mut clean_word] = [rich(), rich()];
+    fifth_mark.state.tags[0].dirty |= 16;
+    clean_word.cache[15] ^= 1;
+    let dirty = dirty_line(WritePolicy::WriteThrough);
+    let requested = requested_for_store(WritePolicy::WriteThrough);
+    let states = [
+        (Fault::TakesFifthMark, "four dirty marks", fifth_mark),
+        (Fault::TakesCleanWord, "clean words equal memory", clean_word),
+        (Fault::ThroughTakesDirty, "none dirty in write-through", dirty),
+        (Fault::ThroughWantsForStore, "request wanted", requested),
+    ];
+    assert_eq!(states.iter().map(|(fault, ..)| *fault).collect::<Vec<_>>(), OF_STATES);
+    for (fault, name, judged) in states {
+        assert_eq!(check_call(Right::step, &judged, Call::Idle), Ok(()));
+        assert!(check_call(fault.step(), &judged, Call::Idle).is_err(), "{fault:?}");
+        breaks(&[name], judged);
     }
 }
 
@@ -326,23 +393,34 @@ fn any_policy(rng: &mut Rng) -> WritePolicy {
     rng.pick(&[WritePolicy::WriteBack, WritePolicy::WriteThrough])
 }
 
-/// Damages one field, byte or length at random.
+/// Damages one field, byte or length at random, or the register with what a store asks.
 fn damage_at_random(judged: &mut Judged, rng: &mut Rng) {
     let number = odd_number(rng);
     let state = &mut judged.state;
-    match rng.below(14) {
+    match rng.below(26) {
         0 => state.figures.sets = number,
         1 => state.figures.ways = number,
         2 => state.memory_length = number,
         3 => state.last = number,
         4 => state.committed = number,
-        5 => state.request = rng.pick(&[Request::Line(number), Request::Free]),
-        6 => judged.cache.resize(rng.below(200) as usize, 1),
-        7 => judged.memory.resize(rng.below(200) as usize, 1),
-        8 => flip(&mut judged.cache, rng),
-        9 => flip(&mut judged.memory, rng),
-        10 | 11 => state.figures.policy = other(state.figures.policy),
+        5 => judged.cache.resize(rng.below(200) as usize, 1),
+        6 => judged.memory.resize(rng.below(200) as usize, 1),
+        7 => flip(&mut judged.cache, rng),
+        8 => flip(&mut judged.memory, rng),
+        9..=11 => state.figures.policy = other(state.figures.policy),
+        12 => state.request = rng.pick(&[Request::Line(number), Request::Free]),
+        13..=15 => request_for_store(state, rng),
+        16..=23 => damage_line(judged, rng),
         _ => damage_entry(judged, number, rng),
+    }
+}
+
+/// Requests the oldest store's line, mostly with a commit of that store.
+fn request_for_store(state: &mut State, rng: &mut Rng) {
+    let store = state.stores[0];
+    state.request = Request::Line(store.address / LINE as u32);
+    if !rng.one_in(4) {
+        state.committed = state.committed.max(store.number);
     }
 }
 
@@ -354,7 +432,7 @@ fn damage_entry(judged: &mut Judged, number: u32, rng: &mut Rng) {
     let load = &mut judged.state.loads[rng.below(few.min(8)) as usize];
     match rng.below(13) {
         0 => tag.valid = !tag.valid,
-        1 => tag.dirty = !tag.dirty,
+        1 => tag.dirty = other_marks(tag.dirty, rng),
         2 => tag.line = number,
         3 => tag.age = number,
         4 => *tag = Tag::default(),
@@ -367,6 +445,29 @@ fn damage_entry(judged: &mut Judged, number: u32, rng: &mut Rng) {
         11 => load.width = number,
         _ => load.answered = !load.answered,
     }
+}
+
+/// Damages the dirty marks or a cached byte of a present line, of a dirty one if there
+/// is one.
+fn damage_line(judged: &mut Judged, rng: &mut Rng) {
+    let tags = &mut judged.state.tags;
+    let present: Vec<usize> = (0..RECORDS).filter(|record| tags[*record].valid).collect();
+    let is_dirty = |record: &usize| tags[*record].dirty != 0;
+    let dirty: Vec<usize> = present.iter().copied().filter(is_dirty).collect();
+    let Some(records) = [dirty, present].into_iter().find(|records| !records.is_empty()) else {
+        return;
+    };
+    let record = rng.pick(&records);
+    match judged.cache.get_mut(record_bytes(record)) {
+        Some(bytes) if rng.one_in(2) => flip(bytes, rng),
+        _ => tags[record].dirty = other_marks(tags[record].dirty, rng),
+    }
+}
+
+/// Other dirty marks: one of the four changed, a bit alone, a fifth mark, or any byte.
+fn other_marks(dirty: u8, rng: &mut Rng) -> u8 {
+    let (mark, bit, any) = (1 << rng.below(4), 1 << rng.below(8), rng.word() as u8);
+    rng.pick(&[dirty ^ mark, dirty ^ mark, bit, 16, dirty | 16, any])
 }
 
 /// Changes one byte.
@@ -407,14 +508,16 @@ fn middle_of_run(seed: u64, rng: &mut Rng) -> Judged {
     Judged { state, cache, memory }
 }
 
-/// What random damage must meet, out of so many damaged machines: the clauses are
-/// broken by what would be well formed in write-back.
-const NEEDED: [(&str, u64); 5] = [
-    ("accepted", 15),
-    ("refused 1", 15),
-    ("refused 10", 15),
-    ("none dirty in write-through", 100),
-    ("request wanted", 1_000),
+/// What random damage must meet, out of so many damaged machines.
+const NEEDED: [(&str, u64); 3] = [("accepted", 15), ("refused 1", 15), ("refused 10", 15)];
+
+/// The states that it must meet besides, out of as many: those that are well formed to
+/// each of the faults of states.
+const STATES: [(Fault, &str, u64); 4] = [
+    (Fault::TakesFifthMark, "a fifth dirty mark", 150),
+    (Fault::TakesCleanWord, "a clean word that differs, beside a dirty one", 100),
+    (Fault::ThroughTakesDirty, "a dirty line in write-through", 75),
+    (Fault::ThroughWantsForStore, "a line requested for a store in write-through", 1_000),
 ];
 
 /// Counts what a damage led to.
@@ -422,15 +525,14 @@ fn count(counts: &mut Counts, judged: &Judged) {
     let refusal = check::refusal(&judged.state, &judged.cache, &judged.memory);
     counts.runs += 1;
     counts.met(refusal.map_or("accepted", refused), true);
-    let figures = judged.state.figures.with_policy(WritePolicy::WriteBack);
-    let back = State { figures, ..judged.state.clone() };
-    if check::refusal(&back, &judged.cache, &judged.memory).is_none() {
-        broken(judged).into_iter().for_each(|name| counts.met(name, true));
+    for (fault, name, _) in STATES {
+        counts.met(name, check_call(fault.step(), judged, Call::Idle).is_err());
     }
 }
 
 #[test]
 fn random_damage() {
+    assert_eq!(STATES.iter().map(|(fault, ..)| *fault).collect::<Vec<_>>(), OF_STATES);
     let mut counts = Counts::default();
     for seed in 0..3000 {
         let mut rng = Rng::new(seed ^ 0xDA3A_6E00);
@@ -444,7 +546,8 @@ fn random_damage() {
             right_call(&judged, odd_call(&mut rng), seed);
         }
     }
-    assert_eq!(counts.lacking_of(&NEEDED, counts.runs), Vec::<String>::new());
+    let needed = [&NEEDED[..], &STATES.map(|(_, name, number)| (name, number))].concat();
+    assert_eq!(counts.lacking_of(&needed, counts.runs), Vec::<String>::new());
 }
 
 /// Well-formedness is all the clauses one by one, once check 1 has passed.

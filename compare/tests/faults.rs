@@ -61,6 +61,11 @@ fn demand_2_alone_notices() {
         Fault::ForwardWholeOnly,
         Fault::AddressWraps,
         Fault::AbortKeepsLast,
+        Fault::DrainMarksNextWord,
+        Fault::DrainForgetsMarks,
+        Fault::EvictMissesWord,
+        Fault::FlushMissesWord,
+        Fault::FlushClearsMarks,
         Fault::ThroughLeavesLine,
         Fault::ThroughLeavesMemory,
     ];

@@ -81,7 +81,7 @@ fn write_through() {
     assert_eq!(drained.state.tags, started(1, 32, WritePolicy::WriteThrough).state.tags);
     let judged = played(WritePolicy::WriteThrough, &rows);
     assert_eq!(judged.cache[4..6], [200, 201]);
-    assert!(judged.state.tags[0].valid && !judged.state.tags[0].dirty);
+    assert!(judged.state.tags[0].valid && judged.state.tags[0].dirty == 0);
 }
 
 /// Both lines of a set present, and a store to the one used first drained.
@@ -104,7 +104,7 @@ fn ages(state: &State) -> [u32; 2] {
 #[test]
 fn drain_uses_its_line() {
     for (policy, dirty, byte) in
-        [(WritePolicy::WriteBack, true, 5), (WritePolicy::WriteThrough, false, 200)]
+        [(WritePolicy::WriteBack, 0b10, 5), (WritePolicy::WriteThrough, 0, 200)]
     {
         let judged = drained(policy);
         assert_eq!(ages(&judged.state), [0, 1], "{policy:?}");
@@ -136,9 +136,11 @@ fn drain_to_a_requested_line() {
 #[test]
 fn dirty_line_in_write_through() {
     for call in [LOAD, STORE, commit(3), Call::Idle, Call::Reply, Call::Flush] {
-        let mut judged = drained(WritePolicy::WriteThrough);
-        judged.state.tags[0].dirty = true;
-        assert_eq!(judged.call(call), Answer::Refused(10), "{call:?}");
-        assert!(judged.shown(0).is_empty());
+        for dirty in [1, 2, 4, 8, 15] {
+            let mut judged = drained(WritePolicy::WriteThrough);
+            judged.state.tags[0].dirty = dirty;
+            assert_eq!(judged.call(call), Answer::Refused(10), "{call:?}");
+            assert!(judged.shown(0).is_empty());
+        }
     }
 }

@@ -8,6 +8,7 @@ use compare::fault::Fault;
 use compare::model::{Machine, Right, Unchecked};
 use compare::random::{self, Run};
 use compare::stretch::{self, Stretch};
+use compare::traffic::Traffic;
 use compare::types::{Call, Figures};
 
 #[test]
@@ -21,6 +22,13 @@ fn right_model_passes() {
         }
     }
     assert_eq!(counts.lacking(), Vec::<String>::new());
+    let Traffic { evicted, flushed } = counts.traffic();
+    // A dirty word is at least a quarter of its line, so that each band begins above that.
+    let bands = [("evictions", evicted, 0.28..0.36), ("flushes", flushed, 0.38..0.48)];
+    for (what, written, band) in bands {
+        let ratio = written.word_bytes() as f64 / written.line_bytes() as f64;
+        assert!(band.contains(&ratio), "{what}: {ratio:.3}");
+    }
 }
 
 /// Without checks 1 and 10 a run after a start is the same, call by call.

@@ -71,15 +71,18 @@ fn first_difference_is_named() {
     assert_eq!(found(b"idle\nrefused 17\nflushed 0\nidle\n"), expected);
 }
 
-/// Faults that no short script tells: what free places and an empty cache hold,
-/// which invalid way is filled, and what memory holds under a dirty line.
-const UNSEEN: [Fault; 6] = [
+/// Faults that no short script tells: what free places and an empty cache hold, which
+/// invalid way is filled, what memory holds under a dirty word, and what counts as
+/// well formed.
+const UNSEEN: [Fault; 8] = [
     Fault::DroppedNumberOnly,
     Fault::VictimPassesInvalid,
     Fault::VictimHighestInvalid,
     Fault::BackWritesMemory,
     Fault::StartKeepsCache,
     Fault::ShowFirstWay,
+    Fault::TakesFifthMark,
+    Fault::TakesCleanWord,
 ];
 
 #[test]

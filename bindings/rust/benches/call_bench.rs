@@ -156,7 +156,7 @@ impl Way {
         number
     }
 
-    /// Fills the cache and makes every other line dirty.
+    /// Fills the cache and makes a word of every other line dirty.
     fn filled(mut self) -> Way {
         let lines = (self.cache.len() / 16) as u32;
         for line in 0..lines {

@@ -130,7 +130,7 @@ pub enum Answer {
     Idle,
     /// The first address of the line that was filled.
     Filled(u32),
-    /// The lines written to memory.
+    /// The words of 4 bytes written to memory.
     Flushed(u32),
     /// A line's bytes as a part of the lent cache.
     Shown {

@@ -22,7 +22,7 @@ pub enum Call {
     Idle,
     /// The memory's reply to the request.
     Reply,
-    /// Writes every dirty line to memory.
+    /// Writes every dirty word to memory.
     Flush,
     /// An address of the line.
     ShowLine(u32),

@@ -6,6 +6,8 @@ use crate::boundary;
 
 /// Bytes of a line.
 pub const LINE: usize = 16;
+/// Bytes of a word: each aligned word of a line has a dirty mark.
+pub const WORD: usize = 4;
 /// The most sets that a start may choose.
 pub const MAX_SETS: u32 = 64;
 /// The most ways that a start may choose.
@@ -24,8 +26,8 @@ pub const LOADS: usize = 8;
 /// Where a drain writes a store, and what it needs for it: the write profile.
 #[derive(Clone, Copy, Debug, Default, PartialEq, Eq, Hash)]
 pub enum WritePolicy {
-    /// Write-back with write-allocate: a store is written to its line, which becomes
-    /// dirty; an absent line is requested first.
+    /// Write-back with write-allocate: a store is written to its line, where its word
+    /// becomes dirty; an absent line is requested first.
     #[default]
     WriteBack,
     /// Write-through without write-allocate: a store is written to memory, and to its
@@ -104,15 +106,29 @@ pub struct ListedLoad {
 pub struct Tag {
     /// A line is present here.
     pub valid: bool,
-    /// A store was written to that line since it was filled or last flushed; never in
-    /// write-through.
-    pub dirty: bool,
+    /// The dirty marks of the line's four words, 0 to 15: that of word n is `1 << n`; an
+    /// image with a fifth mark is refused by 10. A word is dirty when a store was
+    /// written to it since the line was filled or last flushed; never in write-through.
+    /// See [`Tag::is_dirty`].
+    pub dirty: u8,
     /// The line number: its first address divided by 16.
     pub line: u32,
     /// 0 for the way of its set that was used last; after a start way w has age w,
     /// invalid ways too. A use of a line gives its way age 0 and adds 1 to each
     /// smaller age of the set.
     pub age: u32,
+}
+
+impl Tag {
+    /// Whether a word of the line is dirty; a line has words 0 to 3.
+    pub const fn is_dirty(&self, word: usize) -> bool {
+        word < LINE / WORD && (self.dirty >> word) & 1 != 0
+    }
+
+    /// How many words of the line are dirty: what an eviction writes to memory.
+    pub const fn dirty_words(&self) -> u32 {
+        (self.dirty % (1 << (LINE / WORD))).count_ones()
+    }
 }
 
 /// A listed load as it is laid out.
@@ -248,7 +264,7 @@ impl Image {
     pub fn tag(&self, record: usize) -> Option<Tag> {
         self.tags.get(record).map(|tag| Tag {
             valid: tag.valid != 0,
-            dirty: tag.dirty != 0,
+            dirty: tag.dirty,
             line: u32::from(tag.line),
             age: u32::from(tag.age),
         })

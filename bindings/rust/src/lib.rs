@@ -53,6 +53,22 @@
 //! # Ok::<(), Refusal>(())
 //! ```
 //!
+//! In write-back a drain writes the line, not memory, and marks the word of 4 bytes as
+//! dirty. Evictions and flushes write dirty words alone to memory, and a flush answers
+//! how many.
+//!
+//! ```
+//! # use nicoisetarn::{Answer, Call, Figures, Refusal, Unit};
+//! # let mut unit = Unit::start(Figures::new(1, 1), vec![0; 32])?;
+//! unit.run(&[Call::Store(5, 1, 7), Call::Store(6, 2, 8), Call::Store(12, 4, 9), Call::Commit(3)]);
+//! unit.run(&[Call::Idle, Call::Reply, Call::Idle, Call::Idle, Call::Idle]);
+//! let tag = unit.image().tag(0).unwrap_or_default();
+//! assert_eq!((tag.dirty, tag.dirty_words()), (0b1010, 2));
+//! assert!(tag.is_dirty(1) && !tag.is_dirty(2));
+//! assert_eq!((unit.flush()?, unit.memory()[12]), (Answer::Flushed(2), 9));
+//! # Ok::<(), Refusal>(())
+//! ```
+//!
 //! A start may choose write-through without write-allocate in place of write-back. A
 //! drain then needs no line and writes memory at once.
 //!
@@ -98,6 +114,6 @@ pub use batch::Batch;
 pub use calls::{Call, Part};
 pub use image::{
     Figures, HeldStore, Image, ListedLoad, Tag, WritePolicy, LINE, LOADS, MAX_MEMORY, MAX_SETS,
-    MAX_WAYS, MIN_MEMORY, RECORDS, STORES,
+    MAX_WAYS, MIN_MEMORY, RECORDS, STORES, WORD,
 };
 pub use unit::Unit;

@@ -52,7 +52,7 @@ impl Unit {
         &self.cache
     }
 
-    /// The memory bytes. Dirty lines are not yet in them (see [`Unit::flush`]), nor
+    /// The memory bytes. Dirty words are not yet in them (see [`Unit::flush`]), nor
     /// are held stores.
     pub fn memory(&self) -> &[u8] {
         &self.memory
@@ -126,8 +126,8 @@ impl Unit {
     /// Idle, the background work, does the first of these that it can.
     ///
     /// - [`Answer::Drained`]: the oldest held store is committed, no older load waits,
-    ///   and its line is present: it is written there, the line becomes dirty and is
-    ///   used, and the store leaves the queue.
+    ///   and its line is present: it is written there, its word becomes dirty, the line
+    ///   is used, and the store leaves the queue.
     /// - [`Answer::Requested`]: the miss register is free, and a committed load waits
     ///   whose line is absent (the oldest such load), or else the oldest held store is
     ///   committed, no older load waits and its line is absent: the line is asked for.
@@ -142,16 +142,16 @@ impl Unit {
 
     /// The memory's reply: [`Answer::Filled`]. The requested line is copied from memory
     /// into the lowest invalid way of its set, else into the way of greatest age, whose
-    /// line is written to memory first if it is dirty. The line is clean and used, and
-    /// the miss register becomes free.
+    /// dirty words are written to memory first. The line is clean and used, and the miss
+    /// register becomes free.
     ///
     /// Refused by 17: the miss register is free.
     pub fn reply(&mut self) -> Result<Answer, Refusal> {
         self.call(Call::Reply)
     }
 
-    /// Writes every dirty line to memory and marks it clean: [`Answer::Flushed`]. Ages
-    /// stay. In write-through no line is dirty, and none is written.
+    /// Writes every dirty word to memory and marks it clean: [`Answer::Flushed`]. Ages
+    /// stay. In write-through no word is dirty, and none is written.
     ///
     /// Refused by 18: a committed store is held.
     pub fn flush(&mut self) -> Result<Answer, Refusal> {

@@ -1,7 +1,7 @@
 //! Calls on damaged benches: states that runs led to with one field damaged or in
 //! another profile, images of random bytes, and lent buffers of wrong lengths. Each
 //! call is answered as the Rust model answers it, and a refused one changes nothing;
-//! so it is with all calls in one list.
+//! so it is with all calls in one list. (`marks` tries every byte of dirty marks.)
 //!
 //! NICOISETARN_TIMES=N in the environment makes N times as many calls.
 
@@ -10,22 +10,26 @@ mod numbered;
 
 use beside::layout;
 use beside::{
-    each_call, figures_agree, judge, odd_number, stands, state_of, times, with_word, Bench, Beside,
+    each_call, figures_agree, judge, odd_number, stands, state_of, tags, times, with_byte,
+    with_word, Bench, Beside,
 };
-use compare::check;
+use compare::check::{self, CLAUSES};
 use compare::counts::{refused, Counts};
 use compare::random::Rng;
 use compare::types::{Answer, Call, Part, WritePolicy};
-use nicoisetarn::{Figures, Image, Refusal, LOADS, RECORDS, STORES};
+use nicoisetarn::{Figures, Image, Refusal, Tag, LINE, LOADS, RECORDS, STORES, WORD};
 use numbered::NO_PROFILES;
 
 /// Where a damage is done: fields of the image by the place of the first, how
-/// many there are, how far apart and of how many bytes; or what is lent.
+/// many there are, how far apart and of how many bytes; dirty marks; or what is lent,
+/// a line with a dirty word among it.
 #[derive(Clone, Copy, Debug)]
 enum Field {
     Image(usize, usize, usize, usize),
+    DirtyMarks,
     CacheByte,
     MemoryByte,
+    DirtyLine,
     CacheLength,
     MemoryLength,
 }
@@ -53,7 +57,7 @@ impl Field {
 }
 
 /// Every field, with its name.
-const FIELDS: [(&str, Field); 25] = [
+const FIELDS: [(&str, Field); 26] = [
     ("sets", Field::word(layout::SETS)),
     ("ways", Field::word(layout::WAYS)),
     ("profile", Field::word(layout::PROFILE)),
@@ -71,12 +75,13 @@ const FIELDS: [(&str, Field); 25] = [
     ("load: width", Field::of_loads(layout::WIDTH)),
     ("load: waiting", Field::of_loads(layout::WAITING)),
     ("tag: valid", Field::of_tags(0, 1)),
-    ("tag: dirty", Field::of_tags(layout::DIRTY, 1)),
+    ("tag: dirty marks", Field::DirtyMarks),
     ("tag: line", Field::of_tags(layout::LINE, 2)),
     ("tag: age", Field::of_tags(layout::AGE, 1)),
     ("tag: unused byte", Field::of_tags(layout::UNUSED, 1)),
     ("a byte of the cache", Field::CacheByte),
     ("a byte of the memory", Field::MemoryByte),
+    ("a byte of a dirty line", Field::DirtyLine),
     ("length of the cache lent", Field::CacheLength),
     ("length of the memory lent", Field::MemoryLength),
 ];
@@ -122,11 +127,47 @@ fn places_in_use(image: &Image, places: usize) -> u64 {
     (in_use + 1).min(places) as u64
 }
 
+/// One of so many places, mostly one of those.
+fn place(image: &Image, places: usize, rng: &mut Rng) -> usize {
+    let most = places_in_use(image, places);
+    let within = if rng.one_in(4) { places as u64 } else { most };
+    rng.below(within) as usize
+}
+
+/// Puts other dirty marks into a record, often a valid one: four of them, a fifth beside
+/// those that are there, or any.
+fn damage_marks(image: &Image, rng: &mut Rng) -> Image {
+    let valid: Vec<usize> = tags(image).filter(|(_, tag)| tag.valid).map(|it| it.0).collect();
+    let record = match valid.is_empty() || rng.one_in(2) {
+        true => place(image, RECORDS, rng),
+        false => rng.pick(&valid),
+    };
+    let old = image.tag(record).map_or(0, |tag| tag.dirty);
+    let (four, any, mark) = (rng.below(16) as u8, rng.word() as u8, 1 << rng.below(8));
+    let new = rng.pick(&[four, four, four, old ^ mark, 16, 16 | old, 16 | old, 16 | four, any]);
+    with_byte(image, layout::marks_at(record), if new == old { old ^ 1 } else { new })
+}
+
 /// Changes one byte, if there is one.
 fn damage_byte(bytes: &mut [u8], rng: &mut Rng) {
     if !bytes.is_empty() {
         let at = rng.below(bytes.len() as u64) as usize;
         bytes[at] ^= 1 << rng.below(8);
+    }
+}
+
+/// Changes one byte of a line with a dirty word, in the cache or in memory; one of the
+/// cache where there is no such line.
+fn damage_dirty_line(bench: &mut Bench, rng: &mut Rng) {
+    let Bench { image, cache, memory } = bench;
+    let lines: Vec<(usize, Tag)> = tags(image).filter(|(_, tag)| tag.dirty != 0).collect();
+    if lines.is_empty() {
+        return damage_byte(cache, rng);
+    }
+    let (record, tag) = rng.pick(&lines);
+    match rng.one_in(2) {
+        true => damage_byte(&mut cache[LINE * record..][..LINE], rng),
+        false => damage_byte(&mut memory[LINE * tag.line as usize..][..LINE], rng),
     }
 }
 
@@ -143,15 +184,15 @@ fn damage_length(bytes: &mut Vec<u8>, rng: &mut Rng) {
 fn damage(bench: &mut Bench, field: Field, rng: &mut Rng) {
     match field {
         Field::Image(first, places, stride, width) => {
-            let most = places_in_use(&bench.image, places);
-            let within = if rng.one_in(4) { places as u64 } else { most };
-            let at = first + stride * rng.below(within) as usize;
+            let at = first + stride * place(&bench.image, places, rng);
             let mut bytes = bench.image.to_bytes();
             damage_number(&mut bytes, at, width, stride, rng);
             bench.image = Image::from_bytes(bytes);
         }
+        Field::DirtyMarks => bench.image = damage_marks(&bench.image, rng),
         Field::CacheByte => damage_byte(&mut bench.cache, rng),
         Field::MemoryByte => damage_byte(&mut bench.memory, rng),
+        Field::DirtyLine => damage_dirty_line(bench, rng),
         Field::CacheLength => damage_length(&mut bench.cache, rng),
         Field::MemoryLength => damage_length(&mut bench.memory, rng),
     }
@@ -295,9 +336,41 @@ fn refused_through(bench: &Bench) -> Option<&'static str> {
     }
 }
 
-/// Counts such an image, which an idle call has refused.
-fn count_through(counts: &mut Counts, bench: &Bench, idle: Answer) {
-    if let Some(why) = refused_through(bench) {
+/// The clause of well-formedness that an image breaks, where it breaks one alone.
+fn broken_alone(bench: &Bench) -> Option<&'static str> {
+    let Bench { image, cache, memory } = bench;
+    let state = state_of(image).filter(|_| figures_agree(bench))?;
+    let mut broken = CLAUSES.iter().filter(|(_, clause)| !clause(&state, cache, memory));
+    match (broken.next(), broken.next()) {
+        (Some((name, _)), None) => Some(name),
+        _ => None,
+    }
+}
+
+/// Why an image is refused for its dirty words, where it has one reason alone.
+fn refused_words(bench: &Bench) -> Option<&'static str> {
+    match broken_alone(bench)? {
+        "four dirty marks" => Some("fifth mark"),
+        "clean words equal memory" if clean_word_differs(bench) => {
+            Some("clean word of a dirty line differs")
+        }
+        _ => None,
+    }
+}
+
+/// A line with a dirty word has a clean one that is not memory's. All lines lie in memory.
+fn clean_word_differs(bench: &Bench) -> bool {
+    let Bench { image, cache, memory } = bench;
+    tags(image).filter(|(_, tag)| tag.dirty != 0).any(|(record, tag)| {
+        let first = LINE * tag.line as usize;
+        let mut clean = (0..LINE).filter(|at| !tag.is_dirty(at / WORD));
+        clean.any(|at| cache[LINE * record + at] != memory[first + at])
+    })
+}
+
+/// Counts an image with one of these reasons, which an idle call has refused.
+fn count_reasons(counts: &mut Counts, bench: &Bench, idle: Answer) {
+    for why in [refused_through(bench), refused_words(bench)].into_iter().flatten() {
         assert_eq!(idle, Answer::Refused(10), "{why}");
         counts.met(why, true);
     }
@@ -333,7 +406,7 @@ fn judge_fields(tallies: &[Tally]) {
 }
 
 /// What damaged fields must meet, out of so many calls.
-const NEEDED_OF_FIELDS: [(&str, u64); 24] = [
+const NEEDED_OF_FIELDS: [(&str, u64); 27] = [
     ("other call accepted", 40),
     ("accepted start", 100),
     ("line shown", 500),
@@ -347,6 +420,9 @@ const NEEDED_OF_FIELDS: [(&str, u64); 24] = [
     ("no such profile", 20),
     ("dirty line in write-through", 2_000),
     ("request for a store in write-through", 100_000),
+    ("fifth mark", 10_000),
+    ("clean word of a dirty line differs", 10_000),
+    ("byte of a dirty word changed", 10_000),
     ("list refused", 30),
     ("list accepted", 200),
     ("refused 10", 10),
@@ -373,7 +449,9 @@ fn one_field_damaged() {
             match play_each(&bench, &mut rng, &mut counts) {
                 Ok(idle) => {
                     tally(into, &bench, idle);
-                    count_through(&mut counts, &bench, idle);
+                    let dirty_line = matches!(field, Field::DirtyLine);
+                    counts.met("byte of a dirty word changed", dirty_line && idle.accepted());
+                    count_reasons(&mut counts, &bench, idle);
                 }
                 Err(what) => panic!("seed {seed}, {name}: {what}"),
             }
@@ -387,7 +465,7 @@ fn one_field_damaged() {
 /// Counts what an idle call said of a state that a run led to, in another profile.
 fn count_profile(counts: &mut Counts, found: &Bench, bench: &Bench, idle: Answer) {
     use nicoisetarn::WritePolicy::{WriteBack, WriteThrough};
-    count_through(counts, bench, idle);
+    count_reasons(counts, bench, idle);
     match (found.image.policy(), bench.image.policy()) {
         (_, None) => assert_eq!(idle, Answer::Refused(10)),
         (Some(WriteBack), Some(WriteThrough)) => {
@@ -442,8 +520,8 @@ fn random_bytes(length: usize, rng: &mut Rng) -> Vec<u8> {
     words.take(length / 8 + 1).flatten().take(length).collect()
 }
 
-/// Makes the profile and every flag 0 or 1, the register that of a state and the unused
-/// bytes 0.
+/// Makes the profile and every flag 0 or 1, the dirty marks four, the register that of a
+/// state and the unused bytes 0.
 fn mend_flags(bytes: &mut [u8]) {
     let [profile, names] = [layout::PROFILE, layout::REQUESTED].map(|at| u32::from(bytes[at] & 1));
     let mut put = |at: usize, word: u32| bytes[at..at + 4].copy_from_slice(&word.to_ne_bytes());
@@ -455,7 +533,7 @@ fn mend_flags(bytes: &mut [u8]) {
         load[layout::WAITING..].copy_from_slice(&waits.to_ne_bytes());
     }
     for tag in bytes[layout::TAGS_AT..].chunks_exact_mut(layout::TAG) {
-        let (valid, dirty) = (tag[0] & 1, tag[layout::DIRTY] & 1);
+        let (valid, dirty) = (tag[0] & 1, tag[layout::DIRTY] & 15);
         (tag[0], tag[layout::DIRTY], tag[layout::UNUSED]) = (valid, dirty, 0);
     }
 }

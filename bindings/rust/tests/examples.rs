@@ -1,5 +1,5 @@
-//! The scope paper's worked script by calls, every refusal, starts, write-through,
-//! show line's part, and what an image tells.
+//! The scope paper's worked script by calls, every refusal, starts, write-through, dirty
+//! words, show line's part, and what an image tells.
 
 mod beside;
 mod numbered;
@@ -146,11 +146,12 @@ fn images_that_stand_for_no_state() {
 fn stand_for_no_state(unit: Unit) {
     let flags = [(layout::REQUESTED, 2), (layout::REQUESTED, u32::MAX), (layout::REQUESTED, 0)];
     let of_load = [(LOADS_AT + layout::WAITING, 2)];
-    // Its flags with its line, and its unused byte with the next record.
-    let of_tag = [(TAGS_AT, 2), (TAGS_AT + layout::DIRTY, 255), (TAGS_AT + layout::UNUSED, 1)];
+    // Its flag with its dirty marks and its line, and its unused byte with the next record.
+    let of_tag = [(TAGS_AT, 2), (TAGS_AT + layout::UNUSED, 1)];
     let profiles = NO_PROFILES.map(|profile| (layout::PROFILE, profile));
     for (at, word) in flags.into_iter().chain(of_load).chain(of_tag).chain(profiles) {
         let ill = damaged(&unit, at, word);
+        assert!(!beside::stands(ill.image()), "{at} {word}");
         refuses(&ill, Refusal::State, |u| u.idle());
         refuses(&ill, Refusal::State, |u| u.load(0, 3));
         assert_eq!(ill.show_line(16), Part { place: 0, bytes: &[] });
@@ -255,23 +256,107 @@ fn write_through_to_an_absent_line() -> Result<(), Refusal> {
     Ok(())
 }
 
-/// A drain to a present line writes memory and the line, and uses it. The line becomes
+/// A drain to a present line writes memory and the line, and uses it. The word becomes
 /// dirty in write-back alone, where memory stays.
 #[test]
 fn drains_to_a_present_line() -> Result<(), Refusal> {
-    for (policy, stored, lines) in [(WriteBack, 5, 1), (WriteThrough, 200, 0)] {
+    for (policy, stored, dirty, words) in [(WriteBack, 5, 0b10, 1), (WriteThrough, 200, 0, 0)] {
         let mut unit = started_with(figures(1, 2).with_policy(policy), 48);
         fill(&mut unit, 0)?;
         fill(&mut unit, 16)?;
         assert_eq!(unit.image().tag(0).map(|tag| tag.age), Some(1));
         assert_eq!(drain(&mut unit, 4, 200)?, Answer::Drained(3));
         assert_eq!((unit.cache()[4], unit.memory()[4]), (200, stored), "{policy:?}");
-        let used = Tag { valid: true, dirty: policy == WriteBack, line: 0, age: 0 };
+        let used = Tag { valid: true, dirty, line: 0, age: 0 };
         assert_eq!(unit.image().tag(0), Some(used));
-        assert_eq!(unit.flush()?, Answer::Flushed(lines));
+        assert_eq!(unit.flush()?, Answer::Flushed(words));
         assert_eq!(unit.memory()[4], 200);
     }
     Ok(())
+}
+
+/// The dirty marks of record 0.
+fn marks(unit: &Unit) -> Option<u8> {
+    unit.image().tag(0).map(|tag| tag.dirty)
+}
+
+/// Drains mark the words that they write, each once, and leave memory. A flush writes the
+/// words marked, answers how many and leaves them clean.
+#[test]
+fn drains_mark_words_and_flushes_write_them() -> Result<(), Refusal> {
+    let rounds = [
+        (vec![5, 6], 0b10, 1),
+        (vec![11, 12], 0b1100, 2),
+        (vec![15, 3, 8, 4, 9, 0], 0b1111, 4),
+        (vec![], 0, 0),
+    ];
+    let mut unit = started(1, 1, 48);
+    fill(&mut unit, 0)?;
+    for (value, (addresses, dirty, words)) in (200..).zip(rounds) {
+        let (found, mut expected) = (unit.memory().to_vec(), unit.memory().to_vec());
+        for &address in &addresses {
+            let drained = drain(&mut unit, address, value)?;
+            assert_eq!(drained, Answer::Drained(unit.image().last()));
+            expected[address as usize] = value as u8;
+        }
+        assert_eq!((marks(&unit), unit.memory()), (Some(dirty), &found[..]), "{addresses:?}");
+        assert_eq!(unit.flush()?, Answer::Flushed(words), "{addresses:?}");
+        assert_eq!((marks(&unit), unit.memory()), (Some(0), &expected[..]), "{addresses:?}");
+    }
+    Ok(())
+}
+
+/// A store of each width to each place of a line marks one word, the one that it lies in.
+#[test]
+fn words_of_stores() -> Result<(), Refusal> {
+    for width in [1, 2, 4] {
+        for address in (0..16).step_by(width as usize) {
+            let mut unit = started(1, 1, 32);
+            fill(&mut unit, 0)?;
+            unit.store(address, width, 1)?;
+            unit.commit(2)?;
+            assert_eq!(unit.idle()?, Answer::Drained(2));
+            assert_eq!(marks(&unit), Some(1 << (address / 4)), "{address} {width}");
+            assert_eq!(unit.flush()?, Answer::Flushed(1));
+        }
+    }
+    Ok(())
+}
+
+/// Each choice of words of a line, drained to and then evicted: memory has the line, and
+/// the new one is clean.
+#[test]
+fn evictions_write_dirty_words() -> Result<(), Refusal> {
+    for dirty in 0..16 {
+        let mut unit = started(1, 1, 48);
+        let mut expected = unit.memory().to_vec();
+        fill(&mut unit, 0)?;
+        for address in (1..16).step_by(4).filter(|address| dirty >> (address / 4) & 1 == 1) {
+            drain(&mut unit, address, 200)?;
+            expected[address as usize] = 200;
+        }
+        assert_eq!(marks(&unit), Some(dirty));
+        let next = unit.image().last() + 1;
+        assert_eq!(fill(&mut unit, 16)?, Answer::Value { number: next, value: 17 });
+        assert_eq!(unit.memory(), expected, "{dirty:#b}");
+        let filled = Tag { valid: true, dirty: 0, line: 1, age: 0 };
+        assert_eq!((unit.image().tag(0), unit.flush()?), (Some(filled), Answer::Flushed(0)));
+        assert_eq!(unit.memory(), expected, "{dirty:#b}");
+    }
+    Ok(())
+}
+
+/// What a tag record tells of its words, marks above the fourth left out.
+#[test]
+fn words_of_tags() {
+    for dirty in 0..=u8::MAX {
+        let tag = Tag { dirty, ..Tag::default() };
+        let told = [0, 1, 2, 3, 4, 7, 8, usize::MAX].map(|word| tag.is_dirty(word));
+        let [first, second, third, fourth] = [1, 2, 4, 8].map(|mark| dirty & mark != 0);
+        assert_eq!(told, [first, second, third, fourth, false, false, false, false], "{dirty}");
+        let words = told.into_iter().filter(|dirty| *dirty).count();
+        assert_eq!(tag.dirty_words() as usize, words, "{dirty}");
+    }
 }
 
 /// Write-through takes no state with a dirty line, and none with a line requested for a
@@ -367,7 +452,7 @@ fn what_an_image_tells() {
     assert_eq!(unit.reply(), Ok(Answer::Filled(16)));
     let image = unit.image();
     assert_eq!(image.requested(), None);
-    let filled = Tag { valid: true, dirty: false, line: 1, age: 0 };
+    let filled = Tag { valid: true, dirty: 0, line: 1, age: 0 };
     assert_eq!(image.tag(0), Some(filled));
     assert_eq!(image.tag(256), None);
     assert_eq!(Image::from_bytes(image.to_bytes()), *image);

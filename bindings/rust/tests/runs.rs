@@ -6,12 +6,13 @@
 
 mod beside;
 
-use beside::{in_each_profile, judge, times, Bench, Beside};
+use beside::{in_each_profile, judge, tags, times, Bench, Beside};
 use compare::counts::{Counts, Needed};
 use compare::met;
 use compare::random::{self, Mix, Rng, Run};
+use compare::traffic::Dirty;
 use compare::types::{Answer, Call, Setup};
-use nicoisetarn::{Image, LINE, RECORDS};
+use nicoisetarn::{Image, LINE, WORD};
 
 /// What runs met, for each of `PROFILES`.
 type ByProfile = [Counts; 2];
@@ -36,31 +37,31 @@ fn play(run: &Run, counts: &mut ByProfile) -> Result<(), String> {
 
 /// Counts where a call wrote, by the images before and after it.
 fn count_writes(counts: &mut Counts, answer: Answer, before: &Image, after: &Image) {
+    let (was, is) = (dirty_of(before), dirty_of(after));
+    counts.met_dirty(answer, was, is);
     match answer {
-        Answer::Filled(_) => {
-            counts.met("eviction of a dirty line", dirty_lines(after) < dirty_lines(before));
-        }
         Answer::Drained(_) => {
             let line = before.stores()[0].address / LINE as u32;
-            counts.met("drain to an absent line", !is_present(before, line));
-            counts.met("drain to a present line", is_present(before, line));
+            let present = tags(before).any(|(_, tag)| tag.valid && tag.line == line);
+            counts.met("drain to an absent line", !present);
+            counts.met("drain to a present line", present);
             counts.met("drain to a requested line", before.requested() == Some(line));
         }
-        Answer::Flushed(lines) => {
-            counts.met("flush of a line", lines > 0);
-            counts.met("flush of several lines", lines > 1);
-        }
+        // "flush answers the count of words"
+        Answer::Flushed(words) => assert_eq!((u64::from(words), is), (was.words, Dirty::default())),
         _ => {}
     }
 }
 
-fn dirty_lines(image: &Image) -> usize {
-    (0..RECORDS).filter(|record| image.tag(*record).is_some_and(|tag| tag.dirty)).count()
-}
-
-fn is_present(image: &Image, line: u32) -> bool {
-    let mut records = (0..RECORDS).filter_map(|record| image.tag(record));
-    records.any(|tag| tag.valid && tag.line == line)
+/// What is dirty in an image, as its accessors tell it.
+fn dirty_of(image: &Image) -> Dirty {
+    let words: Vec<u32> = tags(image).map(|(_, tag)| tag.dirty_words()).collect();
+    let count = |counted: fn(&&u32) -> bool| words.iter().filter(counted).count() as u64;
+    Dirty {
+        lines: count(|words| **words > 0),
+        words: words.iter().sum::<u32>().into(),
+        whole: count(|words| **words as usize == LINE / WORD),
+    }
 }
 
 /// What both kinds of runs must meet in each write profile, out of so many calls.
@@ -85,13 +86,22 @@ const NEEDED: [(&str, u64); 13] = [
 const PROFILES: [(&str, &Needed, &[&str]); 2] = [
     (
         "write-back",
-        &[("eviction of a dirty line", 200), ("flush of several lines", 2_000)],
+        &[
+            ("eviction of a dirty line", 200),
+            ("eviction of one dirty word", 500),
+            ("eviction of two or three dirty words", 2_000),
+            ("drain to a dirty word", 200),
+            ("drain to a clean word of a dirty line", 200),
+            ("drain that leaves a line dirty whole", 3_000),
+            ("flush of several lines", 2_000),
+            ("flush of more words than lines", 2_000),
+        ],
         &["drain to an absent line"],
     ),
     (
         "write-through",
         &[("drain to an absent line", 200), ("drain to a requested line", 100_000)],
-        &["eviction of a dirty line", "flush of a line"],
+        &["eviction of a dirty line", "flush of a dirty line", "drain to a dirty word"],
     ),
 ];
 

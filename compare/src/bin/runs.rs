@@ -1,5 +1,5 @@
-//! Plays random runs on the right model under all the checks, prints what they
-//! met, and fails where a check fails or too little was met.
+//! Plays random runs on the right model under all the checks, prints what they met and
+//! the bytes that they wrote back, and fails where a check fails or too little was met.
 //!
 //! `runs [--runs N] [--seed S]` plays the runs of the seeds S, S + 1, and so on;
 //! `runs --only SEED` plays the run of one seed and prints its calls with their answers.
@@ -67,7 +67,7 @@ fn play_many(runs: u64, seed: u64) -> Result<(), String> {
         let met = examine(&run, Fault::None.step(), Checks::ALL);
         counts.add(run.figures.policy, &met.map_err(|failure| failure.to_string())?);
     }
-    print!("{counts}");
+    print!("{counts}{}", counts.traffic());
     let lacking = counts.lacking();
     if !lacking.is_empty() {
         return Err(format!("seed {seed}: too little met: {}", lacking.join(", ")));

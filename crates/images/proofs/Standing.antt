@@ -100,22 +100,21 @@ imaged-load l e = λ j. record { number = l .number; address = l .address; width
 
 opened-tag : (t : Tag) → openedTag (imagedTag t) ≡ t
 unfolding openedTag imagedTag
-opened-tag t = λ j. record { valid = set-flag (t .valid) j; dirty = set-flag (t .dirty) j; line = t .line; age = t .age }
+opened-tag t = λ j. record { valid = set-flag (t .valid) j; dirty = t .dirty; line = t .line; age = t .age }
 
 tag-stand : (t : Tag) → tagStands (imagedTag t) ≡ true
 unfolding tagStands imagedTag
-tag-stand t = rw (flag-flag (t .valid), flag-flag (t .dirty))
+tag-stand t = rw (flag-flag (t .valid))
 
 imaged-tag : (t : TagImage) → tagStands t ≡ true → imagedTag (openedTag t) ≡ t
 unfolding tagStands openedTag imagedTag
 imaged-tag t e =
-    let rest : (isFlag (t .dirty) && eqb (t .unused) 0) ≡ true = and-right (isFlag (t .valid)) _ e in
     λ j. record {
       valid = flag-set (t .valid) (and-left (isFlag (t .valid)) _ e) j;
-      dirty = flag-set (t .dirty) (and-left (isFlag (t .dirty)) _ rest) j;
+      dirty = t .dirty;
       line = t .line;
       age = t .age;
-      unused = sym (eqb-true (t .unused) 0 (and-right (isFlag (t .dirty)) _ rest)) j;
+      unused = sym (eqb-true (t .unused) 0 (and-right (isFlag (t .valid)) _ e)) j;
     }
 
 -- ---- records that are zero

@@ -92,15 +92,15 @@ loadStands l = isFlag (l .waiting)
 
 -- the record of its image
 unfoldable pub openedTag : TagImage → Tag
-openedTag t = record { valid = isSet (t .valid); dirty = isSet (t .dirty); line = t .line; age = t .age }
+openedTag t = record { valid = isSet (t .valid); dirty = t .dirty; line = t .line; age = t .age }
 
 -- the image of a record
 unfoldable pub imagedTag : Tag → TagImage
-imagedTag t = record { valid = flagOf (t .valid); dirty = flagOf (t .dirty); line = t .line; age = t .age; unused = 0 }
+imagedTag t = record { valid = flagOf (t .valid); dirty = t .dirty; line = t .line; age = t .age; unused = 0 }
 
--- its flags are 0 or 1, and the unused byte is 0
+-- its flag is 0 or 1, and the unused byte is 0
 unfoldable pub tagStands : TagImage → Bool
-tagStands t = isFlag (t .valid) && (isFlag (t .dirty) && eqb (t .unused) 0)
+tagStands t = isFlag (t .valid) && eqb (t .unused) 0
 
 -- ---- records that need a look
 

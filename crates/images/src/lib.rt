@@ -45,7 +45,7 @@ pub struct LoadImage {
 pub struct TagImage {
     // 0 or 1
     pub valid: u8,
-    // 0 or 1
+    // the dirty marks, any number; 16 and more is not well formed
     pub dirty: u8,
     pub line: u16,
     pub age: u8,

@@ -11,14 +11,14 @@ use rules::NO_TAG;
 use rules::TAG_RECORDS;
 use rules::Tag;
 
-fn open_tag(t: TagImage) -> Tag
-    ensures { λ r. ⌜ r ≡ openedTag t ⌝ }
+fn open_tag(image: TagImage) -> Tag
+    ensures { λ r. ⌜ r ≡ openedTag image ⌝ }
 {
     Tag {
-        valid: t.valid == 1,
-        dirty: t.dirty == 1,
-        line: t.line,
-        age: t.age,
+        valid: image.valid == 1,
+        dirty: image.dirty,
+        line: image.line,
+        age: image.age,
     }
 }
 
@@ -107,7 +107,7 @@ fn image_tag(t: Tag) -> TagImage
 {
     TagImage {
         valid: flag(t.valid),
-        dirty: flag(t.dirty),
+        dirty: t.dirty,
         line: t.line,
         age: t.age,
         unused: 0,
@@ -132,9 +132,6 @@ fn tag_stands(t: TagImage) -> bool
     ensures { λ r. ⌜ r ≡ tagStands t ⌝ }
 {
     if 1 < t.valid {
-        return false;
-    }
-    if 1 < t.dirty {
         return false;
     }
     t.unused == 0

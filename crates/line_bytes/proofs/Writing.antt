@@ -1,28 +1,30 @@
 -- Laws for the bytes of lines and of stores: what each turn of a loop does, what the loop amounts to, and what a function leaves where
 -- the places lie in the bytes.
 use mathlib.Core.Path.{_≡_, refl, sym, ap, _∙_}
-use mathlib.Core.Bool.{true, false, cond, _&&_}
+use mathlib.Core.Bool.{Bool, true, false, cond, _&&_}
 use mathlib.Core.List.{List}
 use Prim.Native.Nat.{ℕ, zero, suc, _+_, _*_, _-_, _/_, _%_, _^_, _<_, _≤_}
 use native.Mathlib.Nat.{pow-suc, div-div-eq-div-mul}
 use native.Mathlib.Numerals.{add-one}
 use native.Mathlib.Omega.{arith}
 use lib.Dec.{ltb, leb, eqb}
-use lib.ListN.{length, getD, take, drop, length-take, length-drop}
-use lib.Seq.{getD-take, getD-drop, getD-set-other}
+use lib.ListN.{length, getD, set, take, drop, length-take, length-drop}
+use lib.Seq.{getD-take, getD-drop, getD-set-other, set-getD}
 use borrow.Author.Tests.{ltb-true, leb-true, leb-false, lt-ltb, le-leb, lt-leb, eq-eqb, ne-eqb}
 use Rattle.lists.specs.Counted.{stepsFrom, eachFrom}
 use Rattle.lists.specs.Bytes.{byteOf, among, overlaid}
 use Rattle.lists.proofs.Cond.{either, cases, and-left, and-right, and-both, wrong}
 use Rattle.lists.proofs.Counting.{each-length}
-use Rattle.lists.proofs.CountedLoops.{change, changes-each, each-id, each-ext}
+use Rattle.lists.proofs.CountedLoops.{change, changes-each, steps-on, each-id, each-ext}
 use Rattle.rules.specs.declared.Tag.{Tag}
 use Rattle.rules.specs.declared.StoreEntry.{StoreEntry}
 use Rattle.rules.specs.declared.WritePolicy.{WritePolicy}
 use Rattle.rules.specs.declared.WritePolicy.the-variants.{WriteBack, WriteThrough}
 use Rattle.rules.specs.Shape.{Hierarchy, holding, noFigures, noTag, tagAt, withDirty, lineOf}
-use Rattle.rules.specs.Lines.{dirtyAt, writtenThroughAt, writtenBackAt, writeBackSlot, copiedAt}
-use Rattle.line_bytes.specs.Writes.{lineInside, filledAt, lineFilled, lineWritten, linesWritten, flushedMemory, DirtyInside, placesInside, storePut, storedThrough}
+use Rattle.rules.specs.Lines.{isDirtyWord, dirtyAt, isDirty, writtenThroughAt, writtenBackAt, writeBackSlot, copiedAt}
+use Rattle.rules.proofs.Dirty.{clean-byte}
+use Rattle.dirty_words.proofs.Marks.{told-word}
+use Rattle.line_bytes.specs.Writes.{lineInside, filledAt, lineFilled, markedLine, lineWritten, linesWritten, flushedMemory, DirtyInside, placesInside, storePut, storedThrough}
 
 -- ---- a line of 16 bytes
 
@@ -71,32 +73,61 @@ fill-copies memory v l cache h k =
 
 -- ---- write back
 
--- slot v of the cache, filled into its line of memory
-fill-saves :
-    (t : Tag) (cache : List ℕ) (v : ℕ) (memory : List ℕ) → t .dirty ≡ true
-    → eachFrom (filledAt (t .line) (take 16 (drop (16 * v) cache))) 0 memory ≡ eachFrom (writtenBackAt t cache v) 0 memory
-unfolding writtenBackAt lineOf dirtyAt
-fill-saves t cache v memory d =
-    each-ext _ (writtenBackAt t cache v)
-    (λ a x. rw d (ap (λ (y : ℕ). cond (eqb (a / 16) (t .line)) y x) (part-byte cache v (a % 16) (omega arith)))) memory
+module _ (t : Tag) (cache : List ℕ) (v : ℕ) where
+  -- the bytes of the line, one after the other
+  pub words-each :
+      (memory : List ℕ) → stepsFrom (change (writtenBackAt t cache v) 0) (16 * t .line) 16 memory ≡ eachFrom (writtenBackAt t cache v) 0 memory
+  unfolding writtenBackAt lineOf
+  words-each memory =
+      changes-each (writtenBackAt t cache v) 0 (16 * t .line) 16 memory
+      (λ k x o. rw (ne-eqb (k / 16) (t .line) (λ e. o (omega arith) (omega arith))) (cases (dirtyAt t (k % 16)) (λ d. rw d) (λ d. rw d)))
 
--- a clean line is not written
-clean-saves :
-    (t : Tag) (cache : List ℕ) (v : ℕ) (memory : List ℕ) → t .dirty ≡ false → memory ≡ eachFrom (writtenBackAt t cache v) 0 memory
-unfolding writtenBackAt dirtyAt
-clean-saves t cache v memory d = sym (each-ext (writtenBackAt t cache v) (λ a x. x) (λ a x. rw d) memory ∙ each-id memory)
+  module _ (i : ℕ) (h : i < 16) (dirty : Bool) (told : dirty ≡ (ltb (i / 4) 4 && isDirtyWord (t .dirty) (i / 4))) where
+    byte-told : dirtyAt t ((16 * t .line + i) % 16) ≡ dirty
+    unfolding dirtyAt
+    byte-told =
+        let m : (16 * t .line + i) % 16 ≡ i = omega arith in
+        rw m (told-word (t .dirty) (i / 4) (omega arith) told)
+
+    -- byte i of the line, in a dirty word and in a clean one
+    byte-written : dirty ≡ true → (x : ℕ) → writtenBackAt t cache v (16 * t .line + i) x ≡ getD cache (16 * v + i) 0
+    unfolding writtenBackAt lineOf
+    byte-written d x =
+        let m : (16 * t .line + i) % 16 ≡ i = omega arith in
+        rw (byte-told ∙ d, eq-eqb ((16 * t .line + i) / 16) (t .line) (omega arith), m)
+
+    byte-kept : dirty ≡ false → (x : ℕ) → writtenBackAt t cache v (16 * t .line + i) x ≡ x
+    unfolding writtenBackAt
+    byte-kept d x = rw (byte-told ∙ d)
+
+    -- a turn of the loop, from memory m to memory n
+    module _ (m n : List ℕ) where
+      abbrev Turn : Type 0
+      Turn =
+          stepsFrom (change (writtenBackAt t cache v) 0) (16 * t .line + i) (16 - i) m
+          ≡ stepsFrom (change (writtenBackAt t cache v) 0) (16 * t .line + (i + 1)) (16 - (i + 1)) n
+
+      pub turn-dirty : dirty ≡ true → n ≡ set m (16 * t .line + i) (getD cache (16 * v + i) 0) → Turn
+      turn-dirty d e = steps-on _ (16 * t .line) i 16 m h ∙ rw (e, byte-written d)
+
+      pub turn-clean : dirty ≡ false → n ≡ m → Turn
+      turn-clean d e = steps-on _ (16 * t .line) i 16 m h ∙ rw (e, byte-kept d, set-getD m (16 * t .line + i) 0)
+
+  -- a clean line is not written
+  clean-saves : (memory : List ℕ) → isDirty t ≡ false → memory ≡ eachFrom (writtenBackAt t cache v) 0 memory
+  unfolding writtenBackAt
+  clean-saves memory d =
+      sym (each-ext (writtenBackAt t cache v) (λ a x. x) (λ a x. rw (clean-byte t (a % 16) d)) memory ∙ each-id memory)
 
 module _ (t : Tag) (v : ℕ) (cache memory : List ℕ) where
-  -- what a write back leaves: a dirty line, a clean one, and a slot that is not in the cache
-  pub written-dirty :
-      t .dirty ≡ true → 16 * v + 16 ≤ length cache
-      → lineFilled (t .line) (take 16 (drop (16 * v) cache)) memory ≡ lineWritten t v cache memory
-  unfolding lineFilled lineWritten
-  written-dirty d h =
-      rw (eq-eqb (length (take 16 (drop (16 * v) cache))) 16 (part-long cache v h), le-leb (16 * v + 16) (length cache) h)
-      (ap (λ (m : List ℕ). cond (lineInside (t .line) (length memory)) m memory) (fill-saves t cache v memory d))
+  -- what a write back leaves: dirty words written, a clean line, a slot that is not in the cache, and a line that is not in memory
+  pub written-words :
+      16 * v + 16 ≤ length cache → 16 * t .line + 16 ≤ length memory
+      → eachFrom (writtenBackAt (markedLine (t .dirty) (t .line)) cache v) 0 memory ≡ lineWritten t v cache memory
+  unfolding lineWritten writtenBackAt dirtyAt
+  written-words h k = rw (le-leb (16 * v + 16) (length cache) h, le-leb (16 * t .line + 16) (length memory) k)
 
-  pub written-clean : t .dirty ≡ false → memory ≡ lineWritten t v cache memory
+  pub written-clean : isDirty t ≡ false → memory ≡ lineWritten t v cache memory
   unfolding lineWritten
   written-clean d =
       either (λ (r : List ℕ). memory ≡ r) (lineInside v (length cache) && lineInside (t .line) (length memory))
@@ -106,6 +137,11 @@ module _ (t : Tag) (v : ℕ) (cache memory : List ℕ) where
   unfolding lineWritten
   written-outside h = rw (lt-leb (16 * v + 16) (length cache) h)
 
+  pub written-nowhere : length memory < 16 * t .line + 16 → memory ≡ lineWritten t v cache memory
+  unfolding lineWritten
+  written-nowhere h =
+      rw (lt-leb (16 * t .line + 16) (length memory) h) (cases (lineInside v (length cache)) (λ e. rw e) (λ e. rw e))
+
   pub written-length : length (lineWritten t v cache memory) ≡ length memory
   unfolding lineWritten
   written-length =
@@ -114,11 +150,11 @@ module _ (t : Tag) (v : ℕ) (cache memory : List ℕ) where
 
   -- where the slot lies in the cache, and the line in memory if it is dirty
   pub written-inside :
-      16 * v + 16 ≤ length cache → (t .dirty ≡ true → 16 * t .line + 16 ≤ length memory)
+      16 * v + 16 ≤ length cache → (isDirty t ≡ true → 16 * t .line + 16 ≤ length memory)
       → lineWritten t v cache memory ≡ eachFrom (writtenBackAt t cache v) 0 memory
   unfolding lineWritten
   written-inside h k =
-      cases (t .dirty)
+      cases (isDirty t)
       (λ d. rw (le-leb (16 * v + 16) (length cache) h, le-leb (16 * t .line + 16) (length memory) (k d)))
       (λ d. sym (written-clean d) ∙ clean-saves t cache v memory d)
 
@@ -153,7 +189,7 @@ module _ (tags : List Tag) (cache : List ℕ) (count size : ℕ) (h : 16 * count
       ∙ slots-written n (suc k) (writtenBack tags cache k memory) (omega arith) (each-length _ 0 memory ∙ e)
 
 abbrev pub cleaned : ℕ → Tag → Tag
-cleaned k t = withDirty false t
+cleaned k t = withDirty 0 t
 
 -- a flush works on the records and on memory separately, since each record is written only once
 pub saves :

@@ -1,4 +1,4 @@
--- What is written to lent bytes, on any numbers and bytes: a line filled, lines written back, a store put in its place, a store drained.
+-- What is written to lent bytes, on any numbers and bytes: a line filled, dirty words written back, a store put in its place, a store drained.
 -- Where the places do not lie in the bytes, nothing changes.
 use Prim.Native.Nat.{ℕ, _+_, _*_, _/_, _%_, _<_, _≤_}
 use mathlib.Core.Path.{_≡_}
@@ -13,7 +13,7 @@ use Rattle.rules.specs.declared.StoreEntry.{StoreEntry}
 use Rattle.rules.specs.declared.WritePolicy.{WritePolicy}
 use Rattle.rules.specs.declared.WritePolicy.the-variants.{WriteBack, WriteThrough}
 use Rattle.rules.specs.Shape.{noFigures, lineBytes, tableSize, tagAt}
-use Rattle.rules.specs.Lines.{writtenBackAt, writeBackSlot}
+use Rattle.rules.specs.Lines.{isDirty, writtenBackAt, writeBackSlot}
 
 -- ---- lines
 
@@ -30,12 +30,16 @@ unfoldable pub lineFilled : ℕ → List ℕ → List ℕ → List ℕ
 lineFilled v src bytes =
     cond (eqb (length src) lineBytes && lineInside v (length bytes)) (eachFrom (filledAt v src) 0 bytes) bytes
 
--- memory, once the line of record t, in slot v, is written back
+-- a record with these marks and this line number: a write back reads no more of it
+abbrev pub markedLine : ℕ → ℕ → Tag
+markedLine marks line = record { valid = true; dirty = marks; line = line; age = 0 }
+
+-- memory, once the dirty words of record t, in slot v, are written back: of any record, cache and memory
 unfoldable pub lineWritten : Tag → ℕ → List ℕ → List ℕ → List ℕ
 lineWritten t v cache memory =
     cond (lineInside v (length cache) && lineInside (t .line) (length memory)) (eachFrom (writtenBackAt t cache v) 0 memory) memory
 
--- memory, once the lines of the first n slots are written back, slot by slot, if the table has so many
+-- memory, once the dirty words of the first n slots are written back, slot by slot, if the table has so many
 unfoldable pub linesWritten : List Tag → ℕ → List ℕ → List ℕ → List ℕ
 linesWritten tags n cache memory =
     cond (leb n tableSize) (stepsFrom (λ k m. lineWritten (tagAt tags k) k cache m) 0 n memory) memory
@@ -47,7 +51,7 @@ flushedMemory n tags cache memory =
 
 -- the dirty lines of the first n slots lie in a memory of so many bytes
 abbrev pub DirtyInside : List Tag → ℕ → ℕ → Type 0
-DirtyInside tags n size = (k : ℕ) → k < n → tagAt tags k .dirty ≡ true → 16 * tagAt tags k .line + 16 ≤ size
+DirtyInside tags n size = (k : ℕ) → k < n → isDirty (tagAt tags k) ≡ true → 16 * tagAt tags k .line + 16 ≤ size
 
 -- ---- stores
 

@@ -1,14 +1,16 @@
-// The bytes of lines, in a lent cache and a lent memory: a line filled, a line written back, a store put in its place or drained to
+// The bytes of lines, in a lent cache and a lent memory: a line filled, its dirty words written back, a store put in its place or drained to
 // memory, and what a load reads: each byte from the held stores, else from the cached line.
 // A public function takes any record, any numbers and bytes of any length. Where the places do not lie in the bytes it changes
 // nothing, or reads nothing.
 // A line of the cache is named by its slot, s × ways + w for way w of set s.
 ghost use mathlib.Core.Path.{_≡_};
 ghost use mathlib.Core.Bool.{true};
-ghost use Prim.Native.Nat.{_+_, _<_, _≤_};
+ghost use Prim.Native.Nat.{_+_, _*_, _<_, _≤_};
 ghost use lib.ListN.{length};
 ghost use Rattle.lists.specs.Bytes.{gather};
-ghost use Rattle.line_bytes.specs.Writes.{placesInside, lineFilled, lineWritten, linesWritten, storePut, storedThrough};
+ghost use Rattle.lists.specs.Counted.{eachFrom};
+ghost use Rattle.rules.specs.Lines.{writtenBackAt};
+ghost use Rattle.line_bytes.specs.Writes.{placesInside, lineFilled, markedLine, lineWritten, linesWritten, storePut, storedThrough};
 ghost use Rattle.line_bytes.specs.Reads.{readable, byteFrom, byteOrLine, joinedTo, readOf, bytesRead, isLacking};
 use rules::LINE_LENGTH;
 use rules::MAX_MEMORY;
@@ -16,6 +18,7 @@ use rules::STORE_PLACES;
 use rules::StoreEntry;
 use rules::TAG_RECORDS;
 use rules::Tag;
+use rules::WORD_LENGTH;
 use rules::WritePolicy;
 use store_queue::Byte;
 
@@ -30,8 +33,7 @@ pub enum Read {
 
 // ---- lines
 
-// The 16 bytes of src go into slot v: "the reply copies the line's 16 bytes out of the middle of memory". (Write back uses it the
-// other way: memory in place of the cache, the line number in place of the slot.)
+// The 16 bytes of src go into slot v: "the reply copies the line's 16 bytes out of the middle of memory".
 pub fn fill_slot(cache: &mut [u8], v: usize, src: &[u8])
     ensures { λ _. ⌜ now (cache .exit) ≡ lineFilled v (now (src .entry)) (now (cache .entry)) ⌝ }
 {
@@ -47,21 +49,38 @@ pub fn fill_slot(cache: &mut [u8], v: usize, src: &[u8])
     }
 }
 
-// "A dirty victim is first written to memory": the line of record t, in slot v, if it is dirty.
+// The words of slot v that are dirty by these marks go to a line of memory: each byte, if its word is dirty.
+fn write_words(marks: u8, line: usize, v: usize, cache: &[u8], memory: &mut [u8])
+    requires { ⌜ (16 * v + 16 ≤ length (now cache)) × (16 * line + 16 ≤ length (now memory)) ⌝ }
+    ensures { λ _. ⌜ now (memory .exit) ≡ eachFrom (writtenBackAt (markedLine marks line) (now (cache .entry)) v) 0 (now (memory .entry)) ⌝ }
+{
+    let from = LINE_LENGTH * v;
+    let to = LINE_LENGTH * line;
+    let mut i: usize = 0;
+    while i < LINE_LENGTH {
+        if dirty_words::is_dirty(marks, i / WORD_LENGTH) {
+            memory[to + i] = cache[from + i];
+        }
+        i += 1;
+    }
+}
+
+// 02, card 2: "Eviction and flush write marked words only": those of the line of record t, in slot v. (For any record and any memory: in a
+// well-formed state a clean word equals memory, and nobody could tell whether it is written.)
 pub fn write_back(t: Tag, v: usize, cache: &[u8], memory: &mut [u8])
     ensures { λ _. ⌜ now (memory .exit) ≡ lineWritten t v (now (cache .entry)) (now (memory .entry)) ⌝ }
 {
-    if t.dirty {
+    if t.dirty != 0 {
         if v < cache.len() / LINE_LENGTH {
             let line = t.line as usize;
-            let from = LINE_LENGTH * v;
-            let end = from + LINE_LENGTH;
-            fill_slot(memory, line, &cache[from..end]);
+            if line < memory.len() / LINE_LENGTH {
+                write_words(t.dirty, line, v, cache, memory);
+            }
         }
     }
 }
 
-// "writes every dirty line to memory": the lines of the first count slots, slot by slot.
+// The dirty words of the first count slots, slot by slot.
 pub fn write_back_all(tags: [Tag; TAG_RECORDS], count: usize, cache: &[u8], memory: &mut [u8])
     ensures { λ _. ⌜ now (memory .exit) ≡ linesWritten tags count (now (cache .entry)) (now (memory .entry)) ⌝ }
 {

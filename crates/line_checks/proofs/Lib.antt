@@ -1,3 +1,3 @@
+pub mod EightBytes
 pub mod Figures
 pub mod SlotTests
-pub mod Words

@@ -10,7 +10,7 @@ use native.Mathlib.Omega.{arith}
 use native.Mathlib.Decide.{ℕ-discrete, decLt}
 use lib.Dec.{ltb, leb, eqb}
 use lib.ListN.{length, getD, drop, List·getD-eq-default}
-use borrow.Author.Tests.{ltb-true, ltb-false, leb-true, eqb-true, lt-ltb, le-ltb, eq-eqb, ne-eqb, not-true}
+use borrow.Author.Tests.{ltb-true, ltb-false, leb-true, eqb-true, lt-ltb, le-ltb, le-leb, eq-eqb, ne-eqb, not-true, not-false}
 use Rattle.lists.specs.Padded.{every}
 use Rattle.lists.specs.Counted.{allFrom}
 use Rattle.lists.proofs.Cond.{cases, and-left, and-right, and-both, or-one, or-two, or-then, or-by, none-or, wrong}
@@ -19,12 +19,13 @@ use Rattle.lists.proofs.CountedLoops.{all-end}
 use Rattle.rules.specs.declared.Figures.{Figures}
 use Rattle.rules.specs.declared.Tag.{Tag}
 use Rattle.rules.specs.Shape.{Hierarchy, noTag, tagAt, slots, firstSlot, setsAllowed, waysAllowed, figuresAllowed, isThrough, fits}
-use Rattle.rules.specs.Lines.{holdsLine, dirtyAt}
+use Rattle.rules.specs.Lines.{holdsLine, isDirtyWord, dirtyAt, isDirty}
 use Rattle.rules.specs.WellFormed.{zeroTag, linesFormed}
 use Rattle.rules.proofs.Records.{set-room}
+use Rattle.rules.proofs.Dirty.{clean-byte, clean-few, no-tag-clean, no-tag-few}
 use Rattle.rules.proofs.Recency.{Ages, recency-ages, ages-recency}
 use Rattle.rules.proofs.LineFacts.{Fits, Good, good-tells, good-is}
-use Rattle.line_checks.specs.SlotTests.{sameBytes, zeroBytes, validGood, invalidGood, slotGood, sameAgeOrLine, apartFrom, nothing}
+use Rattle.line_checks.specs.SlotTests.{sameBytes, wordGood, marksGood, zeroBytes, validGood, invalidGood, slotGood, sameAgeOrLine, apartFrom, nothing}
 
 -- ---- numbers
 
@@ -47,10 +48,42 @@ few-ways b e =
 
 -- ---- one record
 
--- a dirty line is dirty at each byte
-whole-line : (t : Tag) (i : ℕ) → dirtyAt t i ≡ t .dirty
-unfolding dirtyAt
-whole-line t i = refl
+-- bytes are compared one by one
+same-tells : (cache memory : List ℕ) (at from count : ℕ) → sameBytes cache at memory from count ≡ true → (i : ℕ) → i < count → getD cache (at + i) 0 ≡ getD memory (from + i) 0
+unfolding sameBytes
+same-tells cache memory at from count e i h = eqb-true _ _ (all-at _ count 0 e i (omega arith) (omega arith))
+
+same-is : (cache memory : List ℕ) (at from count : ℕ) → ((i : ℕ) → i < count → getD cache (at + i) 0 ≡ getD memory (from + i) 0) → sameBytes cache at memory from count ≡ true
+unfolding sameBytes
+same-is cache memory at from count h = all-by _ count 0 (λ i p q. eq-eqb _ _ (h i (omega arith)))
+
+-- a dirty line passes if there are four marks, and each clean byte equals memory
+module _ (t : Tag) (cache memory : List ℕ) (at from : ℕ) where
+  abbrev Clean : Type 0
+  Clean = (i : ℕ) → dirtyAt t i ≡ false → i < 16 → getD cache (at + i) 0 ≡ getD memory (from + i) 0
+
+  marks-tell : marksGood (t .dirty) cache at memory from ≡ true → (t .dirty ≤ 15) × Clean
+  unfolding marksGood wordGood dirtyAt
+  marks-tell e = (
+    leb-true (t .dirty) 15 (and-left _ _ e),
+    λ i d h.
+        let word = or-then (isDirtyWord (t .dirty) (i / 4)) _ (all-at _ 4 0 (and-right (leb (t .dirty) 15) _ e) (i / 4) (omega arith) (omega arith)) d in
+        let p : at + 4 * (i / 4) + i % 4 ≡ at + i = omega arith in
+        let q : from + 4 * (i / 4) + i % 4 ≡ from + i = omega arith in
+        rw (← p, ← q) (same-tells cache memory (at + 4 * (i / 4)) (from + 4 * (i / 4)) 4 word (i % 4) (omega arith)),
+  )
+
+  marks-are : t .dirty ≤ 15 → Clean → marksGood (t .dirty) cache at memory from ≡ true
+  unfolding marksGood wordGood dirtyAt
+  marks-are few clean =
+      and-both (leb (t .dirty) 15) _ (le-leb (t .dirty) 15 few)
+      (all-by _ 4 0 (λ n low high.
+      or-by (isDirtyWord (t .dirty) n) _ (λ d.
+      same-is cache memory (at + 4 * n) (from + 4 * n) 4 (λ i h.
+      let m : (4 * n + i) / 4 ≡ n = omega arith in
+      let p : at + (4 * n + i) ≡ at + 4 * n + i = omega arith in
+      let q : from + (4 * n + i) ≡ from + 4 * n + i = omega arith in
+      rw (← p, ← q) (clean (4 * n + i) (ap (isDirtyWord (t .dirty)) m ∙ d) (omega arith))))))
 
 module _ (f : Figures) (size : ℕ) (cache memory : List ℕ) (s k : ℕ) (t : Tag) where
   abbrev good : Bool
@@ -61,11 +94,12 @@ module _ (f : Figures) (size : ℕ) (cache memory : List ℕ) (s k : ℕ) (t : T
     pub inside : 16 * t .line < size
     pub own : t .line % f .sets ≡ s
     pub clean : (i : ℕ) → dirtyAt t i ≡ false → i < 16 → getD cache (16 * k + i) 0 ≡ getD memory (16 * t .line + i) 0
-    pub undirty : isThrough (f .policy) ≡ true → t .dirty ≡ false
+    pub undirty : isThrough (f .policy) ≡ true → isDirty t ≡ false
+    pub few : t .dirty ≤ 15
 
   -- and of an invalid one
   pub record Invalid : Type 0 where
-    pub undirty : t .dirty ≡ false
+    pub undirty : isDirty t ≡ false
     pub line : t .line ≡ 0
     pub zeroed : (i : ℕ) → i < 16 → getD cache (16 * k + i) 0 ≡ 0
 
@@ -74,33 +108,35 @@ module _ (f : Figures) (size : ℕ) (cache memory : List ℕ) (s k : ℕ) (t : T
   age-tells e = ltb-true (t .age) (f .ways) (and-left (ltb (t .age) (f .ways)) _ e)
 
   valid-tells : good ≡ true → t .valid ≡ true → Valid
-  unfolding slotGood validGood sameBytes
+  unfolding slotGood validGood
   valid-tells e v =
       let g : validGood f size cache memory s k t ≡ true = rw v at (and-right (ltb (t .age) (f .ways)) _ e) in
       let h = and-right (ltb (16 * t .line) size) _ g in
-      record {
-        inside = ltb-true (16 * t .line) size (and-left (ltb (16 * t .line) size) _ g);
-        own = eqb-true (t .line % f .sets) s (and-left (eqb (t .line % f .sets) s) _ h);
-        clean = λ i d l.
-            let same : sameBytes cache (16 * k) memory (16 * t .line) ≡ true = rw (sym (whole-line t i) ∙ d) at (and-right (eqb (t .line % f .sets) s) _ h) in
-            eqb-true _ _ (all-at _ 16 0 same i (omega arith) (omega arith));
-        undirty = λ w.
-            cases (t .dirty) (λ d. let back : not (isThrough (f .policy)) ≡ true = rw d at (and-right (eqb (t .line % f .sets) s) _ h) in wrong w (not-true _ back)) (λ d. d);
-      }
+      let rest = and-right (eqb (t .line % f .sets) s) _ h in
+      let inside = ltb-true (16 * t .line) size (and-left (ltb (16 * t .line) size) _ g) in
+      let own = eqb-true (t .line % f .sets) s (and-left (eqb (t .line % f .sets) s) _ h) in
+      cases (isDirty t)
+      (λ d.
+      let dirty : (not (isThrough (f .policy)) && marksGood (t .dirty) cache (16 * k) memory (16 * t .line)) ≡ true = rw d at rest in
+      let marks = marks-tell t cache memory (16 * k) (16 * t .line) (and-right (not (isThrough (f .policy))) _ dirty) in
+      record { inside = inside; own = own; clean = marks .1; undirty = λ w. wrong w (not-true _ (and-left _ _ dirty)); few = marks .0 })
+      (λ d.
+      let same : sameBytes cache (16 * k) memory (16 * t .line) 16 ≡ true = rw d at rest in
+      record { inside = inside; own = own; clean = λ i c l. same-tells cache memory (16 * k) (16 * t .line) 16 same i l; undirty = λ w. d; few = clean-few t d })
 
   invalid-tells : good ≡ true → t .valid ≡ false → Invalid
   unfolding slotGood invalidGood zeroBytes
   invalid-tells e v =
       let g : invalidGood cache k t ≡ true = rw v at (and-right (ltb (t .age) (f .ways)) _ e) in
-      let h = and-right (not (t .dirty)) _ g in
+      let h = and-right (eqb (t .dirty) 0) _ g in
       record {
-        undirty = not-true (t .dirty) (and-left (not (t .dirty)) _ g);
+        undirty = ap not (and-left (eqb (t .dirty) 0) _ g);
         line = eqb-true (t .line) 0 (and-left (eqb (t .line) 0) _ h);
         zeroed = λ i l. eqb-true _ 0 (all-at _ 16 0 (and-right (eqb (t .line) 0) _ h) i (omega arith) (omega arith));
       }
 
   slot-is : t .age < f .ways → (t .valid ≡ true → Valid) → (t .valid ≡ false → Invalid) → good ≡ true
-  unfolding slotGood validGood invalidGood sameBytes zeroBytes
+  unfolding slotGood validGood invalidGood zeroBytes
   slot-is a p g =
       and-both (ltb (t .age) (f .ways)) _ (lt-ltb (t .age) (f .ways) a)
       (cases (t .valid)
@@ -109,13 +145,14 @@ module _ (f : Figures) (size : ℕ) (cache memory : List ℕ) (s k : ℕ) (t : T
       rw v
       (and-both _ _ (lt-ltb (16 * t .line) size (h .inside))
       (and-both _ _ (eq-eqb (t .line % f .sets) s (h .own))
-      (cases (t .dirty)
-      (λ d. rw d (cases (isThrough (f .policy)) (λ w. wrong d (h .undirty w)) (λ w. rw w)))
-      (λ d. rw d (all-by _ 16 0 (λ i p q. eq-eqb _ _ (h .clean i (whole-line t i ∙ d) (omega arith)))))))))
+      (cases (isDirty t)
+      (λ d. rw d (and-both (not (isThrough (f .policy))) _ (cases (isThrough (f .policy)) (λ w. wrong d (h .undirty w)) (λ w. ap not w))
+      (marks-are t cache memory (16 * k) (16 * t .line) (h .few) (h .clean))))
+      (λ d. rw d (same-is cache memory (16 * k) (16 * t .line) 16 (λ i l. h .clean i (clean-byte t i d) l)))))))
       (λ v.
       let h = g v in
       rw v
-      (and-both _ _ (ap not (h .undirty))
+      (and-both _ _ (not-false (eqb (t .dirty) 0) (h .undirty))
       (and-both _ _ (eq-eqb (t .line) 0 (h .line)) (all-by _ 16 0 (λ i p q. eq-eqb _ 0 (h .zeroed i (omega arith))))))))
 
 -- ---- two records
@@ -144,40 +181,35 @@ zero-tells : (t : Tag) → zeroTag t ≡ true → t ≡ noTag
 unfolding zeroTag
 zero-tells t e =
     let f = and-right (not (t .valid)) _ e in
-    let g = and-right (not (t .dirty)) _ f in
+    let g = and-right (eqb (t .dirty) 0) _ f in
     let p = not-true _ (and-left (not (t .valid)) _ e) in
-    let q = not-true _ (and-left (not (t .dirty)) _ f) in
+    let q = eqb-true (t .dirty) 0 (and-left _ _ f) in
     let r = eqb-true (t .line) 0 (and-left _ _ g) in
     let s = eqb-true (t .age) 0 (and-right (eqb (t .line) 0) _ g) in
     λ i. record { valid = p i; dirty = q i; line = r i; age = s i }
 
 -- ---- the loop over the unused records: no flag so far, and a sum of 0, is "all zero so far"
 
-sum-zero : (a b c : ℕ) → eqb (a + (b + c)) 0 ≡ (eqb a 0 && (eqb b 0 && eqb c 0))
-sum-zero a b c =
-    cases (eqb a 0 && (eqb b 0 && eqb c 0))
+sum-zero : (a b : ℕ) → eqb (a + b) 0 ≡ (eqb a 0 && eqb b 0)
+sum-zero a b =
+    cases (eqb a 0 && eqb b 0)
     (λ e.
     let p = eqb-true a 0 (and-left (eqb a 0) _ e) in
-    let f = and-right (eqb a 0) _ e in
-    let q = eqb-true b 0 (and-left (eqb b 0) _ f) in
-    let r = eqb-true c 0 (and-right (eqb b 0) _ f) in
-    eq-eqb (a + (b + c)) 0 (omega arith) ∙ sym e)
-    (λ e.
-    ne-eqb (a + (b + c)) 0 (λ z. wrong (and-both (eqb a 0) _ (eq-eqb a 0 (omega arith)) (and-both (eqb b 0) _ (eq-eqb b 0 (omega arith)) (eq-eqb c 0 (omega arith)))) e) ∙ sym e)
+    let q = eqb-true b 0 (and-right (eqb a 0) _ e) in
+    eq-eqb (a + b) 0 (omega arith) ∙ sym e)
+    (λ e. ne-eqb (a + b) 0 (λ z. wrong (and-both (eqb a 0) _ (eq-eqb a 0 (omega arith)) (eq-eqb b 0 (omega arith))) e) ∙ sym e)
 
-pub nothing-next : (some : Bool) (sum : ℕ) (t : Tag) (rest : Bool) → (nothing some sum && (zeroTag t && rest)) ≡ (nothing (some || (t .valid || t .dirty)) (sum + (t .line + t .age)) && rest)
+pub nothing-next : (some : Bool) (sum : ℕ) (t : Tag) (rest : Bool) → (nothing some sum && (zeroTag t && rest)) ≡ (nothing (some || t .valid) (sum + (t .dirty + (t .line + t .age))) && rest)
 unfolding zeroTag
 nothing-next true sum t rest = refl
 nothing-next false sum t rest =
     cases (t .valid)
     (λ v. rw v (cases (eqb sum 0) (λ e. rw e) (λ e. rw e)))
-    (λ v. cases (t .dirty)
-    (λ d. rw (v, d) (cases (eqb sum 0) (λ e. rw e) (λ e. rw e)))
-    (λ d. rw (v, d, sum-zero sum (t .line) (t .age)) (moved (eqb sum 0) (eqb (t .line) 0) (eqb (t .age) 0))))
+    (λ v. rw (v, sum-zero sum (t .dirty + (t .line + t .age)), sum-zero (t .dirty) (t .line + t .age), sum-zero (t .line) (t .age)) (moved (eqb sum 0) _))
   where
-    moved : (a b c : Bool) → (a && ((b && c) && rest)) ≡ ((a && (b && c)) && rest)
-    moved true b c = refl
-    moved false b c = refl
+    moved : (a b : Bool) → (a && (b && rest)) ≡ ((a && b) && rest)
+    moved true b = refl
+    moved false b = refl
 
 module _ (tags : List Tag) where
   -- the records from slot k on are zero
@@ -185,8 +217,8 @@ module _ (tags : List Tag) where
   zeroFrom k = allFrom (λ k. zeroTag (tagAt tags k)) k (256 - k)
 
   pub zero-step :
-      (k : ℕ) (some : Bool) {more : Bool} (sum : ℕ) {r : ℕ} → k < 256 → more ≡ (some || (tagAt tags k .valid || tagAt tags k .dirty))
-      → r ≡ tagAt tags k .line + tagAt tags k .age → (nothing some sum && zeroFrom k) ≡ (nothing more (sum + r) && zeroFrom (k + 1))
+      (k : ℕ) (some : Bool) {more : Bool} (sum : ℕ) {r : ℕ} → k < 256 → more ≡ (some || tagAt tags k .valid)
+      → r ≡ tagAt tags k .dirty + (tagAt tags k .line + tagAt tags k .age) → (nothing some sum && zeroFrom k) ≡ (nothing more (sum + r) && zeroFrom (k + 1))
   unfolding allFrom
   zero-step k some sum h e f =
       let g : 256 - k ≡ suc (256 - suc k) = omega arith in
@@ -228,6 +260,7 @@ module _ (b : Hierarchy) (g : Good b) (s w : ℕ) (s-in : s < b .figures .sets) 
               own = same-set _ s w (b .figures .ways) w-in (g .lines .own k v .0) (g .lines .own k v .1);
               clean = λ i d l. g .clean k i v d l;
               undirty = λ w. g .none-dirty w k;
+              few = g .four-marks k;
             })
             (λ v. record {
               undirty = g .empty k v .0;
@@ -326,17 +359,23 @@ module _ (b : Hierarchy) (fit : Fits b) (table : length (b .tags) ≡ 256) (unus
             (λ s w p q v d. valid-at s w p q v .clean i d l) k (here k v) v d;
         empty = λ k v.
             elim (decLt k (slots b)) [
-              | yes h ↦ by-way (λ k. tagAt (b .tags) k .valid ≡ false → (tagAt (b .tags) k .dirty ≡ false) × (tagAt (b .tags) k .line ≡ 0))
+              | yes h ↦ by-way (λ k. tagAt (b .tags) k .valid ≡ false → (isDirty (tagAt (b .tags) k) ≡ false) × (tagAt (b .tags) k .line ≡ 0))
                   (λ s w p q v. (invalid-at s w p q v .undirty, invalid-at s w p q v .line)) k h v
-              | no h ↦ let q = past k (omega arith) in (ap (λ (t : Tag). t .dirty) q, ap (λ (t : Tag). t .line) q)
+              | no h ↦ let q = past k (omega arith) in (ap isDirty q ∙ no-tag-clean, ap (λ (t : Tag). t .line) q)
             ];
         zeroed = λ k i h v l.
             by-way (λ k. tagAt (b .tags) k .valid ≡ false → getD (b .cache) (16 * k + i) 0 ≡ 0) (λ s w p q v. invalid-at s w p q v .zeroed i l) k h v;
         none-dirty = λ t k.
             elim (decLt k (slots b)) [
-              | yes h ↦ by-way (λ k. tagAt (b .tags) k .dirty ≡ false)
+              | yes h ↦ by-way (λ k. isDirty (tagAt (b .tags) k) ≡ false)
                   (λ s w p q. cases (tag b s w .valid) (λ v. valid-at s w p q v .undirty t) (λ v. invalid-at s w p q v .undirty)) k h
-              | no h ↦ ap (λ (t : Tag). t .dirty) (past k (omega arith))
+              | no h ↦ ap isDirty (past k (omega arith)) ∙ no-tag-clean
+            ];
+        four-marks = λ k.
+            elim (decLt k (slots b)) [
+              | yes h ↦ by-way (λ k. tagAt (b .tags) k .dirty ≤ 15)
+                  (λ s w p q. cases (tag b s w .valid) (λ v. valid-at s w p q v .few) (λ v. clean-few (tag b s w) (invalid-at s w p q v .undirty))) k h
+              | no h ↦ rw (past k (omega arith)) no-tag-few
             ];
       }
 

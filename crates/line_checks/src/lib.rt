@@ -11,11 +11,13 @@ ghost use Rattle.lists.specs.Padded.{every};
 ghost use Rattle.rules.specs.Shape.{setsAllowed, figuresAllowed, isThrough, fits};
 ghost use Rattle.rules.specs.WellFormed.{zeroTag, linesFormed};
 ghost use Rattle.line_checks.specs.Refusal.{hierarchy, linesRefusal};
-ghost use Rattle.line_checks.specs.SlotTests.{sameBytes, zeroBytes, validGood, invalidGood, slotGood, sameAgeOrLine, apartFrom};
+ghost use Rattle.line_checks.specs.SlotTests.{sameBytes, wordGood, marksGood, zeroBytes, validGood, invalidGood, slotGood, sameAgeOrLine, apartFrom};
+use rules::ALL_MARKS;
 use rules::BAD_FIGURES;
 use rules::Figures;
 use rules::LINE_BYTES;
 use rules::LINE_LENGTH;
+use rules::LINE_WORDS;
 use rules::MAX_MEMORY;
 use rules::MAX_SETS;
 use rules::MAX_WAYS;
@@ -23,6 +25,7 @@ use rules::MIN_MEMORY;
 use rules::NOT_WELL_FORMED;
 use rules::TAG_RECORDS;
 use rules::Tag;
+use rules::WORD_LENGTH;
 use rules::WritePolicy;
 
 // ---- figures and lengths
@@ -93,15 +96,15 @@ pub fn is_fit(figures: Figures, size: u32, cache: &[u8], memory: &[u8]) -> bool
 
 // ---- records and bytes
 
-// The 16 bytes of the cache from place at on equal those of memory from place from on. (The loop has no early exit: in a
+// The bytes of the cache from place at on, count of them, equal those of memory from place from on. (The loop has no early exit: in a
 // well-formed state none would be taken, and the compiler makes vector code of it.)
-fn same_bytes(cache: &[u8], at: usize, memory: &[u8], from: usize) -> bool
-    requires { ⌜ (at + 16 ≤ length (now cache)) × (from + 16 ≤ length (now memory)) ⌝ }
-    ensures { λ r. ⌜ r ≡ sameBytes (now (cache .entry)) at (now (memory .entry)) from ⌝ }
+fn same_bytes(cache: &[u8], at: usize, memory: &[u8], from: usize, count: usize) -> bool
+    requires { ⌜ (at + count ≤ length (now cache)) × (from + count ≤ length (now memory)) ⌝ }
+    ensures { λ r. ⌜ r ≡ sameBytes (now (cache .entry)) at (now (memory .entry)) from count ⌝ }
 {
     let mut same = true;
     let mut i: usize = 0;
-    while i < LINE_LENGTH {
+    while i < count {
         if cache[at + i] != memory[from + i] {
             same = false;
         }
@@ -111,7 +114,7 @@ fn same_bytes(cache: &[u8], at: usize, memory: &[u8], from: usize) -> bool
 }
 
 // Eight bytes from place at on as one number, lowest first.
-fn word(bytes: &[u8], at: usize) -> u64
+fn eight_bytes(bytes: &[u8], at: usize) -> u64
     requires { ⌜ at + 8 ≤ length (now bytes) ⌝ }
     ensures { λ r. ⌜ r ≡ valueAt (now (bytes .entry)) at 8 ⌝ }
 {
@@ -130,8 +133,8 @@ fn is_zero_line(cache: &[u8], at: usize) -> bool
     requires { ⌜ at + 16 ≤ length (now cache) ⌝ }
     ensures { λ r. ⌜ r ≡ zeroBytes (now (cache .entry)) at ⌝ }
 {
-    if word(cache, at) == 0 {
-        return word(cache, at + 8) == 0;
+    if eight_bytes(cache, at) == 0 {
+        return eight_bytes(cache, at + 8) == 0;
     }
     false
 }
@@ -146,7 +149,43 @@ fn allows_dirty(policy: WritePolicy) -> bool
     }
 }
 
-// A valid record t, in slot k of set s: "a valid line lies in memory, is in its own set", "clean lines equal memory"; with write-through
+// 02, card 2: "A clean word must equal memory": word n of a line is dirty, or equals memory.
+fn word_good(marks: u8, cache: &[u8], at: usize, memory: &[u8], from: usize, n: usize) -> bool
+    requires { ⌜ (n < 4) × (at + 16 ≤ length (now cache)) × (from + 16 ≤ length (now memory)) ⌝ }
+    ensures { λ r. ⌜ r ≡ wordGood marks (now (cache .entry)) at (now (memory .entry)) from n ⌝ }
+{
+    if dirty_words::is_dirty(marks, n) {
+        return true;
+    }
+    same_bytes(
+        cache,
+        at + WORD_LENGTH * n,
+        memory,
+        from + WORD_LENGTH * n,
+        WORD_LENGTH,
+    )
+}
+
+// A dirty line: no fifth mark is set (02, card 2: "four dirty marks"), and its clean words equal memory.
+fn marks_good(marks: u8, cache: &[u8], at: usize, memory: &[u8], from: usize) -> bool
+    requires { ⌜ (at + 16 ≤ length (now cache)) × (from + 16 ≤ length (now memory)) ⌝ }
+    ensures { λ r. ⌜ r ≡ marksGood marks (now (cache .entry)) at (now (memory .entry)) from ⌝ }
+{
+    if ALL_MARKS < marks {
+        return false;
+    }
+    let mut n: usize = 0;
+    while n < LINE_WORDS {
+        if word_good(marks, cache, at, memory, from, n) {
+            n += 1;
+        } else {
+            return false;
+        }
+    }
+    true
+}
+
+// A valid record t, in slot k of set s: "a valid line lies in memory, is in its own set", clean words equal memory; with write-through
 // "no line is dirty".
 fn valid_good(
     t: Tag,
@@ -167,16 +206,16 @@ fn valid_good(
     if line % figures.sets != s {
         return false;
     }
-    if t.dirty {
-        let policy = figures.policy;
-        return allows_dirty(policy);
+    let at = LINE_LENGTH * k;
+    let from = LINE_LENGTH * (line as usize);
+    if t.dirty == 0 {
+        return same_bytes(cache, at, memory, from, LINE_LENGTH);
     }
-    same_bytes(
-        cache,
-        LINE_LENGTH * k,
-        memory,
-        LINE_LENGTH * (line as usize),
-    )
+    let policy = figures.policy;
+    if allows_dirty(policy) {
+        return marks_good(t.dirty, cache, at, memory, from);
+    }
+    false
 }
 
 // An invalid record t, in slot k: "an invalid record is zero but for its age, with zero cache bytes".
@@ -184,7 +223,7 @@ fn invalid_good(t: Tag, k: usize, cache: &[u8]) -> bool
     requires { ⌜ 16 * k + 16 ≤ length (now cache) ⌝ }
     ensures { λ r. ⌜ r ≡ invalidGood (now (cache .entry)) k t ⌝ }
 {
-    if t.dirty {
+    if t.dirty != 0 {
         return false;
     }
     if t.line != 0 {
@@ -255,24 +294,21 @@ fn apart(t1: Tag, t2: Tag, t3: Tag, w: usize, t: Tag) -> bool
     true
 }
 
-// One of the flags of t is set, or was one before.
-fn flagged(already: bool, t: Tag) -> bool
-    ensures { λ r. ⌜ r ≡ (already || (t .valid || t .dirty)) ⌝ }
+// t is valid, or was one before it.
+fn some_valid(already: bool, t: Tag) -> bool
+    ensures { λ r. ⌜ r ≡ (already || t .valid) ⌝ }
 {
     if t.valid {
-        return true;
-    }
-    if t.dirty {
         return true;
     }
     already
 }
 
-// The line and the age of t, added.
-fn weight(t: Tag) -> u32
-    ensures { λ r. ⌜ (r ≡ t .line + t .age) × (r ≤ 65790) ⌝ }
+// The marks, the line and the age of t, added.
+fn added(t: Tag) -> u32
+    ensures { λ r. ⌜ (r ≡ t .dirty + (t .line + t .age)) × (r ≤ 66045) ⌝ }
 {
-    t.line as u32 + t.age as u32
+    t.dirty as u32 + (t.line as u32 + t.age as u32)
 }
 
 // "unused records are all zero": those from slot count on. (The loop has no early exit, like that of `same_bytes`.)
@@ -285,8 +321,8 @@ fn unused_zero(tags: [Tag; TAG_RECORDS], count: usize) -> bool
     let mut k = count;
     while k < TAG_RECORDS {
         let t = tags[k];
-        some = flagged(some, t);
-        sum += weight(t);
+        some = some_valid(some, t);
+        sum += added(t);
         k += 1;
     }
     if some {

@@ -1,6 +1,6 @@
 -- Laws for the invariant of a loop that counts from k up to end, "the rest equals the whole": what one turn does, and what is left at the end.
 use mathlib.Core.Path.{_≡_, refl, sym, ap, subst, fun-ext, _∙_}
-use mathlib.Core.Bool.{Bool, true, false, cond, _&&_}
+use mathlib.Core.Bool.{Bool, true, false, _&&_}
 use mathlib.Core.List.{List, [], _∷_}
 use mathlib.Core.Logic.{⊎-elim}
 use Prim.Native.Nat.{ℕ, zero, suc, _+_, _-_, _<_, _≤_}
@@ -8,12 +8,10 @@ use native.Mathlib.Nat.{eq-or-lt-of-le}
 use native.Mathlib.Numerals.{add-one}
 use native.Mathlib.Decide.{ℕ-discrete, decLt}
 use native.Mathlib.Omega.{arith}
-use lib.ListN.{length, getD, set, drop, replicate, length-set, drop-of-length-le, length-replicate, getD-replicate}
-use lib.Seq.{getD-set-same, getD-set-other, drop-cons, ext-getD}
+use lib.ListN.{length, getD, set, replicate, length-set, length-replicate, getD-replicate}
+use lib.Seq.{getD-set-same, getD-set-other, ext-getD}
 use borrow.Author.Tests.{lt-ltb, le-ltb}
-use Rattle.lists.specs.Padded.{filter}
 use Rattle.lists.specs.Counted.{firstFrom, allFrom, greatestFrom, stepsFrom, eachFrom}
-use Rattle.lists.proofs.Cond.{cases}
 use Rattle.lists.proofs.Counting.{each-length, each-at, each-same}
 
 -- ---- the first, all
@@ -174,18 +172,6 @@ module _ {A : Type 0} (f : ℕ → A → A) (d : A) where
           | no q ↦ changes-above n lo l k (omega arith) ∙ sym (each-same f l d k (λ x. h k x (λ a c. omega arith)))
         ]
       ])
-
--- ---- the number of entries that pass a test
-
-module _ {A : Type 0} (p : A → Bool) (l : List A) (k : ℕ) where
-  pub count-next : (d : A) → k < length l → length (filter p (drop k l)) ≡ cond (p (getD l k d)) 1 0 + length (filter p (drop (k + 1) l))
-  unfolding filter
-  count-next d h =
-      rw (add-one, drop-cons l k d h) (cases (p (getD l k d)) (λ e. rw e (omega arith)) (λ e. rw e (omega arith)))
-
-  pub count-end : length l ≤ k → length (filter p (drop k l)) ≡ 0
-  unfolding filter
-  count-end h = rw (drop-of-length-le l h)
 
 -- ---- a list filled with one value
 

@@ -9,3 +9,4 @@ pub mod Bytes
 pub mod Lengths
 pub mod Loops
 pub mod CountedLoops
+pub mod Total

@@ -1,10 +1,7 @@
 -- Tests that some entry of a list passes, or none: what follows from them, and which changes of a queue keep them.
-use Prim.Native.Nat.{ℕ, suc, _<_}
 use mathlib.Core.Path.{_≡_, refl, ap}
 use mathlib.Core.Bool.{Bool, true, false, cond, not}
 use mathlib.Core.List.{List, [], _∷_, _++_}
-use native.Mathlib.Omega.{arith}
-use lib.ListN.{length, getD}
 use Rattle.lists.specs.Padded.{any, every, first, without, shifted, placed, changed}
 use Rattle.lists.proofs.Cond.{either, cases, and-left, and-right, and-both, or-left, or-right, or-one, or-two, none-or, wrong}
 
@@ -86,12 +83,6 @@ module _ {A : Type 0} where
   unfolding any every
   none-every o t h [] g = refl
   none-every o t h (x ∷ l) g = none-or (t x) _ (h x (and-left _ _ g)) (none-every o t h l (and-right (o x) _ g))
-
-  -- no place has an entry that passes
-  pub none-at : (p : A → Bool) (d : A) (l : List A) → ((k : ℕ) → k < length l → p (getD l k d) ≡ false) → any p l ≡ false
-  unfolding any
-  none-at p d [] h = refl
-  none-at p d (x ∷ l) h = none-or (p x) _ (h 0 (omega arith)) (none-at p d l (λ k lt. h (suc k) (omega arith)))
 
   pub any-every : (r : A → Bool) (xs : List A) → any r xs ≡ false → every (λ x. not (r x)) xs ≡ true
   unfolding every any

@@ -1,7 +1,7 @@
--- Loops that count, as definitions: a search, tests of all and of some, a greatest, a repeated step, and a change of each entry by its place.
+-- Loops that count, as definitions: a search, tests of all and of some, how many pass, a greatest, a repeated step, and a change of each entry by its place.
 use mathlib.Core.Bool.{Bool, true, false, cond, _&&_, _||_}
 use mathlib.Core.List.{List, [], _∷_}
-use Prim.Native.Nat.{ℕ, zero, suc}
+use Prim.Native.Nat.{ℕ, zero, suc, _+_}
 use lib.Dec.{ltb}
 
 -- the first of the numbers i, i + 1, .. (n of them) that passes the test, else i + n
@@ -18,6 +18,11 @@ allFrom p i (suc n) = p i && allFrom p (suc i) n
 unfoldable pub someFrom : (ℕ → Bool) → ℕ → ℕ → Bool
 someFrom p i zero = false
 someFrom p i (suc n) = p i || someFrom p (suc i) n
+
+-- how many of the numbers i, i + 1, .. (n of them) pass the test
+unfoldable pub countFrom : (ℕ → Bool) → ℕ → ℕ → ℕ
+countFrom p i zero = 0
+countFrom p i (suc n) = cond (p i) 1 0 + countFrom p (suc i) n
 
 -- of best, i, i + 1, .. (n of them) the one of greatest measure, the earliest of several
 unfoldable pub greatestFrom : (ℕ → ℕ) → ℕ → ℕ → ℕ → ℕ

@@ -1,8 +1,8 @@
--- Lists of fixed length whose unused places, at the end, hold one value, `free`: tests, selections, and the changes of a queue.
+-- Lists of fixed length whose unused places, at the end, hold one value, `free`: tests, selections, a sum, and the changes of a queue.
 -- No definition here looks at what an entry is; each change keeps the length.
 use mathlib.Core.Bool.{Bool, true, false, cond, _||_, _&&_}
 use mathlib.Core.List.{List, [], _∷_, _++_}
-use Prim.Native.Nat.{ℕ, suc}
+use Prim.Native.Nat.{ℕ, suc, _+_}
 use lib.Dec.{eqb, ltb}
 
 module _ {A : Type 0} where
@@ -61,6 +61,11 @@ module _ {A : Type 0} where
   unfoldable pub filter : (A → Bool) → List A → List A
   filter p [] = []
   filter p (x ∷ xs) = cond (p x) (x ∷ filter p xs) (filter p xs)
+
+  -- a number of each entry, added up
+  unfoldable pub total : (A → ℕ) → List A → ℕ
+  total f [] = 0
+  total f (x ∷ xs) = f x + total f xs
 
   -- what stands at the places whose mark is true
   unfoldable pub select : List Bool → List A → List A

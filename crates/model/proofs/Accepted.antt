@@ -1,23 +1,25 @@
 -- What an accepted call leaves is its rule: each law says of which facts of the queues, the records and the bytes that is made up.
 use Prim.Native.Nat.{ℕ, _*_, _-_, _<_, _≤_}
-use mathlib.Core.Path.{_≡_, sym, _∙_}
+use mathlib.Core.Path.{_≡_, sym, ap, _∙_}
 use mathlib.Core.Bool.{true, cond}
 use mathlib.Core.List.{List}
 use native.Mathlib.Omega.{arith}
 use lib.Dec.{leb}
 use borrow.Author.Tests.{le-leb, lt-leb}
 use lib.ListN.{length}
-use Rattle.lists.specs.Padded.{filter, without, changed}
+use Rattle.lists.specs.Padded.{total, without, changed}
 use Rattle.lists.proofs.Cond.{cond-then}
+use Rattle.rules.specs.declared.Figures.{Figures}
 use Rattle.rules.specs.declared.Tag.{Tag}
 use Rattle.rules.specs.declared.StoreEntry.{StoreEntry}
 use Rattle.rules.specs.declared.LoadEntry.{LoadEntry}
-use Rattle.rules.specs.Shape.{noStore, noLoad, lineOf, slots}
-use Rattle.rules.specs.Lines.{isDirty, dirtyLines}
+use Rattle.rules.specs.Shape.{Hierarchy, noStore, noLoad, lineOf}
+use Rattle.rules.specs.Lines.{wordsOf, writeBackAll, dirtyWords}
 use Rattle.rules.specs.Calls.{waitingAt, answered, answerLoad, youngStore, youngLoad, squash, abortRule, flushRule}
 use Rattle.records.specs.Records.{hasRoom, usedTags, flushedTags}
-use Rattle.line_bytes.specs.Writes.{linesWritten, DirtyInside}
-use Rattle.model.specs.State.{queuesOf, hierarchyOf, outcomeOf}
+use Rattle.line_bytes.specs.Writes.{linesWritten}
+use Rattle.line_checks.specs.Refusal.{hierarchy}
+use Rattle.model.specs.State.{queuesOf, hierarchyOf, outcomeOf, Flushable}
 use Rattle.model.specs.declared.State.{State}
 use Rattle.model.specs.declared.Step.{Step}
 use Rattle.model.specs.declared.Answer.{Answer}
@@ -65,14 +67,20 @@ pub aborted-state :
 unfolding abortRule squash
 aborted-state s n stores loads e f c m = rw (e, f)
 
+-- all dirty words written back, from what each function made
+pub flushed-lines :
+    (g : Figures) (tags clean : List Tag) (cache memory written : List ℕ) → Flushable g tags (length cache) (length memory)
+    → clean ≡ cond (leb (g .sets * g .ways) 256) (flushedTags (g .sets * g .ways) tags) tags
+    → written ≡ linesWritten tags (g .sets * g .ways) cache memory
+    → hierarchy g 0 clean cache written ≡ writeBackAll (hierarchy g 0 tags cache memory)
+flushed-lines g tags clean cache memory written h e f =
+    rw (e ∙ sym (cond-then _ _ (le-leb _ 256 (h .room))), f ∙ lines-flushed _ tags cache memory (h .room) (omega (arith, h .cache-long)) (h .dirty-lines), flush-parts)
+
 pub flushed-state :
-    (s : State) (cache memory memory′ : List ℕ) (n : ℕ) (tags : List Tag)
-    → slots (hierarchyOf s cache memory) ≤ 256 → length cache ≡ slots (hierarchyOf s cache memory) * 16
-    → DirtyInside (s .tags) (slots (hierarchyOf s cache memory)) (length memory)
-    → n ≡ length (filter isDirty (s .tags))
-    → tags ≡ cond (leb (slots (hierarchyOf s cache memory)) 256) (flushedTags (slots (hierarchyOf s cache memory)) (s .tags)) (s .tags)
-    → memory′ ≡ linesWritten (s .tags) (slots (hierarchyOf s cache memory)) cache memory
-    → outcomeOf (leaving (Flushed n) s (s .last) (s .stores) (s .loads) tags) cache memory′ ≡ flushRule (queuesOf s) (hierarchyOf s cache memory)
-unfolding flushRule dirtyLines
-flushed-state s cache memory memory′ n tags room long inside e f g =
-    rw (e, f ∙ sym (cond-then _ _ (le-leb _ 256 room)), g ∙ lines-flushed _ (s .tags) cache memory room (omega (arith, long)) inside, flush-parts)
+    (s : State) (cache memory written : List ℕ) (n : ℕ) (clean : List Tag) → n ≡ total wordsOf (s .tags)
+    → hierarchy (s .figures) 0 clean cache written ≡ writeBackAll (hierarchy (s .figures) 0 (s .tags) cache memory)
+    → outcomeOf (leaving (Flushed n) s (s .last) (s .stores) (s .loads) clean) cache written ≡ flushRule (queuesOf s) (hierarchyOf s cache memory)
+unfolding flushRule dirtyWords
+flushed-state s cache memory written n clean e h =
+    let whole = h ∙ flush-parts (hierarchy (s .figures) 0 (s .tags) cache memory) in
+    rw (e, ap (λ (b : Hierarchy). b .tags) whole, ap (λ (b : Hierarchy). b .memory) whole, flush-parts)

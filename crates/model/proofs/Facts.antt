@@ -17,7 +17,7 @@ use Rattle.rules.specs.Shape.{Queues, Hierarchy, figuresAllowed, fits, noLoad, 
 use Rattle.rules.specs.Calls.{widthAllowed, passes, accessChecks, waitingAt, committedStore, oldestStore, storeReady}
 use Rattle.rules.specs.WellFormed.{loadPasses, storePasses, freeStoreZero, freeLoadZero, committedWaitAt, waitingUncoveredAt, requestAbsent, requestInside, requestWanted}
 use Rattle.rules.proofs.QueueView.{Parts, parts, goodLoad, goodStore, goodRequest, load-passes, store-passes, good-load, good-store}
-use Rattle.model.specs.State.{queuesOf, hierarchyOf, Formed, Shaped, InOneLine, Sound, Fillable}
+use Rattle.model.specs.State.{queuesOf, hierarchyOf, Formed, Shaped, InOneLine, Sound, Flushable, Fillable}
 use Rattle.rules.proofs.LineFacts.{fits-tells, good-tells}
 use Rattle.line_checks.proofs.Figures.{Figured, figures-tell}
 use Rattle.records.specs.Records.{hasRoom}
@@ -146,6 +146,18 @@ formed-sound s cache memory g =
 -- to the functions of the table
 pub formed-shaped : (s : State) (cache memory : List ℕ) → Formed s cache memory → Shaped s (s .figures .sets * s .figures .ways * 16)
 formed-shaped s cache memory g = shaped-self s (length cache) (formed-sound s cache memory g .shaped)
+
+-- to a flush
+pub formed-flushable :
+    (s : State) (cache memory : List ℕ) → Formed s cache memory → Flushable (s .figures) (s .tags) (length cache) (length memory)
+formed-flushable s cache memory g =
+    let b = hierarchyOf s cache memory in
+    let p = parts (queuesOf s) b g in
+    record {
+      room = fit-figures s cache memory (p .fit) .room;
+      cache-long = fit-cache s cache memory (p .fit);
+      dirty-lines = dirty-inside b (fits-tells _ (p .fit)) (good-tells _ (p .lines)) _;
+    }
 
 -- to the fill of the line that it requests
 pub formed-fillable :

@@ -22,7 +22,7 @@ use Rattle.rules.specs.declared.Request.the-variants.{Free, Line}
 use Rattle.rules.specs.declared.WritePolicy.{WritePolicy}
 use Rattle.rules.specs.declared.WritePolicy.the-variants.{WriteBack}
 use Rattle.rules.specs.Shape.{Queues, Hierarchy, holding, noStore, noLoad, isFreeLoad, lineOf, slots, firstSlot, tagAt, withDirty, isThrough}
-use Rattle.rules.specs.Lines.{slotOf, present, placeOf, agedAt, useSlot, dirtyAfter, writtenThroughAt, storedMemory, putStore, writeStore, writtenBackAt, writeBackSlot, copiedAt, install, victim, fillLine, writeBackAll}
+use Rattle.rules.specs.Lines.{slotOf, present, placeOf, agedAt, useSlot, marked, writtenThroughAt, storedMemory, putStore, writeStore, writtenBackAt, writeBackSlot, copiedAt, install, victim, fillLine, writeBackAll}
 use Rattle.rules.specs.Calls.{Outcome, wantsLine, oldestStore, storeReady, storeNeedsLine, requestLine, drainOldest, unchanged, idled, idleRule, replyRule, showRule, shown, emptyPart, useEach}
 use Rattle.rules.specs.Calls as rules
 use Rattle.rules.specs.Runs.{outcome, answer}
@@ -150,7 +150,7 @@ module _ (s : State) (cache memory : List ℕ) where
 -- ---- fill
 
 -- a record's age, read where it was written with its age kept
-set-age : (tags : List Tag) (v : ℕ) → tagAt (set tags v (withDirty false (tagAt tags v))) v .age ≡ tagAt tags v .age
+set-age : (tags : List Tag) (v : ℕ) → tagAt (set tags v (withDirty 0 (tagAt tags v))) v .age ≡ tagAt tags v .age
 set-age [] v = refl
 set-age (t ∷ tags) zero = refl
 set-age (t ∷ tags) (suc v) = set-age tags v
@@ -164,7 +164,7 @@ pub fill-parts :
     (eachFrom (writtenBackAt (tagAt (b .tags) v) (b .cache) v) 0 (b .memory))
 unfolding fillLine install writeBackSlot useSlot installedIn
 fill-parts b l v e =
-    let t : Tag = withDirty false (tagAt (b .tags) v) in
+    let t : Tag = withDirty 0 (tagAt (b .tags) v) in
     let age : tagAt (set (b .tags) v t) v .age ≡ tagAt (b .tags) v .age = set-age (b .tags) v in
     rw (← e, age, set-set (b .tags) v)
 
@@ -245,19 +245,19 @@ unwritten b e f v h low none =
 
 -- the bytes and the records of a store that is written to its line, from what each function made
 pub written-whole :
-    (b : Hierarchy) (e : StoreEntry) (f v : ℕ) (marked used : List Tag) (cache : List ℕ)
+    (b : Hierarchy) (e : StoreEntry) (f v : ℕ) (table used : List Tag) (cache : List ℕ)
     → Located b (lineOf (e .address)) f v → v < f + b .figures .ways
     → e .width ≤ 4 → e .address % 16 + e .width ≤ 16 → length (b .cache) ≡ slots b * 16
     → cache ≡ storePut (16 * v + e .address % 16) (e .width) (e .value) (b .cache)
-    → marked ≡ set (b .tags) v (withDirty (dirtyAfter (b .figures .policy) (tagAt (b .tags) v .dirty)) (tagAt (b .tags) v))
-    → used ≡ cond (inSet f (b .figures .ways) v) (eachFrom (agedAt f (b .figures .ways) v (tagAt marked v .age)) 0 marked) marked
+    → table ≡ set (b .tags) v (marked (b .figures .policy) e (tagAt (b .tags) v))
+    → used ≡ cond (inSet f (b .figures .ways) v) (eachFrom (agedAt f (b .figures .ways) v (tagAt table v .age)) 0 table) table
     → holding b used cache (storedMemory e b) ≡ writeStore e b
 unfolding writeStore putStore useSlot
-written-whole b e f v marked used cache h high narrow one-line long c d u =
+written-whole b e f v table used cache h high narrow one-line long c d u =
     let here : present b (lineOf (e .address)) ≡ true = sym (h .here) ∙ lt-ltb v (f + b .figures .ways) high in
     let put : cache ≡ eachFrom (overlaid (16 * v + e .address % 16) (e .width) (e .value)) 0 (b .cache) =
     c ∙ put-inside _ _ _ (b .cache) narrow (omega (arith, h .within)) in
-    let aged : used ≡ eachFrom (agedAt f (b .figures .ways) v (tagAt marked v .age)) 0 marked =
+    let aged : used ≡ eachFrom (agedAt f (b .figures .ways) v (tagAt table v .age)) 0 table =
     u ∙ sym (cond-then _ _ (slot-in-set b f v (h .within) (h .room) (h .low) high)) in
     rw (here, aged, d, put, h .slot, h .first)
 

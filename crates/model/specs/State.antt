@@ -195,6 +195,12 @@ pub record Fillable (g : Figures) (tags : List Tag) (l cacheLength memoryLength 
   pub low : l < 4096
   pub dirty-lines : DirtyInside tags 256 memoryLength
 
+-- what is left to a flush
+pub record Flushable (g : Figures) (tags : List Tag) (cacheLength memoryLength : ℕ) : Type 0 where
+  pub room : g .sets * g .ways ≤ 256
+  pub cache-long : cacheLength ≡ g .sets * g .ways * 16
+  pub dirty-lines : DirtyInside tags (g .sets * g .ways) memoryLength
+
 -- ---- what follows the access checks of a store: checks 5, 13 and 11, then the rule
 
 unfoldable pub storeRest : ℕ → ℕ → ℕ → Queues → Hierarchy → Outcome

@@ -35,7 +35,7 @@ fn can_write(tags: [Tag; TAG_RECORDS], figures: Figures, line: u32) -> bool
     }
 }
 
-// "write it, mark the line dirty, use the line": the cached line, where there is one.
+// "write it, mark the line dirty, use the line": the cached line, where there is one, and the mark of its word.
 fn write_store(
     tags: [Tag; TAG_RECORDS],
     figures: Figures,
@@ -55,7 +55,7 @@ fn write_store(
     let at = LINE_LENGTH * slot + (s.address % LINE_BYTES) as usize;
     line_bytes::put_store(cache, at, s.width, s.value);
     let policy = figures.policy;
-    let marked = records::mark_written(tags, policy, slot);
+    let marked = records::mark_written(tags, policy, s, slot);
     records::use_slot(marked, first, n, slot)
 }
 

@@ -17,7 +17,7 @@ use rules::Request;
 use rules::TAG_RECORDS;
 use rules::Tag;
 
-// A line comes from memory; a dirty victim is first written to memory.
+// A line comes from memory; the dirty words of the victim are first written to memory.
 fn fill_line(
     tags: [Tag; TAG_RECORDS],
     figures: Figures,

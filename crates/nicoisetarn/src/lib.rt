@@ -62,7 +62,7 @@ pub const KIND_REQUEST: u32 = 7;
 pub const KIND_IDLE: u32 = 8;
 // the filled line's first address
 pub const KIND_FILLED: u32 = 9;
-// the lines written
+// the words written
 pub const KIND_FLUSHED: u32 = 10;
 // the part's place in the cache, its length
 pub const KIND_SHOWN: u32 = 11;

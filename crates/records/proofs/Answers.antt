@@ -145,7 +145,7 @@ victim-known tags f ways r t some e = e ∙ sym (cond-then _ _ (and-both (inTabl
 -- what `use_slot` makes of the table with the line's record; the code has the line's number in 16 bits
 pub installed :
     (f ways v l : ℕ) (tags r : List Tag) → inSet f ways v ≡ true → l < 65536
-    → (let out = set tags v (record { valid = true; dirty = false; line = l % 65536; age = tagAt tags v .age }) in
+    → (let out = set tags v (record { valid = true; dirty = 0; line = l % 65536; age = tagAt tags v .age }) in
     r ≡ cond (inSet f ways v) (eachFrom (agedAt f ways v (tagAt out v .age)) 0 out) out)
     → r ≡ cond (inSet f ways v && ltb l 65536) (installedIn f ways v l tags) tags
 unfolding installedIn

@@ -65,7 +65,7 @@ module _ (tags : List Tag) (f ways k : ℕ) (found : k ≡ firstFrom (λ k. not 
 -- ---- flush
 
 abbrev pub cleaned : ℕ → Tag → Tag
-cleaned k t = withDirty false t
+cleaned k t = withDirty 0 t
 
 cleans : (n i : ℕ) (b : Hierarchy) → stepsFrom (change cleaned noTag) i n (b .tags) ≡ stepsFrom writeBackSlot i n b .tags
 unfolding stepsFrom writeBackSlot

@@ -1,6 +1,6 @@
 -- Tables of tag records by themselves, as the code has them: which places a call may name, and what the rules make of the records.
 use Prim.Native.Nat.{ℕ, _+_, _*_, _-_}
-use mathlib.Core.Bool.{Bool, true, false, cond, not, _&&_}
+use mathlib.Core.Bool.{Bool, true, cond, not, _&&_}
 use mathlib.Core.List.{List, []}
 use lib.Dec.{ltb, leb}
 use lib.ListN.{set}
@@ -45,7 +45,7 @@ victimIn tags f ways =
 -- the records once line l is in slot v, valid and clean, and is used
 unfoldable pub installedIn : ℕ → ℕ → ℕ → ℕ → List Tag → List Tag
 installedIn f ways v l tags =
-    let t : Tag = record { valid = true; dirty = false; line = l; age = tagAt tags v .age } in
+    let t : Tag = record { valid = true; dirty = 0; line = l; age = tagAt tags v .age } in
     eachFrom (agedAt f ways v (tagAt (set tags v t) v .age)) 0 (set tags v t)
 
 -- ---- flush

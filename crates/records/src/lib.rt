@@ -6,11 +6,11 @@ ghost use mathlib.Core.Path.{_≡_};
 ghost use mathlib.Core.Bool.{cond, not, true, _&&_};
 ghost use Prim.Native.Nat.{_+_, _*_, _%_, _<_, _≤_};
 ghost use lib.Dec.{ltb, leb};
-ghost use lib.ListN.{length, set, replicate};
-ghost use Rattle.lists.specs.Padded.{first, filter};
+ghost use lib.ListN.{set, replicate};
+ghost use Rattle.lists.specs.Padded.{first, filter, total};
 ghost use Rattle.lists.specs.Counted.{firstFrom, greatestFrom, eachFrom};
-ghost use Rattle.rules.specs.Shape.{noTag, noLoad, tagAt, withDirty};
-ghost use Rattle.rules.specs.Lines.{holdsLine, present, agedAt, isDirty, dirtyAfter};
+ghost use Rattle.rules.specs.Shape.{noTag, noLoad, tagAt};
+ghost use Rattle.rules.specs.Lines.{holdsLine, present, agedAt, wordsOf, dirtyAfter, marked};
 ghost use Rattle.rules.specs.Calls.{answeredBy, useEach, wantsLine};
 ghost use Rattle.rules.specs.Runs.{startTags};
 ghost use Rattle.records.specs.Records.{hasRoom, inTable, inSet, tabled, usedTags, victimIn, installedIn, flushedTags};
@@ -20,6 +20,7 @@ use rules::LOAD_PLACES;
 use rules::LoadEntry;
 use rules::NO_LOAD;
 use rules::NO_TAG;
+use rules::StoreEntry;
 use rules::TAG_RECORDS;
 use rules::Tag;
 use rules::WritePolicy;
@@ -254,26 +255,32 @@ pub fn install(
     let old = out[v];
     out[v] = Tag {
         valid: true,
-        dirty: false,
+        dirty: 0,
         line: (line % 65536) as u16,
         age: old.age,
     };
     use_slot(out, first, ways, v)
 }
 
-// The dirty mark after a store was written to the line; `dirty` is the mark before. Write-back sets it, write-through leaves it.
-fn mark_after(policy: WritePolicy, dirty: bool) -> bool
-    ensures { λ r. ⌜ r ≡ dirtyAfter policy dirty ⌝ }
+// The dirty marks after store s was written to the line; `dirty` is the marks before. Write-back marks the word, write-through leaves
+// them.
+fn marks_after(policy: WritePolicy, s: StoreEntry, dirty: u8) -> u8
+    ensures { λ r. ⌜ r ≡ dirtyAfter policy s dirty ⌝ }
 {
     match policy {
-        WritePolicy::WriteBack => true,
+        WritePolicy::WriteBack => dirty_words::with_mark(dirty, s.address),
         WritePolicy::WriteThrough => dirty,
     }
 }
 
-// "mark the line dirty", under write-back: the record of slot v, when a store was written to its line.
-pub fn mark_written(tags: [Tag; TAG_RECORDS], policy: WritePolicy, v: usize) -> [Tag; TAG_RECORDS]
-    ensures { λ r. ⌜ r ≡ set tags v (withDirty (dirtyAfter policy (tagAt tags v .dirty)) (tagAt tags v)) ⌝ }
+// 02, card 2: "Write-back draining marks the word written": the record of slot v, when store s was written to its line.
+pub fn mark_written(
+    tags: [Tag; TAG_RECORDS],
+    policy: WritePolicy,
+    s: StoreEntry,
+    v: usize,
+) -> [Tag; TAG_RECORDS]
+    ensures { λ r. ⌜ r ≡ set tags v (marked policy s (tagAt tags v)) ⌝ }
 {
     if TAG_RECORDS <= v {
         return tags;
@@ -282,7 +289,7 @@ pub fn mark_written(tags: [Tag; TAG_RECORDS], policy: WritePolicy, v: usize) -> 
     let t = out[v];
     out[v] = Tag {
         valid: t.valid,
-        dirty: mark_after(policy, t.dirty),
+        dirty: marks_after(policy, s, t.dirty),
         line: t.line,
         age: t.age,
     };
@@ -302,7 +309,7 @@ pub fn clean_all(tags: [Tag; TAG_RECORDS], count: usize) -> [Tag; TAG_RECORDS]
         let t = out[k];
         out[k] = Tag {
             valid: t.valid,
-            dirty: false,
+            dirty: 0,
             line: t.line,
             age: t.age,
         };
@@ -311,22 +318,15 @@ pub fn clean_all(tags: [Tag; TAG_RECORDS], count: usize) -> [Tag; TAG_RECORDS]
     out
 }
 
-// 1 for a dirty record, else 0.
-fn dirty_one(t: Tag) -> u32
-    ensures { λ r. ⌜ (r ≡ cond (t .dirty) 1 0) × (r ≤ 1) ⌝ }
-{
-    if t.dirty { 1 } else { 0 }
-}
-
-// The number of dirty records: "the number of lines written" by a flush.
+// 02, card 2: "flush answers the count of words": how many words are dirty.
 pub fn dirty_count(tags: [Tag; TAG_RECORDS]) -> u32
-    ensures { λ r. ⌜ r ≡ length (filter isDirty tags) ⌝ }
+    ensures { λ r. ⌜ r ≡ total wordsOf tags ⌝ }
 {
     let mut n: u32 = 0;
     let mut k: usize = 0;
     while k < TAG_RECORDS {
         let t = tags[k];
-        n += dirty_one(t);
+        n += dirty_words::count(t.dirty);
         k += 1;
     }
     n

@@ -1,22 +1,24 @@
 -- What the checker computes: the table of refusals, the shared table, 01's worked script, the states of well-formed, dropped stretches,
--- runs beside flat memory, and the write policies.
+-- runs beside flat memory, the write policies, and dirty words.
 -- Files are checked in the order of their names, this one first: an edited rule meets an example here before it meets a proof.
+use Prim.Native.Nat.{zero, suc}
 use mathlib.Core.Path.{_≡_, refl}
 use mathlib.Core.Bool.{true, false}
 use mathlib.Core.List.{[], _∷_, _++_, map}
-use lib.ListN.{replicate, set}
+use lib.ListN.{take, replicate, set}
 use Rattle.rules.specs.declared.Request.the-variants.{Free, Line}
 use Rattle.rules.specs.declared.WritePolicy.{WritePolicy}
 use Rattle.rules.specs.declared.WritePolicy.the-variants.{WriteBack, WriteThrough}
 use Rattle.rules.specs.Shape.{geometry, fits}
-use Rattle.rules.specs.Calls.{retry, abort, idle, reply, show, refused, stored, value, waits, committed, kept, drained, requested, filled, flushed, idled, shown}
+use Rattle.rules.specs.Calls.{retry, abort, idle, reply, flush, show, refused, stored, value, waits, committed, kept, drained, requested, filled, flushed, idled, shown, flushRule}
 use Rattle.rules.specs.WellFormed.{wellFormed}
-use Rattle.rules.specs.Runs.{answers, after, startAnswer, startWorld, ready}
+use Rattle.rules.specs.Runs.{emptyQueues, answers, after, startAnswer, startWorld, ready}
 use Rattle.rules.specs.Dropped.{Dropped}
-use Rattle.rules.specs.Lines.{dirtyLines}
+use Rattle.rules.specs.Words.{DrainedTo, Unmarked}
+use Rattle.rules.specs.Lines.{dirtyWords, fillLine}
 use Rattle.rules.specs.Flat.{flatBefore, flatCommitted}
 use Rattle.lists.specs.Bytes.{valueAt}
-use Rattle.rules.specs.Examples.{table, script, whole, seenAnswers, struckAnswers, seenEnd, struckEnd, evicting, inquiring, waitingOnly, draining, otherCache, beginning, past, flatValue, twoLines, reusing, overtaken, evictedFlush, storeMisses, storeHits, afterIdle, writingTwice, storeToRequested, storedLine, drainingThrough}
+use Rattle.rules.specs.Examples.{table, script, whole, seenAnswers, struckAnswers, seenEnd, struckEnd, evicting, inquiring, waitingOnly, draining, otherCache, beginning, past, flatValue, twoLines, reusing, overtaken, evictedFlush, storeMisses, storeHits, afterIdle, writingTwice, storeToRequested, storedLine, drainingThrough, linePresent, marksAfter, markOf, sameByte, oneWord, twoWords, fourWords, evictedWord, bothPresent, threeWords, allDiffer}
 use Rattle.rules.specs.States.{tag, richTags, richCache, richStores, richLoads, richQueues, richLines, cleanTags, cleanCache, clauses, broken, brokenClauses}
 use Rattle.rules.specs.RefusalTable.{startRows, inputRows, stateRows, clauseRows, orderRows, AsStarted, AsGiven, GivenUnder}
 use Rattle.rules.specs.Computed.{computed}
@@ -262,8 +264,8 @@ pub evicted-flat :
 unfolding computed evictedFlush
 evicted-flat = refl
 
--- no record is dirty after it
-pub evicted-clean : dirtyLines (after (evictedFlush .calls) (beginning evictedFlush) .hierarchy) ≡ 0
+-- no word is dirty after it
+pub evicted-clean : dirtyWords (after (evictedFlush .calls) (beginning evictedFlush) .hierarchy) ≡ 0
 unfolding computed evictedFlush
 evicted-clean = refl
 
@@ -276,7 +278,7 @@ pub through-misses :
       says = drained 1;
       memory = set (set twoLines 22 7) 23 9;
       cache = replicate 32 0;
-      records = tag false false 0 0 ∷ tag false false 0 1 ∷ [];
+      records = tag false 0 0 0 ∷ tag false 0 0 1 ∷ [];
       request = Free;
     }
 unfolding computed
@@ -288,21 +290,21 @@ pub back-misses :
       says = requested 16;
       memory = twoLines;
       cache = replicate 32 0;
-      records = tag false false 0 0 ∷ tag false false 0 1 ∷ [];
+      records = tag false 0 0 0 ∷ tag false 0 0 1 ∷ [];
       request = Line 1;
     }
 unfolding computed
 back-misses = refl
 
 -- a store to a present line, which is used: write-through writes memory and the line, which stays clean; write-back writes the line
--- alone, and marks it
+-- alone, and marks word 1
 pub through-hits :
     afterIdle (storeHits WriteThrough)
     ≡ record {
       says = drained 1;
       memory = set (set twoLines 22 7) 23 9;
       cache = set (set twoLines 22 7) 23 9;
-      records = tag true false 0 1 ∷ tag true false 1 0 ∷ [];
+      records = tag true 0 0 1 ∷ tag true 0 1 0 ∷ [];
       request = Free;
     }
 unfolding computed
@@ -314,7 +316,7 @@ pub back-hits :
       says = drained 1;
       memory = twoLines;
       cache = set (set twoLines 22 7) 23 9;
-      records = tag true false 0 1 ∷ tag true true 1 0 ∷ [];
+      records = tag true 0 0 1 ∷ tag true 2 1 0 ∷ [];
       request = Free;
     }
 unfolding computed
@@ -433,3 +435,104 @@ through-ends = refl
 pub through-struck-ends : struckEnd drainingThrough ≡ 2 ∷ 2 ∷ 0 ∷ 0 ∷ 2 ∷ 0 ∷ 0 ∷ 1 ∷ 1 ∷ []
 unfolding computed drainingThrough
 through-struck-ends = refl
+
+-- ---- dirty words
+
+-- a store marks its word, and no other: word n by 2 to the power n, whatever the width
+pub words-marked : markOf 0 4 ∷ markOf 6 2 ∷ markOf 11 1 ∷ markOf 12 4 ∷ [] ≡ 1 ∷ 2 ∷ 4 ∷ 8 ∷ []
+unfolding computed
+words-marked = refl
+
+-- also a store that changes no byte
+pub same-marked : marksAfter sameByte ≡ 2
+unfolding computed sameByte
+same-marked = refl
+
+pub same-flushed : answers (flush ∷ []) (after sameByte linePresent) ≡ flushed 1 ∷ []
+unfolding computed sameByte
+same-flushed = refl
+
+-- two stores to one word, to two words, and four to four words: the marks, and what a flush answers
+pub one-marked : marksAfter oneWord ≡ 2
+unfolding computed oneWord
+one-marked = refl
+
+pub one-flushed : answers (flush ∷ []) (after oneWord linePresent) ≡ flushed 1 ∷ []
+unfolding computed oneWord
+one-flushed = refl
+
+pub two-marked : marksAfter twoWords ≡ 12
+unfolding computed twoWords
+two-marked = refl
+
+pub two-flushed : answers (flush ∷ flush ∷ []) (after twoWords linePresent) ≡ flushed 2 ∷ flushed 0 ∷ []
+unfolding computed twoWords
+two-flushed = refl
+
+pub four-marked : marksAfter fourWords ≡ 15
+unfolding computed fourWords
+four-marked = refl
+
+pub four-flushed : answers (flush ∷ []) (after fourWords linePresent) ≡ flushed 4 ∷ []
+unfolding computed fourWords
+four-flushed = refl
+
+-- words of two lines: the count, and what the flush leaves. Ages stay
+pub three-flushed :
+    answers threeWords bothPresent
+    ≡ stored 1 ∷ stored 2 ∷ stored 3 ∷ committed 3 ∷ drained 1 ∷ drained 2 ∷ drained 3 ∷ flushed 3 ∷ []
+unfolding computed threeWords
+three-flushed = refl
+
+pub three-records : take 2 (after threeWords bothPresent .hierarchy .tags) ≡ tag true 0 0 1 ∷ tag true 0 1 0 ∷ []
+unfolding computed threeWords
+three-records = refl
+
+pub three-memory :
+    after threeWords bothPresent .hierarchy .memory
+    ≡ 0 ∷ 0 ∷ 0 ∷ 0 ∷ 5 ∷ 6 ∷ 7 ∷ 8 ∷ 9 ∷ 10 ∷ 11 ∷ 12 ∷ 13 ∷ 14 ∷ 15 ∷ 0
+    ∷ 17 ∷ 18 ∷ 19 ∷ 20 ∷ 21 ∷ 22 ∷ 0 ∷ 0 ∷ 25 ∷ 26 ∷ 27 ∷ 28 ∷ 29 ∷ 30 ∷ 31 ∷ 32 ∷ []
+unfolding computed threeWords
+three-memory = refl
+
+-- an eviction writes the word, and the line that comes is clean
+pub evicted-word-answers : answers evictedWord linePresent ≡ stored 1 ∷ waits 2 ∷ committed 2 ∷ drained 1 ∷ requested 16 ∷ filled 16 ∷ []
+unfolding computed evictedWord
+evicted-word-answers = refl
+
+pub evicted-word-memory :
+    after evictedWord linePresent .hierarchy .memory
+    ≡ 1 ∷ 2 ∷ 3 ∷ 4 ∷ 5 ∷ 6 ∷ 0 ∷ 0 ∷ 9 ∷ 10 ∷ 11 ∷ 12 ∷ 13 ∷ 14 ∷ 15 ∷ 16
+    ∷ 17 ∷ 18 ∷ 19 ∷ 20 ∷ 21 ∷ 22 ∷ 23 ∷ 24 ∷ 25 ∷ 26 ∷ 27 ∷ 28 ∷ 29 ∷ 30 ∷ 31 ∷ 32 ∷ []
+unfolding computed evictedWord
+evicted-word-memory = refl
+
+pub evicted-word-marks : marksAfter evictedWord ≡ 0
+unfolding computed evictedWord
+evicted-word-marks = refl
+
+-- a drain to word 1 of slot 1, as the claim has it
+pub hits-drained : DrainedTo idle (storeHits WriteBack) 1 1
+unfolding computed
+hits-drained = record { says = refl; back = refl; slot = refl; word = refl }
+
+-- bytes that no record marks: those of word 0
+pub word-unmarked : Unmarked allDiffer 16
+unfolding computed
+word-unmarked zero e = refl
+word-unmarked (suc k) e = refl
+
+-- a flush and an eviction write words 1 and 3 alone. (In a well-formed state words 0 and 2 would equal memory, so no run could tell.)
+pub flush-writes-marked :
+    flushRule emptyQueues allDiffer .hierarchy .memory
+    ≡ 1 ∷ 2 ∷ 3 ∷ 4 ∷ 5 ∷ 6 ∷ 7 ∷ 8 ∷ 9 ∷ 10 ∷ 11 ∷ 12 ∷ 13 ∷ 14 ∷ 15 ∷ 16
+    ∷ 17 ∷ 18 ∷ 19 ∷ 20 ∷ 200 ∷ 200 ∷ 200 ∷ 200 ∷ 25 ∷ 26 ∷ 27 ∷ 28 ∷ 200 ∷ 200 ∷ 200 ∷ 200 ∷ []
+unfolding computed
+flush-writes-marked = refl
+
+pub eviction-writes-marked :
+    fillLine 0 allDiffer .memory
+    ≡ 1 ∷ 2 ∷ 3 ∷ 4 ∷ 5 ∷ 6 ∷ 7 ∷ 8 ∷ 9 ∷ 10 ∷ 11 ∷ 12 ∷ 13 ∷ 14 ∷ 15 ∷ 16
+    ∷ 17 ∷ 18 ∷ 19 ∷ 20 ∷ 200 ∷ 200 ∷ 200 ∷ 200 ∷ 25 ∷ 26 ∷ 27 ∷ 28 ∷ 200 ∷ 200 ∷ 200 ∷ 200 ∷ []
+unfolding computed
+eviction-writes-marked = refl

@@ -27,7 +27,7 @@ use Rattle.rules.proofs.QueueView.{goodStore, goodLoad, store-zero, sto
 -- ---- an access
 
 pub record Fine (size a w : ℕ) : Type 0 where
-  pub one-line : a % 16 + w ≤ 16
+  pub one-word : a % 4 + w ≤ 4
   pub inside : a + w ≤ size
   pub some-byte : 0 < w
 
@@ -44,12 +44,12 @@ fine b a w e =
     e₁ : (not (not (eqb (a % w) 0)) && (not (ltb (b .size) (a + w)) && true)) ≡ true
     e₁ = and-right (not (not (widthAllowed w))) _ e
 
-    at : (n : ℕ) → w ≡ n → (a % n ≡ 0 → a % 16 + n ≤ 16) → 0 < n → Fine (b .size) a w
+    at : (n : ℕ) → w ≡ n → (a % n ≡ 0 → a % 4 + n ≤ 4) → 0 < n → Fine (b .size) a w
     at n q g pos =
         let m : a % w ≡ 0 = eqb-true (a % w) 0 (not-false _ (not-true _ (and-left _ _ e₁))) in
         let m′ : a % n ≡ 0 = subst (λ (k : ℕ). a % k ≡ 0) q m in
         record {
-          one-line = omega (arith, g m′);
+          one-word = omega (arith, g m′);
           inside = ltb-false (b .size) (a + w) (not-true _ (and-left _ _ (and-right (not (not (eqb (a % w) 0))) _ e₁)));
           some-byte = omega arith;
         }

@@ -139,7 +139,7 @@ module _ (q : Queues) (b : Hierarchy) (wf : wellFormed q b ≡ true) where
         parted = used-first (λ (t : StoreEntry). t .number) noStore refl (q .stores) (ap not (r .held));
         flat =
             flat-write b (p .fit) (p .lines) s (and-right (storeReady q) _ e)
-            (fine b (s .address) (s .width) (store-access b (q .last) s (oldest-good q b p) (r .held)) .one-line);
+            (fine b (s .address) (s .width) (store-access b (q .last) s (oldest-good q b p) (r .held)) .one-word);
         settled = rw (le-leb (s .number) (q .committed) (r .low));
         ahead = oldest-behind r;
       }

@@ -25,7 +25,7 @@ use Rattle.rules.proofs.Records.{SameLines}
 use Rattle.rules.proofs.Dirty.{clean-byte, cleaned-clean}
 use Rattle.rules.proofs.Recency.{use-lines, start-invalid}
 use Rattle.rules.proofs.LineFacts.{Fits, Lines, Good, At, fits-tells, present-tells, look, absent-tells, used-slot, byte-valid, good-tells}
-use Rattle.rules.proofs.LineSteps.{same-lines, among-tells, overlaid-moved, through-is, through-out, slot-same, present-same, put-lines, put-other, put-good, saved-else, save-lines, install-tag, install-here, install-other-tag, install-other, install-good}
+use Rattle.rules.proofs.LineSteps.{same-lines, word-in-line, among-tells, overlaid-moved, through-is, through-out, slot-same, present-same, put-lines, put-other, put-good, saved-else, save-lines, install-tag, install-here, install-other-tag, install-other, install-good}
 use Rattle.rules.proofs.LineRules.{LinesKept, kept-refl, kept-then, kept-fits, shaped-slots, save-kept, victim-in}
 
 -- ---- reading flat memory
@@ -89,10 +89,6 @@ use-flat l b a =
     either (λ (c : Hierarchy). flatByte c a ≡ flatByte b a) (present b l)
     (λ e. slot-flat (setOf b l) (slotOf b l) b a) (λ e. refl)
 
-pub use-size : (l : ℕ) (b : Hierarchy) → useLine l b .size ≡ b .size
-unfolding useLine useSlot
-use-size l b = either (λ (c : Hierarchy). c .size ≡ b .size) (present b l) (λ e. refl) (λ e. refl)
-
 -- ---- a store is written
 
 -- no byte of the store stands in another line
@@ -109,7 +105,10 @@ module _ (s : StoreEntry) (in-line : s .address % 16 + s .width ≤ 16) (a : ℕ
 
 -- its line is present
 module _ (s : StoreEntry) (b : Hierarchy) (fit : Fits b) (g : Good b) (here : present b (lineOf (s .address)) ≡ true)
-    (in-line : s .address % 16 + s .width ≤ 16) (a : ℕ) where
+    (in-word : s .address % 4 + s .width ≤ 4) (a : ℕ) where
+  in-line : s .address % 16 + s .width ≤ 16
+  in-line = word-in-line (s .address) (s .width) in-word
+
   abbrev v : ℕ
   v = slotOf b (lineOf (s .address))
 
@@ -123,7 +122,7 @@ module _ (s : StoreEntry) (b : Hierarchy) (fit : Fits b) (g : Good b) (here : pr
   put-same = put-lines b fit g v s (at .valid)
 
   put-fine : Good put
-  put-fine = put-good b fit g v s (at .valid) in-line (at .line)
+  put-fine = put-good b fit g v s (at .valid) in-word (at .line)
 
   -- a byte of the store's line
   put-hit : lineOf a ≡ lineOf (s .address) → flatByte put a ≡ overlaid (s .address) (s .width) (s .value) a (flatByte b a)
@@ -185,17 +184,13 @@ module _ (s : StoreEntry) (b : Hierarchy) (through : writesThrough b ≡ true) (
 -- a store is written, to its present line or through: exactly its bytes change
 pub write-flat :
     (s : StoreEntry) (b : Hierarchy) → fits b ≡ true → linesFormed b ≡ true → (writesThrough b || present b (lineOf (s .address))) ≡ true
-    → s .address % 16 + s .width ≤ 16 → (a : ℕ) → a < length (b .memory)
+    → s .address % 4 + s .width ≤ 4 → (a : ℕ) → a < length (b .memory)
     → flatByte (writeStore s b) a ≡ cond (among (s .address) (s .width) a) (storeByte s a) (flatByte b a)
 unfolding writeStore
 write-flat s b f g h w a near =
     either (λ (c : Hierarchy). flatByte c a ≡ cond (among (s .address) (s .width) a) (storeByte s a) (flatByte b a)) (present b (lineOf (s .address)))
     (λ p. hit-flat s b (fits-tells b f) (good-tells b g) p w a)
-    (λ p. miss-flat s b (cases (writesThrough b) (λ t. t) (λ t. wrong (or-then (writesThrough b) _ h t) p)) p w a near)
-
-pub write-size : (s : StoreEntry) (b : Hierarchy) → writeStore s b .size ≡ b .size
-unfolding writeStore useSlot putStore
-write-size s b = either (λ (c : Hierarchy). c .size ≡ b .size) (present b (lineOf (s .address))) (λ e. refl) (λ e. refl)
+    (λ p. miss-flat s b (cases (writesThrough b) (λ t. t) (λ t. wrong (or-then (writesThrough b) _ h t) p)) p (word-in-line (s .address) (s .width) w) a near)
 
 pub write-length : (s : StoreEntry) (b : Hierarchy) → length (writeStore s b .memory) ≡ length (b .memory)
 unfolding writeStore useSlot putStore storedMemory
@@ -216,7 +211,7 @@ module _ (b : Hierarchy) (fit : Fits b) (g : Good b) (v : ℕ) (v-in : v < slots
     where
       -- memory under an absent line is not written
       unsaved : present b (lineOf a) ≡ false → (x : ℕ) → writtenBackAt (tagAt (b .tags) v) (b .cache) v a x ≡ x
-      unsaved e x = saved-else _ _ v a x (λ d q. absent-tells b (g .lines) (lineOf a) e v (byte-valid b g v (a % 16) (omega arith) d) (sym q))
+      unsaved e x = saved-else _ _ v a x (λ d q. absent-tells b (g .lines) (lineOf a) e v (byte-valid b g v (a % 16) d) (sym q))
 
   save-clean : isDirty (tagAt (writeBackSlot v b .tags) v) ≡ false
   unfolding writeBackSlot
@@ -238,7 +233,7 @@ steps-run P f (suc n) i h a x =
     let e : i + suc n ≡ suc i + n = omega arith in
     rw e (steps-run P f n (suc i) (λ j c p q y. h j c (omega arith) (omega arith) y) (f i a) (h i a (omega arith) (omega arith) x))
 
--- c is b with the dirty lines of the first j slots written to memory
+-- c is b with the dirty words of the first j slots written to memory
 record Backed (b : Hierarchy) (j : ℕ) (c : Hierarchy) : Type 0 where
   kept : LinesKept b c
   same-flat : (a : ℕ) → flatByte c a ≡ flatByte b a
@@ -276,10 +271,10 @@ washed-memory c g h a =
     (λ e.
     let p = present-tells c (lineOf a) e in
     let k = slotOf c (lineOf a) in
-    sym (flat-clean c g k a (p .valid) (p .line) (clean-byte _ (a % 16) (omega arith) (h k (used-slot c g k (p .valid))))))
+    sym (flat-clean c g k a (p .valid) (p .line) (clean-byte _ (a % 16) (h k (used-slot c g k (p .valid))))))
     (λ e. sym (flat-gone c a e))
 
--- every dirty line is written back: no record of a slot in use is dirty,
+-- every dirty word is written back: no record of a slot in use is dirty,
 pub back-clean :
     (b : Hierarchy) → fits b ≡ true → linesFormed b ≡ true → (k : ℕ) → k < slots b → isDirty (tagAt (writeBackAll b .tags) k) ≡ false
 back-clean b f g k h = backed b f (good-tells b g) .washed k h
@@ -294,10 +289,6 @@ pub back-memory :
 back-memory b f g a =
     let k = backed b f (good-tells b g) in
     washed-memory (writeBackAll b) (k .kept .good) (λ j h. k .washed j (omega (arith, shaped-slots b (writeBackAll b) (k .kept .shaped)))) a ∙ k .same-flat a
-
-pub back-size : (b : Hierarchy) → writeBackAll b .size ≡ b .size
-unfolding writeBackAll writeBackSlot
-back-size b = steps-keep (λ (c : Hierarchy). c .size ≡ b .size) writeBackSlot (slots b) 0 (λ j c p q e. e) b refl
 
 pub back-length : (b : Hierarchy) → length (writeBackAll b .memory) ≡ length (b .memory)
 unfolding writeBackAll writeBackSlot
@@ -357,7 +348,7 @@ module _ (c : Hierarchy) (fit : Fits c) (g : Good c) (v l : ℕ) (v-in : v < slo
       elim (ℕ-discrete k v) [
         | yes z ↦
             none-left d (λ j n q r. n (g .lines .once j k q (p .valid) (r ∙ sym (p .line)) ∙ z))
-            ∙ sym (flat-clean c g k a (p .valid) (p .line) (clean-byte _ (a % 16) (omega arith) (ap (λ (n : ℕ). isDirty (tagAt (c .tags) n)) z ∙ washed)))
+            ∙ sym (flat-clean c g k a (p .valid) (p .line) (clean-byte _ (a % 16) (ap (λ (n : ℕ). isDirty (tagAt (c .tags) n)) z ∙ washed)))
         | no n ↦
             let t = tag-other k n in
             flat-here new (fine .lines) k a (ap (λ (t : Tag). t .valid) t ∙ p .valid) (ap (λ (t : Tag). t .line) t ∙ p .line)
@@ -384,10 +375,6 @@ fill-flat l b f formed absent inside a =
     slot-flat (setOf b l) v (install v l (writeBackSlot v b)) a
     ∙ (install-flat (writeBackSlot v b) fit₁ (k .good) v l (h .used) (h .low) (h .high) (omega arith) (k .lines l ∙ absent) (save-clean b fit g v (h .used)) a
     ∙ save-flat b fit g v (h .used) a)
-
-pub fill-size : (l : ℕ) (b : Hierarchy) → fillLine l b .size ≡ b .size
-unfolding fillLine useSlot install writeBackSlot
-fill-size l b = refl
 
 -- ---- start
 

@@ -1,29 +1,30 @@
 -- Flush: memory becomes flat memory, which in a run is memory as found with exactly the committed stores applied; the count is the number
--- of dirty records before, and no record is dirty after.
-use Prim.Native.Nat.{ℕ, _+_}
+-- of dirty words before, and no record has a mark after.
+use Prim.Native.Nat.{ℕ, zero, suc, _+_, _*_, _/_, _%_, _≤_}
 use mathlib.Core.Path.{_≡_, refl, sym, _∙_, ap, ap₂}
-use mathlib.Core.Bool.{true, false, false≢true}
+use mathlib.Core.Bool.{Bool, true, false, cond, false≢true}
 use mathlib.Core.List.{List, _++_, append-nil}
 use native.Mathlib.Omega.{arith}
 use native.Mathlib.Decide.{decLt}
 use lib.ListN.{length, take, drop, take-append-drop}
-use lib.Seq.{getD-drop}
-use Rattle.lists.specs.Padded.{any, filter}
-use Rattle.lists.proofs.Some.{none-at}
+use lib.Seq.{getD-drop, drop-cons}
+use Rattle.lists.specs.Counted.{countFrom}
+use Rattle.lists.specs.Padded.{any, filter, total}
+use Rattle.lists.proofs.Total.{total-append, total-zero}
 use Rattle.lists.proofs.Selected.{filter-append, filter-all, filter-none, filter-filter}
 use Rattle.rules.specs.declared.Figures.{Figures}
 use Rattle.rules.specs.declared.Tag.{Tag}
 use Rattle.rules.specs.declared.StoreEntry.{StoreEntry}
 use Rattle.rules.specs.Shape.{Queues, Hierarchy, World, noTag, slots, tagAt, fits}
-use Rattle.rules.specs.Lines.{isDirty, writeBackAll, dirtyLines}
+use Rattle.rules.specs.Lines.{markAt, markCount, wordsOf, dirtyWord, isDirty, writeBackAll, dirtyWords}
 use Rattle.rules.specs.Calls.{Call, Outcome, flush, flushed, isAccepted, committedStore, flushRule}
 use Rattle.rules.specs.WellFormed.{linesFormed}
 use Rattle.rules.specs.Runs.{outcome, answer, next, after}
 use Rattle.rules.specs.Flat.{History, upTo, historyOf, flatOf, appliedAll, heldStore, flatCommitted}
 use Rattle.rules.specs.Values.{AfterStart, FromState, dirtyInUse, FlushCounts, FlushesRight}
 use Rattle.rules.proofs.Checks.{outcome-by}
-use Rattle.rules.proofs.Dirty.{no-tag-clean}
-use Rattle.rules.proofs.LineFacts.{good-tells}
+use Rattle.rules.proofs.Dirty.{mark-is, no-mark, no-tag-clean, clean-words}
+use Rattle.rules.proofs.LineFacts.{fits-tells, good-tells}
 use Rattle.rules.proofs.LineRules.{LinesKept, save-all, shaped-slots}
 use Rattle.rules.proofs.FlatLines.{back-clean}
 use Rattle.rules.proofs.QueueView.{parts}
@@ -32,26 +33,42 @@ use Rattle.rules.proofs.Stored.{memory-back}
 use Rattle.rules.proofs.History.{Traced, TracedAt, run-traced}
 use Rattle.rules.proofs.Values.{after-start, from-state}
 
--- ---- the dirty records
+-- ---- the dirty words
+
+-- word m of a table, counted from its first slot on
+abbrev wordAt : List Tag → ℕ → Bool
+wordAt tags m = dirtyWord tags (m / 4) (m % 4)
+
+-- the words of s slots from slot k on, one by one
+words-counted :
+    (tags : List Tag) (s k : ℕ) → k + s ≤ length tags → countFrom (wordAt tags) (k * 4) (s * 4) ≡ total wordsOf (take s (drop k tags))
+unfolding countFrom total markCount
+words-counted tags zero k h = refl
+words-counted tags (suc s) k h =
+    let four : suc s * 4 ≡ suc (suc (suc (suc (s * 4)))) = omega arith in
+    let next : suc (suc (suc (suc (k * 4)))) ≡ suc k * 4 = omega arith in
+    rw (four, next, words-counted tags s (suc k) (omega arith), drop-cons tags k noTag (omega arith))
+    (omega (arith, word 0 (k * 4) (omega arith) (omega arith), word 1 (suc (k * 4)) (omega arith) (omega arith), word 2 (suc (suc (k * 4))) (omega arith) (omega arith), word 3 (suc (suc (suc (k * 4)))) (omega arith) (omega arith)))
+  where
+    word : (n m : ℕ) → m / 4 ≡ k → m % 4 ≡ n → cond (wordAt tags m) 1 0 ≡ markAt (tagAt tags k .dirty) n
+    word n m slot place = rw (slot, place) (mark-is (tagAt tags k .dirty) n)
 
 module _ (b : Hierarchy) (f : fits b ≡ true) (g : linesFormed b ≡ true) where
   -- the records that are not in use are clean
-  dirty-used : dirtyLines b ≡ dirtyInUse b
-  unfolding dirtyLines
+  dirty-used : dirtyWords b ≡ dirtyInUse b
+  unfolding dirtyWords
   dirty-used =
-      ap (λ (ts : List Tag). length (filter isDirty ts)) (sym (take-append-drop (slots b) (b .tags)))
-      ∙ ap length (filter-append isDirty (take (slots b) (b .tags)) (drop (slots b) (b .tags))
-      ∙ ap (λ (ts : List Tag). filter isDirty (take (slots b) (b .tags)) ++ ts) (filter-none isDirty (drop (slots b) (b .tags)) rest)
-      ∙ append-nil (filter isDirty (take (slots b) (b .tags))))
+      ap (total wordsOf) (sym (take-append-drop (slots b) (b .tags)))
+      ∙ (total-append wordsOf (take (slots b) (b .tags)) (drop (slots b) (b .tags))
+      ∙ omega (arith, rest, words-counted (b .tags) (slots b) 0 (omega (arith, good-tells b g .table, fits-tells b f .room))))
     where
-      rest : any isDirty (drop (slots b) (b .tags)) ≡ false
-      rest = none-at isDirty noTag (drop (slots b) (b .tags)) (λ k lt.
-          ap isDirty (getD-drop (slots b) (b .tags) k noTag ∙ good-tells b g .unused (slots b + k) (omega arith)) ∙ no-tag-clean)
+      rest : total wordsOf (drop (slots b) (b .tags)) ≡ 0
+      rest = total-zero wordsOf noTag (drop (slots b) (b .tags)) (λ k lt.
+          ap wordsOf (getD-drop (slots b) (b .tags) k noTag ∙ good-tells b g .unused (slots b + k) (omega arith)) ∙ clean-words noTag no-tag-clean)
 
-  -- none is dirty after a write back of all
-  back-none : dirtyLines (writeBackAll b) ≡ 0
-  unfolding dirtyLines
-  back-none = ap length (filter-none isDirty (writeBackAll b .tags) (none-at isDirty noTag (writeBackAll b .tags) (λ k lt. clean k)))
+  -- no record has a mark after a write back of all
+  back-none : (k : ℕ) → tagAt (writeBackAll b .tags) k .dirty ≡ 0
+  back-none k = no-mark (tagAt (writeBackAll b .tags) k) (clean k)
     where
       kept : LinesKept b (writeBackAll b)
       kept = save-all b f (good-tells b g)
@@ -68,9 +85,9 @@ module _ (b : Hierarchy) (f : fits b ≡ true) (g : linesFormed b ≡ true) wher
 -- of an outcome
 abbrev Exact : World → ℕ → Outcome → Type 0
 Exact w k o =
-    (k ≡ dirtyLines (w .hierarchy))
+    (k ≡ dirtyWords (w .hierarchy))
     × (k ≡ dirtyInUse (w .hierarchy))
-    × (dirtyLines (o .hierarchy) ≡ 0)
+    × ((k : ℕ) → tagAt (o .hierarchy .tags) k .dirty ≡ 0)
     × (o .hierarchy .memory ≡ flatOf (w .hierarchy))
 
 flush-outcome : (w : World) (k : ℕ) → outcome flush (w .queues) (w .hierarchy) .answer ≡ flushed k → Exact w k (outcome flush (w .queues) (w .hierarchy))
@@ -78,7 +95,7 @@ unfolding flushRule
 flush-outcome w k =
     outcome-by flush (w .queues) (w .hierarchy) (λ o. o .answer ≡ flushed k → Exact w k o) (λ n e. absurd (false≢true (ap isAccepted e)))
     (λ fit wf p e.
-    let same : k ≡ dirtyLines (w .hierarchy) = cc in
+    let same : k ≡ dirtyWords (w .hierarchy) = cc in
     let formed = parts (w .queues) (w .hierarchy) wf .lines in
     (same, same ∙ dirty-used (w .hierarchy) fit formed, back-none (w .hierarchy) fit formed, memory-back (w .hierarchy) fit formed))
 

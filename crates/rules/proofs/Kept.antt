@@ -127,7 +127,7 @@ module _ (q : Queues) (b : Hierarchy) (wf : wellFormed q b ≡ true) where
       either Leaves (canDrain q b)
       (λ e.
       with-lines _ _ (oldest-leaves q b p (and-right (storeReady q) _ e))
-      (write-store (oldestStore q) b (p .fit) g (fine b _ _ (ready-access (and-left _ _ e)) .one-line)))
+      (write-store (oldestStore q) b (p .fit) g (fine b _ _ (ready-access (and-left _ _ e)) .one-word)))
       (λ e. either Leaves (canRequestLoad q b)
       (λ e₁.
       let l = lowestWanting q b in

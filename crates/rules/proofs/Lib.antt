@@ -24,3 +24,4 @@ pub mod FlatCalls
 pub mod History
 pub mod Values
 pub mod Flush
+pub mod Words

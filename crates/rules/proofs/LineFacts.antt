@@ -16,8 +16,8 @@ use Rattle.lists.proofs.Counting.{first-low, first-hits, first-least, all-at, a
 use Rattle.rules.specs.declared.Tag.{Tag}
 use Rattle.rules.specs.Shape.{Hierarchy, noTag, tagAt, slots, firstSlot, writesThrough, setsAllowed, waysAllowed, memoryAllowed, figuresAllowed, fits}
 use Rattle.rules.specs.Lines.{holdsLine, slotOf, present, dirtyAt, isDirty}
-use Rattle.rules.specs.WellFormed.{zeroTag, linesInsideAt, linesInSetAt, linesOnceAt, onlyValidDirtyAt, invalidZeroAt, invalidBytesAt, cleanEqualAt, isCleanAt, tableLength, unusedZero, recencyFormed, linesInside, linesInSet, linesOnce, onlyValidDirty, invalidZero, invalidBytes, cleanEqual, noneDirty, lineClauses, linesFormed}
-use Rattle.rules.proofs.Dirty.{dirty-byte, no-tag-clean}
+use Rattle.rules.specs.WellFormed.{zeroTag, linesInsideAt, linesInSetAt, linesOnceAt, onlyValidDirtyAt, invalidZeroAt, invalidBytesAt, cleanEqualAt, isCleanAt, fourMarksAt, tableLength, unusedZero, recencyFormed, linesInside, linesInSet, linesOnce, onlyValidDirty, invalidZero, invalidBytes, cleanEqual, noneDirty, fourMarks, lineClauses, linesFormed}
+use Rattle.rules.proofs.Dirty.{dirty-byte, no-tag-clean, no-tag-few}
 use Rattle.rules.proofs.Recency.{Recency, recency-tells, recency-are}
 pub use Rattle.rules.proofs.Records.{set-room}
 
@@ -54,6 +54,7 @@ pub record Good (b : Hierarchy) : Type 0 where
   pub zeroed :
       (k i : ℕ) → k < slots b → tagAt (b .tags) k .valid ≡ false → i < 16 → getD (b .cache) (16 * k + i) 0 ≡ 0
   pub none-dirty : writesThrough b ≡ true → (k : ℕ) → isDirty (tagAt (b .tags) k) ≡ false
+  pub four-marks : (k : ℕ) → tagAt (b .tags) k .dirty ≤ 15
 
 -- where a present line stands
 pub record At (b : Hierarchy) (l : ℕ) : Type 0 where
@@ -147,8 +148,8 @@ pub dirty-valid : (b : Hierarchy) → Good b → (k : ℕ) → isDirty (tagAt (b
 dirty-valid b g k d = cases (tagAt (b .tags) k .valid) (λ v. v) (λ v. wrong d (g .empty k v .0))
 
 pub byte-valid :
-    (b : Hierarchy) → Good b → (k i : ℕ) → i < 16 → dirtyAt (tagAt (b .tags) k) i ≡ true → tagAt (b .tags) k .valid ≡ true
-byte-valid b g k i h d = dirty-valid b g k (dirty-byte (tagAt (b .tags) k) i h d)
+    (b : Hierarchy) → Good b → (k i : ℕ) → dirtyAt (tagAt (b .tags) k) i ≡ true → tagAt (b .tags) k .valid ≡ true
+byte-valid b g k i d = dirty-valid b g k (dirty-byte (tagAt (b .tags) k) i d)
 
 -- ---- the clauses, one by one
 
@@ -170,6 +171,7 @@ record Clauses (b : Hierarchy) : Type 0 where
   bytes : invalidBytes b ≡ true
   clean : cleanEqual b ≡ true
   none-dirty : noneDirty b ≡ true
+  four-marks : fourMarks b ≡ true
 
 clauses-tell : (b : Hierarchy) → linesFormed b ≡ true → Clauses b
 unfolding linesFormed
@@ -187,6 +189,7 @@ clauses-tell b e =
       bytes = at 8;
       clean = at 9;
       none-dirty = at 10;
+      four-marks = at 11;
     }
 
 clauses-are : (b : Hierarchy) → Clauses b → linesFormed b ≡ true
@@ -199,7 +202,7 @@ clauses-are b c =
     (and-both _ _ (c .own)
     (and-both _ _ (c .once)
     (and-both _ _ (c .dirty) (and-both _ _ (c .line) (and-both _ _ (c .bytes)
-    (and-both _ _ (c .clean) (and-both _ _ (c .none-dirty) refl))))))))))
+    (and-both _ _ (c .clean) (and-both _ _ (c .none-dirty) (and-both _ _ (c .four-marks) refl)))))))))))
 
 -- ---- zero records
 
@@ -211,9 +214,9 @@ zero-tells : (t : Tag) → zeroTag t ≡ true → t ≡ noTag
 unfolding zeroTag
 zero-tells t e =
     let e₁ = and-right (not (t .valid)) _ e in
-    let e₂ = and-right (not (t .dirty)) _ e₁ in
+    let e₂ = and-right (eqb (t .dirty) 0) _ e₁ in
     let p = not-true _ (and-left (not (t .valid)) _ e) in
-    let q = not-true _ (and-left (not (t .dirty)) _ e₁) in
+    let q = eqb-true (t .dirty) 0 (and-left _ _ e₁) in
     let r = eqb-true (t .line) 0 (and-left _ _ e₂) in
     let s = eqb-true (t .age) 0 (and-right (eqb (t .line) 0) _ e₂) in
     λ i. record { valid = p i; dirty = q i; line = r i; age = s i }
@@ -276,6 +279,10 @@ module _ (b : Hierarchy) where
     unfolding isCleanAt
     undirty-tells e = not-true _ e
 
+    marks-tell : fourMarksAt b k ≡ true → tag .dirty ≤ 15
+    unfolding fourMarksAt
+    marks-tell e = leb-true (tag .dirty) 15 e
+
 pub good-tells : (b : Hierarchy) → linesFormed b ≡ true → Good b
 good-tells b e =
     record {
@@ -298,6 +305,11 @@ good-tells b e =
           elim (decLt k (slots b)) [
             | yes h ↦ undirty-tells b k (at-slot b (isCleanAt b) (or-then (not (writesThrough b)) _ (c .none-dirty) (ap not t)) k h)
             | no h ↦ ap isDirty (past k (omega arith)) ∙ no-tag-clean
+          ];
+      four-marks = λ k.
+          elim (decLt k (slots b)) [
+            | yes h ↦ marks-tell b k (at-slot b (fourMarksAt b) (c .four-marks) k h)
+            | no h ↦ rw (past k (omega arith)) no-tag-few
           ];
     }
   where
@@ -373,6 +385,10 @@ module _ (b : Hierarchy) (g : Good b) (k : ℕ) where
   unfolding isCleanAt
   undirty-is t = ap not (g .none-dirty t k)
 
+  marks-are : fourMarksAt b k ≡ true
+  unfolding fourMarksAt
+  marks-are = le-leb _ 15 (g .four-marks k)
+
 pub good-is : (b : Hierarchy) → Good b → linesFormed b ≡ true
 good-is b g =
     clauses-are b (record {
@@ -389,4 +405,5 @@ good-is b g =
       bytes = all-by (invalidBytesAt b) (slots b) 0 (λ k a h. zeroed-is b g k (omega arith));
       clean = all-by (cleanEqualAt b) (slots b) 0 (λ k a h. clean-is b g k);
       none-dirty = or-by (not (writesThrough b)) _ (λ n. all-by (isCleanAt b) (slots b) 0 (λ k a h. undirty-is b g k (not-false _ n)));
+      four-marks = all-by (fourMarksAt b) (slots b) 0 (λ k a h. marks-are b g k);
     })

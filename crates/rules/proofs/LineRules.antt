@@ -15,7 +15,7 @@ use Rattle.rules.specs.Lines.{slotOf, present, useSlot, useLine, storedM
 use Rattle.rules.proofs.Records.{set-room}
 use Rattle.rules.proofs.Recency.{use-lines, victim-range}
 use Rattle.rules.proofs.LineFacts.{Fits, Good, fits-tells, present-tells, look, absent-tells}
-use Rattle.rules.proofs.LineSteps.{same-lines, present-same, memory-good, use-good, put-lines, put-good, save-lines, save-good, install-tag, install-other-tag, install-good}
+use Rattle.rules.proofs.LineSteps.{same-lines, word-in-line, present-same, memory-good, use-good, put-lines, put-good, save-lines, save-good, install-tag, install-other-tag, install-good}
 
 -- ---- what stays
 
@@ -94,7 +94,7 @@ use-line l b e g =
 
 put-kept :
     (b : Hierarchy) → Fits b → Good b → (v : ℕ) (s : StoreEntry) → tagAt (b .tags) v .valid ≡ true
-    → tagAt (b .tags) v .line ≡ lineOf (s .address) → s .address % 16 + s .width ≤ 16 → LinesKept b (putStore v s b)
+    → tagAt (b .tags) v .line ≡ lineOf (s .address) → s .address % 4 + s .width ≤ 4 → LinesKept b (putStore v s b)
 unfolding putStore storedMemory
 put-kept b fit g v s h e w =
     record {
@@ -116,7 +116,7 @@ memory-kept b g s w a =
     }
 
 pub write-store :
-    (s : StoreEntry) (b : Hierarchy) → fits b ≡ true → Good b → s .address % 16 + s .width ≤ 16 → LinesKept b (writeStore s b)
+    (s : StoreEntry) (b : Hierarchy) → fits b ≡ true → Good b → s .address % 4 + s .width ≤ 4 → LinesKept b (writeStore s b)
 unfolding writeStore putStore
 write-store s b e g w =
     let l = lineOf (s .address) in
@@ -125,7 +125,7 @@ write-store s b e g w =
     let h = present-tells b l p in
     let k = put-kept b (fits-tells b e) g (slotOf b l) s (h .valid) (h .line) w in
     kept-then b _ _ k (use-kept _ (fits-tells _ (kept-fits b _ e k)) (k .good) l (slotOf b l) (h .low) (h .high)))
-    (λ p. memory-kept b g s w p)
+    (λ p. memory-kept b g s (word-in-line (s .address) (s .width) w) p)
 
 -- ---- write back
 

@@ -10,7 +10,7 @@ use Rattle.lists.proofs.Cond.{and-left, and-both, wrong}
 use Rattle.rules.specs.declared.Figures.{Figures}
 use Rattle.rules.specs.Shape.{figuresAllowed, fits}
 use Rattle.rules.specs.Runs.{started, startAllowed}
-use Rattle.rules.proofs.Recency.{start-invalid, start-clean, start-line, start-unused, start-table, start-recency}
+use Rattle.rules.proofs.Recency.{start-invalid, start-clean, start-few, start-line, start-unused, start-table, start-recency}
 use Rattle.rules.proofs.LineFacts.{Good, fits-tells}
 
 module _ (f : Figures) (cache memory : List ℕ) (allowed : startAllowed f cache memory ≡ true) where
@@ -40,4 +40,5 @@ module _ (f : Figures) (cache memory : List ℕ) (allowed : startAllowed f cache
         empty = λ k v. (start-clean f k, start-line f k);
         zeroed = λ k i h v l. getD-replicate (f .sets * f .ways * 16) (16 * k + i) 0 0 (omega arith);
         none-dirty = λ t k. start-clean f k;
+        four-marks = λ k. start-few f k;
       }

@@ -20,8 +20,8 @@ use Rattle.rules.specs.declared.WritePolicy.the-variants.{WriteBack, Wri
 use Rattle.rules.specs.Shape.{Hierarchy, holding, noTag, tagAt, slots, setStart, firstSlot, lineOf, isThrough, writesThrough}
 use Rattle.rules.specs.Lines.{holdsLine, slotOf, present, useSlot, dirtyAt, isDirty, marked, cleaned, writtenThroughAt, storedMemory, putStore, writtenBackAt, writeBackSlot, copiedAt, install}
 use Rattle.rules.proofs.Records.{at-set, SameLines}
-use Rattle.rules.proofs.Dirty.{marked-tells, marked-clean, cleaned-clean}
-use Rattle.rules.proofs.Recency.{recency-same, set-recency, use-lines, use-dirty, use-dirty-at, use-table, use-unused, use-recency}
+use Rattle.rules.proofs.Dirty.{marked-tells, marked-few, marked-clean, cleaned-clean, clean-few}
+use Rattle.rules.proofs.Recency.{recency-same, set-recency, use-lines, use-dirty, use-marks, use-dirty-at, use-table, use-unused, use-recency}
 use Rattle.rules.proofs.LineFacts.{Fits, Lines, Good, absent-tells, used-slot, byte-valid}
 
 -- ---- what a change of records leaves
@@ -64,6 +64,7 @@ module _ (b : Hierarchy) (fit : Fits b) (g : Good b) (s v : ℕ) (s-in : s < b .
         empty = λ k n. let e = g .empty k (sym (same .valid k) ∙ n) in (use-dirty s v b k ∙ e .0, same .line k ∙ e .1);
         zeroed = λ k i h v l. g .zeroed k i h (sym (same .valid k) ∙ v) l;
         none-dirty = λ t k. use-dirty s v b k ∙ g .none-dirty t k;
+        four-marks = λ k. omega (arith, use-marks s v b k, g .four-marks k);
       }
 
 -- ---- a record is written
@@ -114,6 +115,10 @@ overlaid-moved p j q k w v x e =
     let byte : j - p ≡ k - q = omega arith in
     rw (low, high, byte)
 
+-- an access in one word is an access in one line
+pub word-in-line : (a w : ℕ) → a % 4 + w ≤ 4 → a % 16 + w ≤ 16
+word-in-line a w h = omega arith
+
 -- what write-through does to a byte of memory, and that write-back does nothing to it
 pub through-is :
     (w : WritePolicy) (s : StoreEntry) (a x : ℕ) → isThrough w ≡ true → writtenThroughAt w s a x ≡ overlaid (s .address) (s .width) (s .value) a x
@@ -157,6 +162,7 @@ memory-good b g s in-line absent =
       empty = g .empty;
       zeroed = g .zeroed;
       none-dirty = g .none-dirty;
+      four-marks = g .four-marks;
     }
 
 -- a byte that is none of the store's
@@ -206,9 +212,10 @@ module _ (b : Hierarchy) (fit : Fits b) (g : Good b) (v : ℕ) (s : StoreEntry) 
   put-back t i o d h =
       put-beside b v s i o ∙ (g .clean v i here d h ∙ sym (each-same _ (b .memory) 0 _ (back-is (b .figures .policy) s _ t)))
 
-  pub put-good : s .address % 16 + s .width ≤ 16 → tagAt (b .tags) v .line ≡ lineOf (s .address) → Good (putStore v s b)
+  pub put-good : s .address % 4 + s .width ≤ 4 → tagAt (b .tags) v .line ≡ lineOf (s .address) → Good (putStore v s b)
   unfolding putStore
-  put-good in-line line-is =
+  put-good in-word line-is =
+      let in-line = word-in-line (s .address) (s .width) in-word in
       let v-in = used-slot b g v here in
       let t = marked (b .figures .policy) s (tagAt (b .tags) v) in
       let at = at-set (b .tags) v t (in-table b fit g v v-in t) in
@@ -221,7 +228,7 @@ module _ (b : Hierarchy) (fit : Fits b) (g : Good b) (v : ℕ) (s : StoreEntry) 
             at
             (λ k u. u .valid ≡ true → dirtyAt u i ≡ false → i < 16 → getD (putStore v s b .cache) (16 * k + i) 0 ≡ getD (storedMemory s b) (16 * u .line + i) 0)
             (λ e f l.
-            let m = marked-tells (tagAt (b .tags) v) i (b .figures .policy) s l f in
+            let m = marked-tells (tagAt (b .tags) v) i (b .figures .policy) s (g .four-marks v) in-word l f in
             cases (writesThrough b) (λ t. put-through line-is t i (m .0) l) (λ t. put-back t i (m .1 t) (m .0) l))
             (λ k d e f l.
             put-other b v s in-line k i d l
@@ -233,6 +240,7 @@ module _ (b : Hierarchy) (fit : Fits b) (g : Good b) (v : ℕ) (s : StoreEntry) 
             at (λ k u. k < slots b → u .valid ≡ false → i < 16 → getD (putStore v s b .cache) (16 * k + i) 0 ≡ 0)
             (λ h e. wrong here e) (λ k d h e l. put-other b v s in-line k i d l ∙ g .zeroed k i h e l) k h;
         none-dirty = λ h. at (λ k u. isDirty u ≡ false) (marked-clean (b .figures .policy) s (tagAt (b .tags) v) h (g .none-dirty h v)) (λ k d. g .none-dirty h k);
+        four-marks = at (λ k u. u .dirty ≤ 15) (marked-few (b .figures .policy) s (tagAt (b .tags) v) (g .four-marks v)) (λ k d. g .four-marks k);
       }
 
 -- ---- a line goes to memory
@@ -276,6 +284,7 @@ module _ (b : Hierarchy) (fit : Fits b) (g : Good b) (v : ℕ) (v-in : v < slots
         empty = at (λ k u. u .valid ≡ false → (isDirty u ≡ false) × (u .line ≡ 0)) (λ e. (cleaned-clean (tagAt (b .tags) v), g .empty v e .1)) (λ k d. g .empty k);
         zeroed = λ k i h. at (λ k u. k < slots b → u .valid ≡ false → i < 16 → getD (b .cache) (16 * k + i) 0 ≡ 0) (g .zeroed v i) (λ k d. g .zeroed k i) k h;
         none-dirty = λ h. at (λ k u. isDirty u ≡ false) (cleaned-clean (tagAt (b .tags) v)) (λ k d. g .none-dirty h k);
+        four-marks = at (λ k u. u .dirty ≤ 15) (clean-few t (cleaned-clean (tagAt (b .tags) v))) (λ k d. g .four-marks k);
       }
     where
       -- the byte's place in memory is that of the line's byte i
@@ -299,7 +308,7 @@ module _ (b : Hierarchy) (fit : Fits b) (g : Good b) (v : ℕ) (v-in : v < slots
           (k i : ℕ) → (k ≡ v → ⊥) → tagAt (b .tags) k .valid ≡ true → i < 16
           → getD (writeBackSlot v b .memory) (16 * tagAt (b .tags) k .line + i) 0 ≡ getD (b .memory) (16 * tagAt (b .tags) k .line + i) 0
       untouched k i d e l =
-          each-same _ (b .memory) 0 _ (λ x. saved-else _ _ v _ x (λ p q. d (g .lines .once k v e (byte-valid b g v _ (omega arith) p) (omega arith))))
+          each-same _ (b .memory) 0 _ (λ x. saved-else _ _ v _ x (λ p q. d (g .lines .once k v e (byte-valid b g v _ p) (omega arith))))
 
 -- ---- a line comes from memory
 
@@ -344,7 +353,7 @@ module _ (b : Hierarchy) (fit : Fits b) (g : Good b) (v l : ℕ) (v-in : v < slo
   pub install-good : Good (install v l b)
   unfolding install
   install-good =
-      let t : Tag = record { valid = true; dirty = false; line = l; age = tagAt (b .tags) v .age } in
+      let t : Tag = record { valid = true; dirty = 0; line = l; age = tagAt (b .tags) v .age } in
       let at = at-set (b .tags) v t (in-table b fit g v v-in t) in
       record {
         table = length-set (b .tags) v t ∙ g .table;
@@ -369,4 +378,5 @@ module _ (b : Hierarchy) (fit : Fits b) (g : Good b) (v l : ℕ) (v-in : v < slo
             at (λ k u. k < slots b → u .valid ≡ false → i < 16 → getD (install v l b .cache) (16 * k + i) 0 ≡ 0)
             (λ h e. wrong refl e) (λ k d h e m. install-other b v l k d i m ∙ g .zeroed k i h e m) k h;
         none-dirty = λ h. at (λ k u. isDirty u ≡ false) refl (λ k d. g .none-dirty h k);
+        four-marks = at (λ k u. u .dirty ≤ 15) (omega arith) (λ k d. g .four-marks k);
       }

@@ -20,7 +20,7 @@ use Rattle.rules.specs.Lines.{agedAt, useSlot, dirtyAt, isDirty, victim}
 use Rattle.rules.specs.WellFormed.{ageGood, setAged, recencyFormed}
 use Rattle.rules.specs.Runs.{startTags, started}
 use Rattle.rules.proofs.Records.{set-room, at-set, SameLines}
-use Rattle.rules.proofs.Dirty.{aged-byte, aged-dirty, no-tag-clean}
+use Rattle.rules.proofs.Dirty.{aged-byte, aged-dirty, no-tag-clean, clean-few}
 
 -- ---- the ages of a set
 
@@ -170,6 +170,9 @@ module _ (s v : ℕ) (b : Hierarchy) where
   pub use-dirty : (k : ℕ) → isDirty (tagAt (useSlot s v b .tags) k) ≡ isDirty (tagAt (b .tags) k)
   use-dirty = used-keeps isDirty (λ x t. aged-dirty t x)
 
+  pub use-marks : (k : ℕ) → tagAt (useSlot s v b .tags) k .dirty ≡ tagAt (b .tags) k .dirty
+  use-marks = used-keeps (λ t. t .dirty) (λ x t. refl)
+
   pub use-dirty-at : (i k : ℕ) → dirtyAt (tagAt (useSlot s v b .tags) k) i ≡ dirtyAt (tagAt (b .tags) k) i
   use-dirty-at i = used-keeps (λ t. dirtyAt t i) (λ x t. aged-byte t i x)
 
@@ -255,6 +258,9 @@ module _ (f : Figures) (k : ℕ) where
 
   pub start-clean : isDirty (tagAt (startTags f) k) ≡ false
   start-clean = start-zero isDirty (aged-dirty noTag) ∙ no-tag-clean
+
+  pub start-few : tagAt (startTags f) k .dirty ≤ 15
+  start-few = clean-few (tagAt (startTags f) k) start-clean
 
   pub start-line : tagAt (startTags f) k .line ≡ 0
   start-line = start-zero (λ t. t .line) (λ x. refl)

@@ -3,9 +3,10 @@ use mathlib.Core.Path.{_≡_, sym, subst}
 use mathlib.Core.List.{List}
 use Prim.Native.Nat.{ℕ, _+_, _*_, _<_, _≤_}
 use native.Mathlib.Nat.{suc-mul, mul-le-mul-right}
-use native.Mathlib.Decide.{ℕ-discrete}
+use native.Mathlib.Omega.{arith}
+use native.Mathlib.Decide.{ℕ-discrete, decLt}
 use lib.ListN.{length, set}
-use lib.Seq.{getD-set-same, getD-set-other}
+use lib.Seq.{set-out, getD-set-same, getD-set-other}
 use Rattle.rules.specs.declared.Tag.{Tag}
 use Rattle.rules.specs.Shape.{noTag, tagAt}
 
@@ -21,6 +22,16 @@ at-set tags v t h P x y k =
     elim (ℕ-discrete k v) [
       | yes e ↦ subst (λ (j : ℕ). P j (tagAt (set tags v t) j)) (sym e) (subst (P v) (sym (getD-set-same tags v t noTag h)) x)
       | no d ↦ subst (P k) (sym (getD-set-other tags v k t noTag d)) (y k d)
+    ]
+
+-- a fact of each record is one still where a record that has it is written, in the table or past it
+pub still-set :
+    (tags : List Tag) (v : ℕ) (t : Tag) (P : ℕ → Tag → Type 0) → P v t → ((k : ℕ) → P k (tagAt tags k)) → (k : ℕ)
+    → P k (tagAt (set tags v t) k)
+still-set tags v t P x y k =
+    elim (decLt v (length tags)) [
+      | yes h ↦ at-set tags v t h P x (λ k d. y k) k
+      | no h ↦ rw (set-out tags v t (omega arith)) (y k)
     ]
 
 -- the same lines are valid in the same slots

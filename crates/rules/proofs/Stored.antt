@@ -102,12 +102,12 @@ flat-use-each (l ∷ ls) b = flat-use-each ls (useLine (lineOf (l .address)) b) 
 
 module _ (b : Hierarchy) (f : fits b ≡ true) (g : linesFormed b ≡ true) where
   -- a store written, to its present line or through, is applied
-  pub flat-write : (s : StoreEntry) → (writesThrough b || present b (lineOf (s .address))) ≡ true → s .address % 16 + s .width ≤ 16 → flatOf (writeStore s b) ≡ applied s (flatOf b)
-  flat-write s here in-line =
+  pub flat-write : (s : StoreEntry) → (writesThrough b || present b (lineOf (s .address))) ≡ true → s .address % 4 + s .width ≤ 4 → flatOf (writeStore s b) ≡ applied s (flatOf b)
+  flat-write s here in-word =
       flat-is (writeStore s b) (applied s (flatOf b)) (applied-length s (flatOf b) ∙ flat-length b ∙ sym (write-length s b))
       (λ a l.
       let near : a < length (flatOf b) = omega (arith, applied-length s (flatOf b)) in
-      write-flat s b f g here in-line a (omega (arith, flat-length b))
+      write-flat s b f g here in-word a (omega (arith, flat-length b))
       ∙ ap (λ (x : ℕ). cond (covers a s) (storeByte s a) x) (sym (flat-at b a (omega (arith, flat-length b))))
       ∙ sym (applied-byte s (flatOf b) a near))
 
@@ -120,7 +120,7 @@ module _ (b : Hierarchy) (f : fits b ≡ true) (g : linesFormed b ≡ true) wher
   pub flat-back : flatOf (writeBackAll b) ≡ flatOf b
   flat-back = flat-same b (writeBackAll b) (back-length b) (back-flat b f g)
 
-  -- memory, once every dirty line is written back
+  -- memory, once every dirty word is written back
   pub memory-back : writeBackAll b .memory ≡ flatOf b
   memory-back = sym (flat-is b (writeBackAll b .memory) (back-length b) (λ a l. sym (back-memory b f g a)))
 

@@ -11,7 +11,7 @@ use Rattle.rules.specs.declared.LoadEntry.{LoadEntry}
 use Rattle.rules.specs.declared.Request.{Request}
 use Rattle.rules.specs.declared.Request.the-variants.{Free, Line}
 use Rattle.rules.specs.Shape.{Queues, Hierarchy, lineBytes, topNumber, noStore, noLoad, isFreeStore, isFreeLoad, isFree, requestedLine, lineOf, writesThrough}
-use Rattle.rules.specs.Lines.{present, placeOf, useLine, writeStore, writeBackAll, dirtyLines, fillLine}
+use Rattle.rules.specs.Lines.{present, placeOf, useLine, writeStore, writeBackAll, dirtyWords, fillLine}
 use Rattle.rules.specs.Forward.{loadValue}
 
 -- ---- calls and answers
@@ -55,7 +55,7 @@ pub data Answer : Type 0 where
   idled : Answer
   -- the line's first address
   filled : ℕ → Answer
-  -- lines written
+  -- words written
   flushed : ℕ → Answer
   -- where in the cache the part begins, and its bytes
   shown : ℕ → List ℕ → Answer
@@ -311,7 +311,8 @@ storeReady q =
 abbrev pub canDrain : Queues → Hierarchy → Bool
 canDrain q b = storeReady q && (writesThrough b || present b (lineOf (oldestStore q .address)))
 
--- "write it, mark the line dirty, use the line, remove the store" (`writeStore` has it for both policies)
+-- "write it, mark the line dirty, use the line, remove the store"; 02, card 2: it "marks the word written" (`writeStore` has
+-- both, for either policy)
 abbrev pub drainOldest : Queues → Hierarchy → Outcome
 drainOldest q b = record {
   answer = drained (oldestStore q .number);
@@ -371,9 +372,10 @@ replyRule q b = record {
 
 -- ---- flush
 
--- "Flush writes every dirty line to memory, marks it clean and answers the number of lines written. Ages stay."
+-- "Flush writes every dirty line to memory, marks it clean .. Ages stay." 02, card 2: "Eviction and flush write
+-- marked words only, and flush answers the count of words."
 unfoldable pub flushRule : Queues → Hierarchy → Outcome
-flushRule q b = record { answer = flushed (dirtyLines b); queues = q; hierarchy = writeBackAll b }
+flushRule q b = record { answer = flushed (dirtyWords b); queues = q; hierarchy = writeBackAll b }
 
 -- ---- show line
 

@@ -3,7 +3,7 @@ use Prim.Native.Nat.{ℕ}
 use mathlib.Core.List.{List}
 use Rattle.rules.specs.declared.Figures.{Figures}
 use Rattle.rules.specs.declared.WritePolicy.{WritePolicy}
-use Rattle.rules.specs.Shape.{World}
+use Rattle.rules.specs.Shape.{Hierarchy, World}
 use Rattle.rules.specs.Calls.{Call}
 use Rattle.rules.specs.Refusals.{RefusedKeeps, RefusedExactly}
 use Rattle.rules.specs.RefusalTable.{AsStarted, AsGiven, GivenUnder, startRows, inputRows, stateRows, clauseRows, orderRows}
@@ -11,6 +11,7 @@ use Rattle.rules.specs.Numbers.{FirstNumber, NextNumber}
 use Rattle.rules.specs.Dropped.{DroppedStretch, DroppedAfterStart}
 use Rattle.rules.specs.Kept.{StartFormed, NextKept, RunKept, AdmittedAfterStart}
 use Rattle.rules.specs.Values.{AfterStart, FromState, ValuesRight, LoadWaits, RetryWaits, InquiriesRight, FlushCounts, FlushesRight, FlatCall, FlatAfter}
+use Rattle.rules.specs.Words.{MarksExact, Unmarked, MarkedOnly}
 
 -- a refused call changes nothing
 abbrev pub RefusedCallsKeep : Type 0
@@ -68,3 +69,9 @@ pub record FlatMemoryIsKept : Type 0 where
   pub by-call : (c : Call) (w : World) → FlatCall c w
   pub after-start : (f : Figures) (cache memory : List ℕ) → AfterStart FlatAfter f cache memory
   pub from-state : (w : World) → FromState FlatAfter w
+
+-- 02, card 2: a drain with write-back marks the word written, and no call another one; a line comes without marks; eviction and flush
+-- write marked words only
+pub record WordsAreExact : Type 0 where
+  pub by-call : (c : Call) (w : World) → MarksExact c w
+  pub written : (b : Hierarchy) (a : ℕ) → Unmarked b a → MarkedOnly b a

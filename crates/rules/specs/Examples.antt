@@ -1,5 +1,5 @@
 -- The shared table: 01's bench examples marked P, each as what the rules give beside what 01 says. And 01's worked script,
--- dropped stretches, runs beside flat memory, and the two write policies beside each other.
+-- dropped stretches, runs beside flat memory, the two write policies beside each other, and dirty words.
 use Prim.Native.Nat.{ℕ, _+_}
 use mathlib.Core.Bool.{Bool, true}
 use mathlib.Core.List.{List, [], _∷_, _++_, map}
@@ -76,7 +76,7 @@ twoPresent = record {
   hierarchy = useLine 1 twoFilled;
 }
 
--- line 0 in the one way, dirty, with byte 0 written; line 1 is requested for the committed load 2
+-- line 0 in the one way, word 0 dirty (byte 0 is written); line 1 is requested for the committed load 2
 abbrev pub dirtyRequested : World
 dirtyRequested = record {
   queues = record {
@@ -394,4 +394,56 @@ drainingThrough = record {
   n = 2;
   body = load 0 1 ∷ store 22 1 3 ∷ idle ∷ idle ∷ reply ∷ [];
   later = load 22 1 ∷ commit 2 ∷ idle ∷ reply ∷ show 16 ∷ [];
+}
+
+-- ---- dirty words (02, card 2)
+
+-- one set of one way over two lines, line 0 present
+abbrev pub linePresent : World
+linePresent = world emptyQueues (fillLine 0 (started (geometry WriteBack 1 1) twoLines .hierarchy))
+
+-- the dirty marks of slot 0 after these calls
+abbrev pub marksAfter : List Call → ℕ
+marksAfter cs = tagAt (after cs linePresent .hierarchy .tags) 0 .dirty
+
+-- and after one store of zeros, of so many bytes
+abbrev pub markOf : ℕ → ℕ → ℕ
+markOf a n = marksAfter (store a n 0 ∷ commit 1 ∷ idle ∷ [])
+
+-- a store of the byte that stands there
+unfoldable pub sameByte : List Call
+sameByte = store 4 1 5 ∷ commit 1 ∷ idle ∷ []
+
+-- two stores to bytes 5 and 6, which are in word 1
+unfoldable pub oneWord : List Call
+oneWord = store 5 1 90 ∷ store 6 1 91 ∷ commit 2 ∷ idle ∷ idle ∷ []
+
+-- two stores to bytes 11 and 12, which are in words 2 and 3
+unfoldable pub twoWords : List Call
+twoWords = store 11 1 90 ∷ store 12 1 91 ∷ commit 2 ∷ idle ∷ idle ∷ []
+
+-- a store to each word
+unfoldable pub fourWords : List Call
+fourWords =
+    store 0 4 0 ∷ store 6 2 0 ∷ store 8 1 0 ∷ store 15 1 0 ∷ commit 4 ∷ idle ∷ idle ∷ idle ∷ idle ∷ []
+
+-- a store to word 1; then line 1 comes for a load, and line 0 is evicted
+unfoldable pub evictedWord : List Call
+evictedWord = store 6 2 0 ∷ load 16 1 ∷ commit 2 ∷ idle ∷ idle ∷ reply ∷ []
+
+-- lines 0 and 1 in the two ways of one set; a store to word 0 and one to word 3 of line 0, and one to word 1 of line 1
+abbrev pub bothPresent : World
+bothPresent = world emptyQueues (fillLine 1 (fillLine 0 (started (geometry WriteBack 1 2) twoLines .hierarchy)))
+
+unfoldable pub threeWords : List Call
+threeWords = store 0 4 0 ∷ store 15 1 0 ∷ store 22 2 0 ∷ commit 3 ∷ idle ∷ idle ∷ idle ∷ flush ∷ []
+
+-- Line 1 in slot 0 with words 1 and 3 dirty, and no byte of the cache equal to memory's. (It is not well formed: a clean word differs.)
+abbrev pub allDiffer : Hierarchy
+allDiffer = record {
+  figures = geometry WriteBack 1 1;
+  size = 32;
+  tags = record { valid = true; dirty = 10; line = 1; age = 0 } ∷ [];
+  cache = replicate 16 200;
+  memory = twoLines;
 }

@@ -10,6 +10,7 @@ pub mod Dropped
 pub mod Kept
 pub mod Flat
 pub mod Values
+pub mod Words
 pub mod Computed
 pub mod Examples
 pub mod States

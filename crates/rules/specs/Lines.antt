@@ -1,20 +1,20 @@
--- Lines: where a line stands, use, a store written, write back, the victim and the fill.
+-- Lines: where a line stands, use, dirty words, a store written, write back, the victim and the fill.
 -- Four steps on one slot or its set (use, put a store, write back, install), and memory written past the cache, make up every change of
 -- the hierarchy.
-use Prim.Native.Nat.{ℕ, _+_, _*_, _/_, _%_}
-use mathlib.Core.Bool.{Bool, true, false, cond, not, _&&_}
+use Prim.Native.Nat.{ℕ, _+_, _*_, _/_, _%_, _^_}
+use mathlib.Core.Bool.{Bool, true, cond, not, _&&_}
 use mathlib.Core.List.{List}
 use mathlib.Core.Option.{Option, some, none}
 use lib.Dec.{ltb, leb, eqb}
-use lib.ListN.{length, getD, set}
-use Rattle.lists.specs.Padded.{filter}
+use lib.ListN.{getD, set}
+use Rattle.lists.specs.Padded.{total}
 use Rattle.lists.specs.Counted.{firstFrom, greatestFrom, stepsFrom, eachFrom}
 use Rattle.lists.specs.Bytes.{overlaid}
 use Rattle.rules.specs.declared.Tag.{Tag}
 use Rattle.rules.specs.declared.StoreEntry.{StoreEntry}
 use Rattle.rules.specs.declared.WritePolicy.{WritePolicy}
 use Rattle.rules.specs.declared.WritePolicy.the-variants.{WriteBack, WriteThrough}
-use Rattle.rules.specs.Shape.{Hierarchy, holding, lineBytes, lineOf, setOf, setStart, slots, firstSlot, tagAt, withAge, withDirty, writesThrough}
+use Rattle.rules.specs.Shape.{Hierarchy, holding, lineBytes, wordBytes, lineOf, setOf, setStart, slots, firstSlot, tagAt, withAge, withDirty, writesThrough}
 
 -- ---- where a line stands
 
@@ -59,28 +59,57 @@ useSlot s v b =
 unfoldable pub useLine : ℕ → Hierarchy → Hierarchy
 useLine l b = cond (present b l) (useSlot (setOf b l) (slotOf b l) b) b
 
--- ---- dirty
+-- ---- dirty words (02, card 2: "four dirty marks, one per aligned 4-byte word")
 
--- byte i of the record's line is to be written back: of a dirty line every byte is
+-- the word of its line that an address is in, 0 to 3
+abbrev pub wordOf : ℕ → ℕ
+wordOf a = a % lineBytes / wordBytes
+
+-- mark n of the dirty marks d of a record, 0 or 1: bit n
+abbrev pub markAt : ℕ → ℕ → ℕ
+markAt d n = d / 2 ^ n % 2
+
+-- word n is dirty: its mark is set
+unfoldable pub isDirtyWord : ℕ → ℕ → Bool
+isDirtyWord d n = eqb (markAt d n) 1
+
+-- the marks d with that of word n set
+unfoldable pub withMark : ℕ → ℕ → ℕ
+withMark n d = cond (isDirtyWord d n) d (d + 2 ^ n)
+
+-- how many of the four marks are set
+unfoldable pub markCount : ℕ → ℕ
+markCount d = markAt d 0 + markAt d 1 + markAt d 2 + markAt d 3
+
+-- so many words of the record's line are dirty
+abbrev pub wordsOf : Tag → ℕ
+wordsOf t = markCount (t .dirty)
+
+-- word n of slot k is dirty
+abbrev pub dirtyWord : List Tag → ℕ → ℕ → Bool
+dirtyWord tags k n = isDirtyWord (tagAt tags k .dirty) n
+
+-- byte i of the record's line is to be written back: its word is dirty
 unfoldable pub dirtyAt : Tag → ℕ → Bool
-dirtyAt t i = t .dirty
+dirtyAt t i = isDirtyWord (t .dirty) (i / wordBytes)
 
--- some byte of it is
+-- a mark of the record is set
 abbrev pub isDirty : Tag → Bool
-isDirty t = t .dirty
+isDirty t = not (eqb (t .dirty) 0)
 
--- the dirty mark after a store was written to the line, from the mark d before. 01: "mark the line dirty"; write-through leaves it
-abbrev pub dirtyAfter : WritePolicy → Bool → Bool
-dirtyAfter WriteBack d = true
-dirtyAfter WriteThrough d = d
+-- the marks after a store was written to the line, from the marks d before. 02, card 2: "Write-back draining marks the word written."
+-- Write-through leaves them
+abbrev pub dirtyAfter : WritePolicy → StoreEntry → ℕ → ℕ
+dirtyAfter WriteBack s d = withMark (wordOf (s .address)) d
+dirtyAfter WriteThrough s d = d
 
 -- the record, when the store was written to its line
 abbrev pub marked : WritePolicy → StoreEntry → Tag → Tag
-marked p s t = withDirty (dirtyAfter p (t .dirty)) t
+marked p s t = withDirty (dirtyAfter p s (t .dirty)) t
 
--- "marks it clean": the record, when its line was written back
+-- "marks it clean": the record, when its dirty words were written back
 abbrev pub cleaned : Tag → Tag
-cleaned t = withDirty false t
+cleaned t = withDirty 0 t
 
 -- ---- a store is written
 
@@ -93,40 +122,41 @@ writtenThroughAt WriteThrough s a x = overlaid (s .address) (s .width) (s .value
 unfoldable pub storedMemory : StoreEntry → Hierarchy → List ℕ
 storedMemory s b = eachFrom (writtenThroughAt (b .figures .policy) s) 0 (b .memory)
 
--- the store's bytes go into slot v, with write-through into memory too; with write-back the line is now dirty
+-- the store's bytes go into slot v, with write-through into memory too; with write-back their word is now dirty
 unfoldable pub putStore : ℕ → StoreEntry → Hierarchy → Hierarchy
 putStore v s b =
     holding b (set (b .tags) v (marked (b .figures .policy) s (tagAt (b .tags) v)))
     (eachFrom (overlaid (slotPlace v + s .address % lineBytes) (s .width) (s .value)) 0 (b .cache)) (storedMemory s b)
 
--- 01: "write it, mark the line dirty, use the line". 02, card 1: "it writes memory, and also the cached line where there is one,
--- which it uses". (Write-back is asked this of a present line only, by `canDrain`; of an absent one it changes nothing.)
+-- 01: "write it, mark the line dirty, use the line"; 02, card 2: it "marks the word written". 02, card 1: "it writes memory, and also the
+-- cached line where there is one, which it uses". (Write-back is asked this of a present line only, by `canDrain`; of an absent one it
+-- changes nothing.)
 unfoldable pub writeStore : StoreEntry → Hierarchy → Hierarchy
 writeStore s b =
     let l = lineOf (s .address) in
     cond (present b l) (useSlot (setOf b l) (slotOf b l) (putStore (slotOf b l) s b))
     (holding b (b .tags) (b .cache) (storedMemory s b))
 
--- ---- write back: a line goes to memory
+-- ---- write back: the dirty words of a line go to memory
 
--- byte a of memory, when the line of record t, in slot v, is written where it is dirty
+-- byte a of memory, when the dirty words of the line of record t, in slot v, are written: a byte of a clean word stays as it was
 unfoldable pub writtenBackAt : Tag → List ℕ → ℕ → ℕ → ℕ → ℕ
 writtenBackAt t cache v a x =
     cond (dirtyAt t (a % lineBytes) && eqb (lineOf a) (t .line)) (getD cache (slotPlace v + a % lineBytes) 0) x
 
--- the line of slot v is written to memory where it is dirty, and is clean
+-- 02, card 2: "Eviction and flush write marked words only": the dirty words of slot v are written to memory, and the line is clean
 unfoldable pub writeBackSlot : ℕ → Hierarchy → Hierarchy
 writeBackSlot v b =
     holding b (set (b .tags) v (cleaned (tagAt (b .tags) v))) (b .cache)
     (eachFrom (writtenBackAt (tagAt (b .tags) v) (b .cache) v) 0 (b .memory))
 
--- "writes every dirty line to memory, marks it clean": slot by slot
+-- "writes every dirty line to memory, marks it clean", of each its dirty words: slot by slot
 unfoldable pub writeBackAll : Hierarchy → Hierarchy
 writeBackAll b = stepsFrom writeBackSlot 0 (slots b) b
 
--- the number of dirty records
-unfoldable pub dirtyLines : Hierarchy → ℕ
-dirtyLines b = length (filter isDirty (b .tags))
+-- 02, card 2: "the count of words": how many words are dirty in all
+unfoldable pub dirtyWords : Hierarchy → ℕ
+dirtyWords b = total wordsOf (b .tags)
 
 -- ---- fill: a line comes from memory
 
@@ -144,10 +174,10 @@ copiedAt memory v l j x = cond (eqb (j / lineBytes) v) (getD memory (lineBytes *
 -- line l in slot v, valid and clean, with the 16 bytes of memory; the slot's age stays
 unfoldable pub install : ℕ → ℕ → Hierarchy → Hierarchy
 install v l b =
-    holding b (set (b .tags) v (record { valid = true; dirty = false; line = l; age = tagAt (b .tags) v .age }))
+    holding b (set (b .tags) v (record { valid = true; dirty = 0; line = l; age = tagAt (b .tags) v .age }))
     (eachFrom (copiedAt (b .memory) v l) 0 (b .cache)) (b .memory)
 
--- "A dirty victim is first written to memory. Then the reply copies the line's 16 bytes out of the middle of memory;
+-- "A dirty victim is first written to memory." (Its dirty words are.) "Then the reply copies the line's 16 bytes out of the middle of memory;
 -- the record becomes valid and clean, is used"
 unfoldable pub fillLine : ℕ → Hierarchy → Hierarchy
 fillLine l b = let v = victim b l in useSlot (setOf b l) v (install v l (writeBackSlot v b))

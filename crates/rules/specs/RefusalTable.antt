@@ -3,7 +3,7 @@
 -- A row is a state, a call and what the call answers there; under either write policy, unless said otherwise.
 use Prim.Native.Nat.{ℕ, _+_, _-_}
 use mathlib.Core.Path.{_≡_}
-use mathlib.Core.Bool.{true, false}
+use mathlib.Core.Bool.{true}
 use mathlib.Core.List.{List, [], _∷_, _++_, map}
 use lib.ListN.{replicate}
 use Rattle.lists.specs.Counted.{eachFrom}
@@ -70,7 +70,7 @@ storing h lent = record {
   hierarchy = record {
     figures = geometry WriteBack 1 1;
     size = 32;
-    tags = tag true false 0 0 ∷ replicate 255 noTag;
+    tags = tag true 0 0 0 ∷ replicate 255 noTag;
     cache = replicate lent 0;
     memory = replicate 32 0;
   };

@@ -22,6 +22,17 @@ use Rattle.rules.specs.declared.Request.the-variants.{Free, Line}
 abbrev pub lineBytes : ℕ
 lineBytes = 16
 
+-- 02, card 2: "four dirty marks, one per aligned 4-byte word"
+abbrev pub wordBytes : ℕ
+wordBytes = 4
+
+abbrev pub lineWords : ℕ
+lineWords = 4
+
+-- the marks of a line with every word dirty: 1 + 2 + 4 + 8
+abbrev pub allMarks : ℕ
+allMarks = 15
+
 -- "Tag records fill a fixed table of 256"
 abbrev pub tableSize : ℕ
 tableSize = 256
@@ -115,7 +126,7 @@ noLoad = record { number = 0; address = 0; width = 0; waiting = false }
 
 -- "unused records are all zero"
 abbrev pub noTag : Tag
-noTag = record { valid = false; dirty = false; line = 0; age = 0 }
+noTag = record { valid = false; dirty = 0; line = 0; age = 0 }
 
 -- operation numbers begin at 1: number 0 marks a free place
 abbrev pub isFreeStore : StoreEntry → Bool
@@ -167,7 +178,7 @@ tagAt tags k = getD tags k noTag
 abbrev pub withAge : ℕ → Tag → Tag
 withAge a t = record { valid = t .valid; dirty = t .dirty; line = t .line; age = a }
 
-abbrev pub withDirty : Bool → Tag → Tag
+abbrev pub withDirty : ℕ → Tag → Tag
 withDirty d t = record { valid = t .valid; dirty = d; line = t .line; age = t .age }
 
 -- ---- check 1

@@ -1,7 +1,9 @@
--- States that show what well-formed asks: rich ones that keep every clause, and for each clause one that breaks it, two for the last.
+-- States that show what well-formed asks: rich ones that keep every clause, and for each clause one that breaks it, two for clean
+-- words, for the marks and for the last.
 use Prim.Native.Nat.{ℕ, _+_}
-use mathlib.Core.Bool.{Bool, true, false}
+use mathlib.Core.Bool.{Bool, true, false, cond, _&&_}
 use mathlib.Core.List.{List, [], _∷_, _++_}
+use lib.Dec.{ltb, leb}
 use lib.ListN.{set, replicate}
 use Rattle.lists.specs.Counted.{eachFrom}
 use Rattle.rules.specs.declared.Tag.{Tag}
@@ -16,7 +18,7 @@ use Rattle.rules.specs.WellFormed.{lineClauses, queueClauses}
 
 -- ---- building a state
 
-abbrev pub tag : Bool → Bool → ℕ → ℕ → Tag
+abbrev pub tag : Bool → ℕ → ℕ → ℕ → Tag
 tag v d l a = record { valid = v; dirty = d; line = l; age = a }
 
 abbrev pub heldAt : ℕ → ℕ → ℕ → ℕ → StoreEntry
@@ -46,19 +48,21 @@ queues last h r ss ls = record { last = last; committed = h; request = r; stores
 
 -- ---- the rich state
 
--- set 0: line 0 clean, line 2 dirty; set 1: line 1 clean, the other way invalid
+-- set 0: line 0 clean, words 1 and 2 of line 2 dirty; set 1: line 1 clean, the other way invalid
 unfoldable pub richTags : List Tag
 richTags =
-    tag true false 0 1
-    ∷ tag true true 2 0
-    ∷ tag true false 1 0
-    ∷ tag false false 0 1
+    tag true 0 0 1
+    ∷ tag true 6 2 0
+    ∷ tag true 0 1 0
+    ∷ tag false 0 0 1
     ∷ replicate 252 noTag
 
+-- each line as in memory, but for 200 in the dirty words
 unfoldable pub richCache : List ℕ
 richCache =
     eachFrom (λ j x. j + 1) 0 (replicate 16 0)
-    ++ (replicate 16 200 ++ (eachFrom (λ j x. j + 17) 0 (replicate 16 0) ++ replicate 16 0))
+    ++ (eachFrom (λ j x. cond (leb 4 j && ltb j 12) 200 (j + 33)) 0 (replicate 16 0)
+    ++ (eachFrom (λ j x. j + 17) 0 (replicate 16 0) ++ replicate 16 0))
 
 -- store 2 is committed, store 5 is not
 unfoldable pub richStores : List StoreEntry
@@ -76,7 +80,7 @@ richQueues = queues 7 4 (Line 4) richStores richLoads
 
 -- the same lines with none dirty, as write-through has them: the way of line 2 is invalid
 unfoldable pub cleanTags : List Tag
-cleanTags = set richTags 1 (tag false false 0 0)
+cleanTags = set richTags 1 (tag false 0 0 0)
 
 unfoldable pub cleanCache : List ℕ
 cleanCache =
@@ -90,7 +94,7 @@ cleanLines p = linesBy p cleanTags cleanCache
 abbrev pub requestedByStore : Queues
 requestedByStore = queues 7 4 (Line 3) richStores richLoads
 
--- ---- a state for each clause, and for the last one under each write policy
+-- ---- a state for each clause; for clean words and for the marks two, and for the last clause under each write policy
 
 -- its clauses, those of the lines first
 abbrev pub clauses : World → List Bool
@@ -113,25 +117,30 @@ broken =
     -- a record too many
     withLines (lines (richTags ++ noTag ∷ []) richCache)
     -- an unused record with an age
-    ∷ slotHas 200 (tag false false 0 1)
+    ∷ slotHas 200 (tag false 0 0 1)
     -- an age twice
-    ∷ slotHas 3 (tag false false 0 0)
+    ∷ slotHas 3 (tag false 0 0 0)
     -- a line outside memory
-    ∷ slotHas 2 (tag true true 7 0)
+    ∷ slotHas 2 (tag true 15 7 0)
     -- a line of set 0 in set 1
-    ∷ slotHas 2 (tag true true 4 0)
+    ∷ slotHas 2 (tag true 15 4 0)
     -- a line twice
-    ∷ slotHas 0 (tag true true 2 1)
+    ∷ slotHas 0 (tag true 15 2 1)
     -- an invalid record that is dirty
-    ∷ slotHas 3 (tag false true 0 1)
+    ∷ slotHas 3 (tag false 1 0 1)
     -- an invalid record with a line
-    ∷ slotHas 3 (tag false false 1 1)
+    ∷ slotHas 3 (tag false 0 1 1)
     -- an invalid record with a byte
     ∷ withLines (lines richTags (set richCache 50 1))
     -- a clean line that differs from memory
     ∷ withLines (lines richTags (set richCache 0 0))
+    -- a clean word that differs from memory, in its last byte, in a line with dirty words
+    ∷ withLines (lines richTags (set richCache 19 0))
     -- a dirty line with write-through
     ∷ withLines (linesBy WriteThrough richTags richCache)
+    -- a fifth mark, and an eighth
+    ∷ slotHas 1 (tag true 22 2 0)
+    ∷ slotHas 1 (tag true 134 2 0)
     -- a place too many
     ∷ withQueues (queues 7 4 (Line 4) (richStores ++ noStore ∷ []) richLoads)
     -- a free place with an address
@@ -166,10 +175,10 @@ broken =
 
 -- all of the clauses but number i
 abbrev pub allBut : ℕ → List Bool
-allBut i = set (replicate 25 true) i false
+allBut i = set (replicate 26 true) i false
 
 unfoldable pub brokenClauses : List (List Bool)
 brokenClauses =
-    allBut 0 ∷ allBut 1 ∷ allBut 2 ∷ allBut 3 ∷ allBut 4 ∷ allBut 5 ∷ allBut 6 ∷ allBut 7 ∷ allBut 8 ∷ allBut 9
-    ∷ allBut 10 ∷ allBut 11 ∷ allBut 12 ∷ allBut 13 ∷ allBut 14 ∷ allBut 15 ∷ allBut 16 ∷ allBut 17 ∷ allBut 18
-    ∷ allBut 19 ∷ allBut 20 ∷ allBut 21 ∷ allBut 22 ∷ set (allBut 23) 24 false ∷ allBut 24 ∷ allBut 24 ∷ []
+    allBut 0 ∷ allBut 1 ∷ allBut 2 ∷ allBut 3 ∷ allBut 4 ∷ allBut 5 ∷ allBut 6 ∷ allBut 7 ∷ allBut 8 ∷ allBut 9 ∷ allBut 9
+    ∷ allBut 10 ∷ allBut 11 ∷ allBut 11 ∷ allBut 12 ∷ allBut 13 ∷ allBut 14 ∷ allBut 15 ∷ allBut 16 ∷ allBut 17 ∷ allBut 18
+    ∷ allBut 19 ∷ allBut 20 ∷ allBut 21 ∷ allBut 22 ∷ allBut 23 ∷ set (allBut 24) 25 false ∷ allBut 25 ∷ allBut 25 ∷ []

@@ -1,17 +1,16 @@
 -- Demand 2, through flat memory and not through the rules' own load value: each value is right at its time, when a load waits, what a
 -- flush leaves and counts, and what each call does to flat memory of a state.
-use Prim.Native.Nat.{ℕ}
+use Prim.Native.Nat.{ℕ, _*_, _/_, _%_}
 use mathlib.Core.Path.{_≡_}
 use mathlib.Core.Bool.{Bool, true, false}
 use mathlib.Core.List.{List, [], _∷_, _++_}
-use lib.ListN.{length, take}
 use Rattle.lists.specs.Padded.{first, filter, increasing}
-use Rattle.lists.specs.Counted.{someFrom}
+use Rattle.lists.specs.Counted.{someFrom, countFrom}
 use Rattle.lists.specs.Bytes.{valueAt}
 use Rattle.rules.specs.declared.Figures.{Figures}
 use Rattle.rules.specs.declared.LoadEntry.{LoadEntry}
-use Rattle.rules.specs.Shape.{Hierarchy, World, noLoad, slots}
-use Rattle.rules.specs.Lines.{isDirty, dirtyLines}
+use Rattle.rules.specs.Shape.{Hierarchy, World, lineWords, noLoad, slots, tagAt}
+use Rattle.rules.specs.Lines.{dirtyWord, dirtyWords}
 use Rattle.rules.specs.Forward.{lacking}
 use Rattle.rules.specs.Calls.{Call, Answer, load, store, retry, commit, abort, idle, reply, flush, show, value, waits, flushed, isAccepted, waitingAt, nextNumber}
 use Rattle.rules.specs.Runs.{answer, next, after, startWorld, startAnswer, ready}
@@ -108,17 +107,18 @@ InquiriesRight found h w run =
 
 -- ---- flush
 
--- the number of dirty records among the slots in use
+-- the number of dirty words among the slots in use, each word looked at by itself
 abbrev pub dirtyInUse : Hierarchy → ℕ
-dirtyInUse b = length (filter isDirty (take (slots b) (b .tags)))
+dirtyInUse b =
+    countFrom (λ m. dirtyWord (b .tags) (m / lineWords) (m % lineWords)) 0 (slots b * lineWords)
 
 -- an accepted flush of any state
 pub record FlushExact (w : World) (k : ℕ) : Type 0 where
-  -- it answers the number of dirty records before it, all of them in use
-  pub counts : k ≡ dirtyLines (w .hierarchy)
+  -- it answers the number of dirty words before it, all of them in use
+  pub counts : k ≡ dirtyWords (w .hierarchy)
   pub in-use : k ≡ dirtyInUse (w .hierarchy)
-  -- after it no record is dirty, and memory is flat memory
-  pub cleans : dirtyLines (next flush w .hierarchy) ≡ 0
+  -- after it no record has a mark, and memory is flat memory
+  pub cleans : (k : ℕ) → tagAt (next flush w .hierarchy .tags) k .dirty ≡ 0
   pub flattens : next flush w .hierarchy .memory ≡ flatOf (w .hierarchy)
 
 abbrev pub FlushCounts : World → Type 0

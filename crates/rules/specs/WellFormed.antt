@@ -12,7 +12,7 @@ use Rattle.rules.specs.declared.LoadEntry.{LoadEntry}
 use Rattle.rules.specs.declared.WritePolicy.{WritePolicy}
 use Rattle.rules.specs.declared.Request.{Request}
 use Rattle.rules.specs.declared.Request.the-variants.{Free, Line}
-use Rattle.rules.specs.Shape.{Queues, Hierarchy, lineBytes, tableSize, storePlaces, loadPlaces, topNumber, isFreeStore, isFreeLoad, slots, setStart, firstSlot, tagAt, lineOf, lineInMemory, isThrough, writesThrough, fits}
+use Rattle.rules.specs.Shape.{Queues, Hierarchy, lineBytes, allMarks, tableSize, storePlaces, loadPlaces, topNumber, isFreeStore, isFreeLoad, slots, setStart, firstSlot, tagAt, lineOf, lineInMemory, isThrough, writesThrough, fits}
 use Rattle.rules.specs.Lines.{holdsLine, present, slotPlace, dirtyAt, isDirty}
 use Rattle.rules.specs.Forward.{someUncovered}
 use Rattle.rules.specs.Calls.{passes, accessChecks, valueCheck, oldestStore, storeReady}
@@ -25,7 +25,7 @@ abbrev pub tableLength : Hierarchy → Bool
 tableLength b = eqb (length (b .tags)) tableSize
 
 unfoldable pub zeroTag : Tag → Bool
-zeroTag t = not (t .valid) && (not (t .dirty) && (eqb (t .line) 0 && eqb (t .age) 0))
+zeroTag t = not (t .valid) && (eqb (t .dirty) 0 && (eqb (t .line) 0 && eqb (t .age) 0))
 
 -- the unused records are all zero
 abbrev pub unusedZero : Hierarchy → Bool
@@ -108,7 +108,7 @@ onlyValidDirtyAt b k = let t = tagAt (b .tags) k in not (isDirty t) || t .valid
 abbrev pub onlyValidDirty : Hierarchy → Bool
 onlyValidDirty b = allFrom (onlyValidDirtyAt b) 0 (slots b)
 
--- the dirty mark of an invalid record is the clause above
+-- the dirty marks of an invalid record are the clause above
 unfoldable pub invalidZeroAt : Hierarchy → ℕ → Bool
 invalidZeroAt b k = let t = tagAt (b .tags) k in t .valid || eqb (t .line) 0
 
@@ -122,7 +122,8 @@ invalidBytesAt b k =
 abbrev pub invalidBytes : Hierarchy → Bool
 invalidBytes b = allFrom (invalidBytesAt b) 0 (slots b)
 
--- ---- "clean lines equal memory"
+-- ---- "clean lines equal memory". 02, card 2: "A clean word must equal memory in a well-formed state.": each byte of a valid line is in a
+-- dirty word or equals memory's
 
 unfoldable pub cleanEqualAt : Hierarchy → ℕ → Bool
 cleanEqualAt b k =
@@ -140,6 +141,14 @@ isCleanAt b k = not (isDirty (tagAt (b .tags) k))
 
 abbrev pub noneDirty : Hierarchy → Bool
 noneDirty b = not (writesThrough b) || allFrom (isCleanAt b) 0 (slots b)
+
+-- ---- 02, card 2: "Each record gets four dirty marks": no fifth is set
+
+unfoldable pub fourMarksAt : Hierarchy → ℕ → Bool
+fourMarksAt b k = leb (tagAt (b .tags) k .dirty) allMarks
+
+abbrev pub fourMarks : Hierarchy → Bool
+fourMarks b = allFrom (fourMarksAt b) 0 (slots b)
 
 -- ---- "listed numbers are strictly rising, from 1 to last, and no number is in both lists"
 -- (number 0 marks a free place)
@@ -223,6 +232,7 @@ lineClauses b =
     ∷ invalidBytes b
     ∷ cleanEqual b
     ∷ noneDirty b
+    ∷ fourMarks b
     ∷ []
 
 -- the clauses of the queues

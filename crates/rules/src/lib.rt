@@ -1,7 +1,7 @@
 // The declared types of the load/store model: figures, a tag record, an entry of each queue, and the miss register; and the numbers
 // that every crate names. The rules over them stand in specs/, and what is claimed of the rules is promised here by functions that do
 // nothing.
-ghost use Rattle.rules.specs.Claims.{RefusedCallsKeep, RefusalsExact, RefusalTableHolds, NumbersGiven, DroppedStretches, KeptWellFormed, ValuesAreRight, WaitsAreExact, FlushesAreExact, FlatMemoryIsKept};
+ghost use Rattle.rules.specs.Claims.{RefusedCallsKeep, RefusalsExact, RefusalTableHolds, NumbersGiven, DroppedStretches, KeptWellFormed, ValuesAreRight, WaitsAreExact, FlushesAreExact, FlatMemoryIsKept, WordsAreExact};
 
 // The figures of a store that a start chooses. (02, card 1: "A start may choose this profile.")
 pub struct Figures {
@@ -19,7 +19,8 @@ pub enum WritePolicy {
 // A tag record: one way of one set. (Memory has at most 4,096 lines, and an age is at most 3.)
 pub struct Tag {
     pub valid: bool,
-    pub dirty: bool,
+    // the dirty marks of the line's four words (02, card 2): that of word n weighs 2 to the power n
+    pub dirty: u8,
     pub line: u16,
     pub age: u8,
 }
@@ -52,6 +53,16 @@ pub enum Request {
 pub const LINE_BYTES: u32 = 16;
 
 pub const LINE_LENGTH: usize = 16;
+
+// 02, card 2: "four dirty marks, one per aligned 4-byte word". The bytes of a word, as a number of
+// 32 bits and as a length; the words of a line; the marks with every word dirty.
+pub const WORD_BYTES: u32 = 4;
+
+pub const WORD_LENGTH: usize = 4;
+
+pub const LINE_WORDS: usize = 4;
+
+pub const ALL_MARKS: u8 = 15;
 
 // "Sets: 1, 2, 4, 8, 16, 32 or 64. Ways: 1 to 4." "Memory: .. 16 to 65,536."
 pub const MAX_SETS: u32 = 64;
@@ -127,7 +138,7 @@ pub const NO_LOAD: LoadEntry = LoadEntry {
 
 pub const NO_TAG: Tag = Tag {
     valid: false,
-    dirty: false,
+    dirty: 0,
     line: 0,
     age: 0,
 };
@@ -182,7 +193,7 @@ pub fn waits_exact()
     ensures { λ r. ⌜ WaitsAreExact ⌝ }
 {}
 
-// Demand 2: after an accepted flush memory holds exactly the committed stores, and its count is the number of dirty records before it.
+// Demand 2: after an accepted flush memory holds exactly the committed stores, and its count is the number of dirty words before it.
 pub fn flush_exact()
     ensures { λ r. ⌜ FlushesAreExact ⌝ }
 {}
@@ -190,4 +201,10 @@ pub fn flush_exact()
 // Demand 2: flat memory of a state changes by accepted stores and aborts alone.
 pub fn flat_memory_kept()
     ensures { λ r. ⌜ FlatMemoryIsKept ⌝ }
+{}
+
+// 02, card 2: a drain with write-back marks the word that it writes, and no call another one; a line comes without marks; eviction and
+// flush write marked words only.
+pub fn words_exact()
+    ensures { λ r. ⌜ WordsAreExact ⌝ }
 {}

@@ -3,10 +3,10 @@ use Prim.Native.Nat.{ℕ}
 use mathlib.Core.Path.{_≡_, refl, sym, _∙_, ap, subst}
 use mathlib.Core.Bool.{true, false≢true}
 use mathlib.Core.List.{[], _∷_, _++_}
-use Rattle.rules.specs.Shape.{World}
+use Rattle.rules.specs.Shape.{World, tagAt}
 use Rattle.rules.specs.Calls as rules
 use Rattle.rules.specs.Calls.{Outcome, isAccepted, flushRule}
-use Rattle.rules.specs.Lines.{dirtyLines}
+use Rattle.rules.specs.Lines.{dirtyWords}
 use Rattle.rules.specs.Runs.{answer, next}
 use Rattle.rules.specs.Flat.{History, flatOf, appliedAll, heldStores, flatWithHeld, flatCommitted}
 use Rattle.rules.specs.Values.{ValuesRight, RightValue, InquiriesRight, InquiryAbout, FlushesRight, FlatAfter, FlatNext}
@@ -86,30 +86,30 @@ waits-of-code = record {
 
 -- ---- flush
 
--- an accepted flush answers the number of dirty records
-flush-answer : (w : World) → isAccepted (answer rules.flush w) ≡ true → answer rules.flush w ≡ rules.flushed (dirtyLines (w .hierarchy))
+-- an accepted flush answers the number of dirty words
+flush-answer : (w : World) → isAccepted (answer rules.flush w) ≡ true → answer rules.flush w ≡ rules.flushed (dirtyWords (w .hierarchy))
 unfolding answer flushRule
 flush-answer w =
     outcome-by rules.flush (w .queues) (w .hierarchy)
-    (λ (o : Outcome). isAccepted (o .answer) ≡ true → o .answer ≡ rules.flushed (dirtyLines (w .hierarchy)))
+    (λ (o : Outcome). isAccepted (o .answer) ≡ true → o .answer ≡ rules.flushed (dirtyWords (w .hierarchy)))
     (λ k e. absurd (false≢true e)) (λ e f p r. refl)
 
 flush-given : (m : Machine) (c : Made) → Follows (callMade c) m c → FlushMade m c
 flush-given m c f g t = record {
   counts = there .gives ∙ ap answerAs flushed-is;
   in-use = exact .in-use;
-  cleans = ap (λ (w : World). dirtyLines (w .hierarchy)) (there .leaves) ∙ exact .cleans;
+  cleans = λ k. ap (λ (w : World). tagAt (w .hierarchy .tags) k .dirty) (there .leaves) ∙ exact .cleans k;
   flattens = ap (λ (w : World). w .hierarchy .memory) (there .leaves) ∙ exact .flattens;
 }
   where
     there : Follows rules.flush m c
     there = follows-as m c f Flush g
 
-    flushed-is : answer rules.flush (worldAt m) ≡ rules.flushed (dirtyLines (worldAt m .hierarchy))
+    flushed-is : answer rules.flush (worldAt m) ≡ rules.flushed (dirtyWords (worldAt m .hierarchy))
     flushed-is = flush-answer (worldAt m) (ap isAccepted (sym (there .answers)) ∙ t)
 
-    exact : of-rules.FlushExact (worldAt m) (dirtyLines (worldAt m .hierarchy))
-    exact = flush-counts (worldAt m) (dirtyLines (worldAt m .hierarchy)) flushed-is
+    exact : of-rules.FlushExact (worldAt m) (dirtyWords (worldAt m .hierarchy))
+    exact = flush-counts (worldAt m) (dirtyWords (worldAt m .hierarchy)) flushed-is
 
 flushes-carried : Carried FlushesRight EachFlushRight
 flushes-carried found h m run r p before c later e g t =

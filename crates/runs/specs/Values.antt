@@ -4,7 +4,8 @@ use mathlib.Core.Path.{_≡_}
 use mathlib.Core.Bool.{true, false}
 use mathlib.Core.List.{List, [], _∷_, _++_}
 use Rattle.lists.specs.Padded.{filter}
-use Rattle.rules.specs.Lines.{dirtyLines}
+use Rattle.rules.specs.Shape.{tagAt}
+use Rattle.rules.specs.Lines.{dirtyWords}
 use Rattle.rules.specs.Flat.{below, flatOf, applied, appliedAll, heldStores, flatWithHeld, flatCommitted}
 use Rattle.rules.specs.Values.{RightValue, lacksByte, waitingLoad, InquiryAbout, dirtyInUse}
 use Rattle.model.specs.declared.Call.{Call}
@@ -62,11 +63,11 @@ pub record WaitsOfCode : Type 0 where
 
 -- an accepted flush c on m
 pub record FlushGives (m : Machine) (c : Made) : Type 0 where
-  -- it answers the number of dirty records before it, all of them in use;
-  pub counts : c .gave .answer ≡ Flushed (dirtyLines (worldAt m .hierarchy))
-  pub in-use : dirtyLines (worldAt m .hierarchy) ≡ dirtyInUse (worldAt m .hierarchy)
-  -- after it no record is dirty, and memory is flat memory
-  pub cleans : dirtyLines (worldAt (left c) .hierarchy) ≡ 0
+  -- it answers the number of dirty words before it, all of them in use;
+  pub counts : c .gave .answer ≡ Flushed (dirtyWords (worldAt m .hierarchy))
+  pub in-use : dirtyWords (worldAt m .hierarchy) ≡ dirtyInUse (worldAt m .hierarchy)
+  -- after it no record has a mark, and memory is flat memory
+  pub cleans : (k : ℕ) → tagAt (worldAt (left c) .hierarchy .tags) k .dirty ≡ 0
   pub flattens : c .memory ≡ flatOf (worldAt m .hierarchy)
 
 abbrev pub FlushMade : Machine → Made → Type 0

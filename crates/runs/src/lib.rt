@@ -41,7 +41,7 @@ pub fn waits_of_code()
     ensures { λ r. ⌜ WaitsOfCode ⌝ }
 {}
 
-// An accepted flush answers the number of dirty records before it and leaves in memory exactly the committed stores.
+// An accepted flush answers the number of dirty words before it and leaves in memory exactly the committed stores.
 pub fn flushes_of_code()
     ensures { λ r. ⌜ FlushesOfCode ⌝ }
 {}

@@ -64,7 +64,7 @@ said word [] = word ++ (lineFeed ∷ [])
 said word (n ∷ ns) = said (word ++ (space ∷ printed n)) ns
 
 -- "Numbers printed: operation number; for value, number then value; kept and committed, the last and h now in force; request and
--- filled, the line's first address; flushed, lines written. .. Case (d) of idle prints idle. Others: refused and the number."
+-- filled, the line's first address; flushed, lines written." (02, card 2: words.) ".. Case (d) of idle prints idle. Others: refused and the number."
 -- No line of a script shows a cache line.
 unfoldable pub answerLine : Answer → List ℕ
 answerLine (stored i) = said storedWord (i ∷ [])

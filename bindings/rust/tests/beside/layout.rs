@@ -23,8 +23,13 @@ pub const WIDTH: usize = 8;
 pub const VALUE: usize = 12;
 pub const WAITING: usize = 12;
 
-/// In a tag record: behind its valid mark.
+/// In a tag record: behind its valid flag, the dirty marks first.
 pub const DIRTY: usize = 1;
 pub const LINE: usize = 2;
 pub const AGE: usize = 4;
 pub const UNUSED: usize = 5;
+
+/// Where the dirty marks of a tag record stand.
+pub const fn marks_at(record: usize) -> usize {
+    TAGS_AT + TAG * record + DIRTY
+}

@@ -12,8 +12,8 @@ use compare::types::{
     Answer, Call, Figures, LoadEntry, Part, Request, Setup, State, StoreEntry, Tag, WritePolicy,
 };
 use layout::{
-    COMMITTED, DIRTY, ENTRY, LAST, LOADS_AT, PROFILE, REQUESTED, REQUESTED_LINE, TAG, TAGS_AT,
-    UNUSED, WAITING,
+    COMMITTED, ENTRY, LAST, LOADS_AT, PROFILE, REQUESTED, REQUESTED_LINE, TAG, TAGS_AT, UNUSED,
+    WAITING,
 };
 use nicoisetarn::{Image, Refusal, LINE, LOADS, RECORDS, STORES};
 
@@ -61,8 +61,15 @@ pub fn with_word(image: &Image, at: usize, word: u32) -> Image {
     Image::from_bytes(bytes)
 }
 
+/// The image with another byte that stands so far into its bytes.
+pub fn with_byte(image: &Image, at: usize, byte: u8) -> Image {
+    let mut bytes = image.to_bytes();
+    bytes[at] = byte;
+    Image::from_bytes(bytes)
+}
+
 /// There is such a profile, every flag is 0 or 1, a free register has no line, unused
-/// bytes are 0.
+/// bytes are 0. The dirty marks may be any byte: with a fifth one the state is ill-formed.
 pub fn stands(image: &Image) -> bool {
     let bytes = image.to_bytes();
     let profile = (word(&bytes, PROFILE) as usize) < POLICIES.len();
@@ -75,7 +82,12 @@ pub fn stands(image: &Image) -> bool {
     profile
         && register
         && loads.all(|load| word(load, WAITING) <= 1)
-        && tags.all(|tag| tag[0] <= 1 && tag[DIRTY] <= 1 && tag[UNUSED] == 0)
+        && tags.all(|tag| tag[0] <= 1 && tag[UNUSED] == 0)
+}
+
+/// The tag records of an image by their numbers, as its accessor tells them.
+pub fn tags(image: &Image) -> impl Iterator<Item = (usize, nicoisetarn::Tag)> + '_ {
+    (0..RECORDS).filter_map(|record| image.tag(record).map(|tag| (record, tag)))
 }
 
 /// Figures of the model as those of the library.
@@ -120,8 +132,7 @@ pub fn state_of(image: &Image) -> Option<State> {
         width: load.width,
         answered: load.waiting == (load.number == 0),
     });
-    for (record, into) in state.tags.iter_mut().enumerate() {
-        let tag = image.tag(record).unwrap_or_default();
+    for (into, (_, tag)) in state.tags.iter_mut().zip(tags(image)) {
         *into = Tag { valid: tag.valid, dirty: tag.dirty, line: tag.line, age: tag.age };
     }
     Some(state)
@@ -149,7 +160,7 @@ pub fn image_of(state: &State) -> Image {
     for (into, tag) in bytes[TAGS_AT..].chunks_exact_mut(TAG).zip(&state.tags) {
         let line = u16::try_from(tag.line).unwrap().to_ne_bytes();
         let age = u8::try_from(tag.age).unwrap();
-        into.copy_from_slice(&[tag.valid.into(), tag.dirty.into(), line[0], line[1], age, 0]);
+        into.copy_from_slice(&[tag.valid.into(), tag.dirty, line[0], line[1], age, 0]);
     }
     Image::from_bytes(bytes)
 }
@@ -188,7 +199,7 @@ pub fn answer_of(told: Result<nicoisetarn::Answer, Refusal>) -> Answer {
         Ours::Requested(address) => Answer::Requested(address),
         Ours::Idle => Answer::Idle,
         Ours::Filled(address) => Answer::Filled(address),
-        Ours::Flushed(lines) => Answer::Flushed(lines),
+        Ours::Flushed(words) => Answer::Flushed(words),
         Ours::Shown { place, length } => {
             Answer::Shown(Part { place: place as usize, length: length as usize })
         }

@@ -160,7 +160,7 @@ pub fn answer_of(answer: Answer) -> Listed {
         Answer::Requested(address) => (7, address, 0),
         Answer::Idle => (8, 0, 0),
         Answer::Filled(address) => (9, address, 0),
-        Answer::Flushed(lines) => (10, lines, 0),
+        Answer::Flushed(words) => (10, words, 0),
         Answer::Shown(part) => (11, part.place as u32, part.length as u32),
         Answer::Ready => (12, 0, 0),
     };

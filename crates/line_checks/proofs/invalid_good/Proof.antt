@@ -8,13 +8,13 @@ use Rattle.line_checks.proofs.invalid_good.Tie as tie
 returns : tie.Need-returns
 unfolding invalidGood
 returns c =
-    rw (c .if1 .taken)
+    rw (ne-eqb _ _ (c .if1 .taken))
 
 returns-2 : tie.Need-returns-2
 unfolding invalidGood
 returns-2 c =
     let if1 = c .before .before .if1 in
-    rw (if1 .left, ne-eqb _ _ (c .if2 .taken))
+    rw (eq-eqb _ _ (if1 .left), ne-eqb _ _ (c .if2 .taken))
 
 mul-is-zero-line : tie.Need-mul-is-zero-line
 mul-is-zero-line c = search needs
@@ -27,7 +27,7 @@ unfolding invalidGood
 returns-3 c =
     let if1 = c .before .before .before .if1 in
     let if2 = c .before .if2 in
-    rw (if1 .left, eq-eqb _ _ (if2 .left)) (c .is-zero-line .ensures)
+    rw (eq-eqb _ _ (if1 .left), eq-eqb _ _ (if2 .left)) (c .is-zero-line .ensures)
 
 pub invalid-good-spec : {M : Type 1} → statement M
 invalid-good-spec =

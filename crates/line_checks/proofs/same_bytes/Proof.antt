@@ -14,11 +14,11 @@ use Rattle.line_checks.proofs.same_bytes.Statement.{statement}
 use Rattle.line_checks.proofs.same_bytes.Tie as tie
 
 abbrev Inv-loop : tie.InvT-loop
-Inv-loop cache at memory from same₀ i₀ same i =
-    (i ≤ 16) × (same ≡ allFrom (λ i. eqb (getD cache (at + i) 0) (getD memory (from + i) 0)) 0 i)
+Inv-loop cache at memory from count same₀ i₀ same i =
+    (i ≤ count) × (same ≡ allFrom (λ i. eqb (getD cache (at + i) 0) (getD memory (from + i) 0)) 0 i)
 
 abbrev μ-loop : tie.MeasureT-loop
-μ-loop cache at memory from same₀ i₀ same i = 16 - i
+μ-loop cache at memory from count same₀ i₀ same i = count - i
 
 loop-holds : tie.Need-loop-holds Inv-loop μ-loop
 unfolding allFrom
@@ -55,7 +55,7 @@ returns : tie.Need-returns Inv-loop μ-loop
 unfolding sameBytes
 returns c =
     let loop = c .before .loop in
-    let e : loop .i ≡ 16 = omega arith in
+    let e : loop .i ≡ c .before .before .args .count = omega arith in
     rw e at (loop .inv .1)
 
 pub same-bytes-spec : {M : Type 1} → statement M

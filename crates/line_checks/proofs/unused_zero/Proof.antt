@@ -1,4 +1,4 @@
--- `unused_zero` meets its contract. No flag so far and a sum of 0, and the test of the records that are left, is the whole test.
+-- `unused_zero` meets its contract. No valid record so far and a sum of 0, and the test of the records that are left, is the whole test.
 use mathlib.Core.Path.{_≡_, sym, _∙_}
 use mathlib.Core.Bool.{_&&_}
 use Prim.Native.Nat.{_≤_, _-_, _*_}
@@ -16,7 +16,7 @@ use Rattle.line_checks.proofs.unused_zero.Tie as tie
 
 abbrev Inv-loop : tie.InvT-loop
 Inv-loop count tags some₀ sum₀ k₀ some sum k =
-    (k ≤ 256) × (sum ≤ 65790 * k) × (every zeroTag (drop count tags) ≡ (nothing some sum && zeroFrom tags k))
+    (k ≤ 256) × (sum ≤ 66045 * k) × (every zeroTag (drop count tags) ≡ (nothing some sum && zeroFrom tags k))
 
 abbrev μ-loop : tie.MeasureT-loop
 μ-loop count tags some₀ sum₀ k₀ some sum k = 256 - k
@@ -32,11 +32,11 @@ mul-t c = search needs
 array-copy-out-t : tie.Need-array-copy-out-t Inv-loop μ-loop
 array-copy-out-t c = search needs
 
-flagged-requires : tie.Need-flagged-requires Inv-loop μ-loop
-flagged-requires c κs = search needs
+some-valid-requires : tie.Need-some-valid-requires Inv-loop μ-loop
+some-valid-requires c κs = search needs
 
-weight-requires : tie.Need-weight-requires Inv-loop μ-loop
-weight-requires c κs = search needs
+added-requires : tie.Need-added-requires Inv-loop μ-loop
+added-requires c κs = search needs
 
 add-sum : tie.Need-add-sum Inv-loop μ-loop
 add-sum c = search needs
@@ -52,8 +52,8 @@ loop-again c =
     let args = c .before .before .before .before .before .args in
     let loop = c .before .before .before .before .loop in
     let loop-test = c .before .before .before .loop-test in
-    let flagged = c .before .flagged in
-    (omega arith, omega arith, loop .inv .2 ∙ zero-step (args .t1) (loop .k) (loop .some) (loop .sum) (loop-test .taken) (flagged .ensures) (c .weight .ensures .0))
+    let some-valid = c .before .some-valid in
+    (omega arith, omega arith, loop .inv .2 ∙ zero-step (args .t1) (loop .k) (loop .some) (loop .sum) (loop-test .taken) (some-valid .ensures) (c .added .ensures .0))
 
 returns : tie.Need-returns Inv-loop μ-loop
 returns c =
@@ -76,8 +76,8 @@ unused-zero-spec =
     loop-holds
     mul-t
     array-copy-out-t
-    flagged-requires
-    weight-requires
+    some-valid-requires
+    added-requires
     add-sum
     add-k
     loop-less

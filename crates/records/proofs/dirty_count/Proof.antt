@@ -1,19 +1,19 @@
--- `dirty_count` meets its contract. The count so far and the dirty records that are left make the whole count.
+-- `dirty_count` meets its contract. The count so far and the dirty words that are left make the whole count.
 use mathlib.Core.Path.{_≡_}
-use Prim.Native.Nat.{_≤_, _-_, _+_, _<_}
+use Prim.Native.Nat.{_≤_, _-_, _+_, _*_, _<_}
 use native.Mathlib.Omega.{arith}
 use lib.ListN.{length, drop}
+use Rattle.lists.specs.Padded.{total}
 use borrow.Author.Needs.{needs}
-use Rattle.lists.specs.Padded.{filter}
-use Rattle.lists.proofs.CountedLoops.{count-next, count-end}
+use Rattle.lists.proofs.Total.{total-next, total-end}
 use Rattle.rules.specs.Shape.{noTag}
-use Rattle.rules.specs.Lines.{isDirty}
+use Rattle.rules.specs.Lines.{wordsOf}
 use Rattle.records.proofs.dirty_count.Statement.{statement}
 use Rattle.records.proofs.dirty_count.Tie as tie
 
 abbrev Inv-loop : tie.InvT-loop
 Inv-loop tags n₀ k₀ n k =
-    (k ≤ 256) × (n ≤ k) × (n + length (filter isDirty (drop k tags)) ≡ length (filter isDirty tags))
+    (k ≤ 256) × (n ≤ 4 * k) × (n + total wordsOf (drop k tags) ≡ total wordsOf tags)
 
 abbrev μ-loop : tie.MeasureT-loop
 μ-loop tags n₀ k₀ n k = 256 - k
@@ -28,8 +28,8 @@ mul-t c = search needs
 array-copy-out-t : tie.Need-array-copy-out-t Inv-loop μ-loop
 array-copy-out-t c = search needs
 
-dirty-one-requires : tie.Need-dirty-one-requires Inv-loop μ-loop
-dirty-one-requires c κs = search needs
+count-requires : tie.Need-count-requires Inv-loop μ-loop
+count-requires c κs = search needs
 
 add-n : tie.Need-add-n Inv-loop μ-loop
 add-n c = search needs
@@ -48,7 +48,7 @@ loop-again c =
     let h : l .k < length tags = omega arith in (
       omega arith,
       omega arith,
-      omega (arith, l .inv .2, c .dirty-one .ensures .0, count-next (λ t. t .dirty) tags (l .k) noTag h),
+      omega (arith, l .inv .2, c .count .ensures .0, total-next wordsOf tags (l .k) noTag h),
     )
 
 returns : tie.Need-returns Inv-loop μ-loop
@@ -56,7 +56,7 @@ returns c =
     let args = c .before .before .args in
     let loop = c .before .loop in
     let h : length (args .t1) ≤ loop .k = omega arith in
-    omega (arith, loop .inv .2, count-end (λ t. t .dirty) (args .t1) (loop .k) h)
+    omega (arith, loop .inv .2, total-end wordsOf (args .t1) (loop .k) h)
 
 pub dirty-count-spec : {M : Type 1} → statement M
 dirty-count-spec =
@@ -67,7 +67,7 @@ dirty-count-spec =
     loop-holds
     mul-t
     array-copy-out-t
-    dirty-one-requires
+    count-requires
     add-n
     add-k
     loop-less

@@ -7,15 +7,12 @@ use Rattle.images.proofs.tags.image_tag.Tie as tie
 flag-requires : tie.Need-flag-requires
 flag-requires c κs = search needs
 
-flag-requires-2 : tie.Need-flag-requires-2
-flag-requires-2 c κs = search needs
-
 returns : tie.Need-returns
 unfolding imagedTag
 returns c =
-    let args = c .before .before .args in
-    let flag = c .before .flag in
-    let t = args .t in λ j. record { valid = flag .ensures j; dirty = c .flag2 .ensures j; line = t .line; age = t .age; unused = 0 }
+    let args = c .before .args in
+    let t = args .t in
+    λ j. record { valid = c .flag .ensures j; dirty = t .dirty; line = t .line; age = t .age; unused = 0 }
 
 pub image-tag-spec : {M : Type 1} → statement M
-image-tag-spec = tie.close (tie.spec flag-requires flag-requires-2 returns)
+image-tag-spec = tie.close (tie.spec flag-requires returns)
