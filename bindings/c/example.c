@@ -1,8 +1,8 @@
 /*
  * A bench in C: plays the scope paper's worked script by calls and prints what the script player prints for it, then
- * a batch and its answers, then a drain in write-through, then drains to two words of a line and their flush. It checks
- * the boundary: words, what the image tells, refused calls, numbers that no call and no profile has, dirty marks, both
- * profiles, show line, and batches.
+ * a batch and its answers, then a drain in write-through, then drains to two words of a line and their flush, then marks
+ * that are set and returned to. It checks the boundary: words, what the image tells, refused calls, numbers that no call
+ * and no profile has, dirty marks, checkpoints, both profiles, show line, and batches.
  * Exits with 1, and a line on standard error, where a check fails.
  */
 #include "nicoisetarn.h"
@@ -103,8 +103,11 @@ static void play(bench *b) {
 static const uint32_t listed[] = {
     NICOISETARN_CALL_STORE, 4, 1, 7, 0, 0,
     NICOISETARN_CALL_LOAD, 4, 1, 0, 0, 0,
-    NICOISETARN_CALL_LOAD, 4, 3, 0, 0, 0,          /* refused: 3 is no width */
-    NICOISETARN_CALL_SHOW_LINE + 1, 4, 1, 0, 0, 0, /* no such call */
+    NICOISETARN_CALL_LOAD, 4, 3, 0, 0, 0,        /* refused: 3 is no width */
+    NICOISETARN_CALL_RESTORE + 1, 4, 1, 0, 0, 0, /* no such call */
+    NICOISETARN_CALL_CHECKPOINT, 6, 0, 0, 0, 0,
+    NICOISETARN_CALL_STORE, 4, 1, 9, 0, 0,
+    NICOISETARN_CALL_RESTORE, 6, 0, 0, 0, 0, /* that store is dropped */
     NICOISETARN_CALL_COMMIT, 2, 0, 0, 0, 0,
     NICOISETARN_CALL_IDLE, 0, 0, 0, 0, 0,
     NICOISETARN_CALL_REPLY, 0, 0, 0, 0, 0,
@@ -177,21 +180,56 @@ static void play_dirty_words(bench *b) {
     CHECK(memcmp(b->memory, b->cache, NICOISETARN_LINE) == 0);
 }
 
+/* ---- checkpoints, printed */
+
+/* The marks in force are these, in order of setting; all other places are free. */
+static void check_marks(const nicoisetarn_image *image, const nicoisetarn_mark *wanted, size_t count) {
+    const nicoisetarn_mark none = {0, 0, 0};
+    for (size_t place = 0; place <= NICOISETARN_CHECKPOINTS; place++) {
+        const nicoisetarn_mark found = nicoisetarn_mark_at(image, place);
+        CHECK(memcmp(&found, place < count ? &wanted[place] : &none, sizeof found) == 0);
+    }
+}
+
+static void play_checkpoints(bench *b) {
+    const nicoisetarn_mark marks[] = {{3, 2, 1}, {1, 4, 2}};
+    nicoisetarn_unit unit = lent(b);
+    print(start(b));
+    print(nicoisetarn_store(&unit, 4, 1, 7));
+    const bench before = *b;
+    print(nicoisetarn_checkpoint(&unit, 3)); /* at the next number */
+    check_marks(&b->image, marks, 1);
+    print(nicoisetarn_store(&unit, 4, 1, 8));
+    print(nicoisetarn_load(&unit, 4, 1));    /* the new value */
+    print(nicoisetarn_checkpoint(&unit, 1)); /* a second mark */
+    check_marks(&b->image, marks, 2);
+    print(nicoisetarn_checkpoint(&unit, 9)); /* no name */
+    print(nicoisetarn_checkpoint(&unit, 3)); /* in use */
+    print(nicoisetarn_restore(&unit, 2));    /* not in use */
+    check_marks(&b->image, marks, 2);
+    print(nicoisetarn_restore(&unit, 3)); /* as an abort at 2 */
+    check_marks(&b->image, marks, 0);     /* both are gone */
+    CHECK(memcmp(b, &before, sizeof before) == 0);
+    print(nicoisetarn_load(&unit, 4, 1)); /* the old value; the number is given again */
+}
+
 /* ---- words */
 
 /* Each kind and each refusal has words; other numbers have none. */
 static void check_words(void) {
     for (uint32_t kind = 0; kind < 300; kind++) {
-        const int known = kind <= NICOISETARN_KIND_READY || kind == NICOISETARN_KIND_RAN ||
+        const int known = kind <= NICOISETARN_KIND_CHECKPOINTED || kind == NICOISETARN_KIND_RAN ||
                           kind == NICOISETARN_KIND_NO_SUCH_CALL;
         CHECK((*nicoisetarn_kind_word(kind) != '\0') == known);
     }
     for (uint32_t number = 0; number < 300; number++) {
         const int known = (number >= NICOISETARN_REFUSED_FIGURES && number <= NICOISETARN_REFUSED_VALUE) ||
-                          (number >= NICOISETARN_REFUSED_STATE && number <= NICOISETARN_REFUSED_FLUSH);
+                          (number >= NICOISETARN_REFUSED_STATE && number <= NICOISETARN_REFUSED_NO_CHECKPOINT);
         CHECK((*nicoisetarn_refusal_words(number) != '\0') == known);
     }
     CHECK(strcmp(nicoisetarn_refusal_words(NICOISETARN_REFUSED_FLUSH), "flush: a committed store is held") == 0);
+    CHECK(strcmp(nicoisetarn_refusal_words(NICOISETARN_REFUSED_NAME_IN_USE), "set: name in use") == 0);
+    CHECK(strcmp(nicoisetarn_kind_word(NICOISETARN_KIND_CHECKPOINTED), "checkpointed") == 0);
 }
 
 /* ---- what the image tells */
@@ -330,7 +368,7 @@ static void check_damaged(void) {
 
 /* A number that no call has: the library says so, and nothing changes, whatever the image is. */
 static void check_no_such_call(void) {
-    const uint32_t numbers[] = {NICOISETARN_CALL_SHOW_LINE + 1, NICOISETARN_KIND_NO_SUCH_CALL, UINT32_MAX};
+    const uint32_t numbers[] = {NICOISETARN_CALL_RESTORE + 1, NICOISETARN_KIND_NO_SUCH_CALL, UINT32_MAX};
     bench b, before;
     make_busy(&b);
     for (size_t image = 0; image < 2; image++) {
@@ -358,7 +396,7 @@ static void make_present(bench *b) {
 }
 
 /* Its dirty marks stand behind valid. */
-static void put_marks(bench *b, uint8_t marks) {
+static void put_dirty_marks(bench *b, uint8_t marks) {
     memcpy((uint8_t *)&b->image + NICOISETARN_AT_RECORDS + 1, &marks, 1);
 }
 
@@ -366,20 +404,22 @@ static void put_marks(bench *b, uint8_t marks) {
 static void check_ill_formed(bench *b) {
     nicoisetarn_unit unit = lent(b);
     const bench before = *b;
-    for (uint32_t call = NICOISETARN_CALL_LOAD; call <= NICOISETARN_CALL_FLUSH; call++) {
-        check_refused(nicoisetarn_step(&unit, (nicoisetarn_call)call, 1, 1, 1), NICOISETARN_REFUSED_STATE, b, &before);
+    for (uint32_t call = NICOISETARN_CALL_LOAD; call <= NICOISETARN_CALL_RESTORE; call++) {
+        if (call != NICOISETARN_CALL_SHOW_LINE) {
+            check_refused(nicoisetarn_step(&unit, (nicoisetarn_call)call, 1, 1, 1), NICOISETARN_REFUSED_STATE, b, &before);
+        }
     }
     CHECK(same(nicoisetarn_show_line(&unit, 0), NICOISETARN_KIND_SHOWN, 0, 0));
 }
 
 /* Any marks of the four words are taken, and a flush counts them; a fifth mark is refused. */
-static void check_marks(void) {
+static void check_dirty_marks(void) {
     bench b;
     nicoisetarn_unit unit = lent(&b);
     make_present(&b);
     for (uint32_t marks = 0; marks < 256; marks++) {
         const uint32_t words = (marks & 1) + (marks >> 1 & 1) + (marks >> 2 & 1) + (marks >> 3 & 1);
-        put_marks(&b, (uint8_t)marks);
+        put_dirty_marks(&b, (uint8_t)marks);
         const nicoisetarn_tag tag = nicoisetarn_tag_at(&b.image, 0);
         CHECK(tag.dirty == marks);
         for (uint32_t word = 0; word < 8; word++) {
@@ -402,11 +442,68 @@ static void check_clean_words(void) {
     make_present(&b);
     b.cache[6] = 7; /* in word 1 */
     check_ill_formed(&b);
-    put_marks(&b, 1 | 1 << 2 | 1 << 3);
+    put_dirty_marks(&b, 1 | 1 << 2 | 1 << 3);
     check_ill_formed(&b);
-    put_marks(&b, 1 << 1);
+    put_dirty_marks(&b, 1 << 1);
     CHECK(same(nicoisetarn_flush(&unit), NICOISETARN_KIND_FLUSHED, 1, 0));
     CHECK(b.memory[6] == 7);
+}
+
+/* ---- checkpoints */
+
+/* Refusals of set and return, with all as before. Where no number is left none is set, and a return goes on. */
+static void check_refused_checkpoints(void) {
+    const uint32_t outside[] = {0, NICOISETARN_CHECKPOINTS + 1, UINT32_MAX};
+    bench b, before;
+    nicoisetarn_unit unit = lent(&b);
+    make_busy(&b);
+    CHECK(same(nicoisetarn_checkpoint(&unit, 8), NICOISETARN_KIND_CHECKPOINTED, 4, 0));
+    b.image.nicoisetarn_words[NICOISETARN_AT_LAST / 4] = UINT32_MAX;
+    before = b;
+    for (size_t place = 0; place < sizeof outside / sizeof *outside; place++) {
+        check_refused(nicoisetarn_checkpoint(&unit, outside[place]), NICOISETARN_REFUSED_NAME, &b, &before);
+        check_refused(nicoisetarn_restore(&unit, outside[place]), NICOISETARN_REFUSED_NAME, &b, &before);
+    }
+    check_refused(nicoisetarn_checkpoint(&unit, 8), NICOISETARN_REFUSED_NAME_IN_USE, &b, &before);
+    check_refused(nicoisetarn_checkpoint(&unit, 1), NICOISETARN_REFUSED_NO_CHECKPOINT, &b, &before);
+    check_refused(nicoisetarn_restore(&unit, 1), NICOISETARN_REFUSED_NO_CHECKPOINT, &b, &before);
+    CHECK(same(nicoisetarn_restore(&unit, 8), NICOISETARN_KIND_KEPT, 3, 0));
+    check_marks(&b.image, NULL, 0);
+}
+
+/* Every place in use, and which marks a commit, an abort and a return leave. */
+static void check_marks_left(void) {
+    const nicoisetarn_mark fourth = {4, 4, 1}, fourth_and_fifth[] = {{4, 4, 1}, {5, 5, 2}};
+    bench b;
+    nicoisetarn_unit unit = lent(&b);
+    CHECK(start(&b).kind == NICOISETARN_KIND_READY);
+    for (uint32_t name = 1; name <= NICOISETARN_CHECKPOINTS; name++) {
+        CHECK(same(nicoisetarn_checkpoint(&unit, name), NICOISETARN_KIND_CHECKPOINTED, name, 0));
+        CHECK(same(nicoisetarn_store(&unit, 0, 1, name), NICOISETARN_KIND_STORED, name, 0));
+        const nicoisetarn_mark found = nicoisetarn_mark_at(&b.image, name - 1);
+        CHECK(found.name == name && found.number == name && found.rank == name);
+    }
+    CHECK(same(nicoisetarn_commit(&unit, 3), NICOISETARN_KIND_COMMITTED, 3, 0)); /* ranks close up */
+    CHECK(same(nicoisetarn_abort(&unit, 5), NICOISETARN_KIND_KEPT, 4, 0));       /* a mark at 5 stays */
+    check_marks(&b.image, fourth_and_fifth, 2);
+    CHECK(same(nicoisetarn_restore(&unit, 5), NICOISETARN_KIND_KEPT, 4, 0));
+    check_marks(&b.image, &fourth, 1);
+    CHECK(same(nicoisetarn_restore(&unit, 4), NICOISETARN_KIND_KEPT, 3, 0));
+    check_marks(&b.image, NULL, 0);
+}
+
+/* Marks that no run leads to: one of rank 2 alone, one of name 9, one at the committed number, a rank in a free place. */
+static void check_damaged_checkpoints(void) {
+    const nicoisetarn_mark damaged[] = {{1, 4, 2}, {9, 4, 1}, {1, 1, 1}, {0, 0, 1}};
+    bench b;
+    nicoisetarn_unit unit = lent(&b);
+    make_busy(&b);
+    CHECK(same(nicoisetarn_checkpoint(&unit, 1), NICOISETARN_KIND_CHECKPOINTED, 4, 0));
+    for (size_t place = 0; place < sizeof damaged / sizeof *damaged; place++) {
+        memcpy(&b.image.nicoisetarn_words[NICOISETARN_AT_CHECKPOINTS / 4], &damaged[place], sizeof *damaged);
+        check_marks(&b.image, &damaged[place], 1);
+        check_ill_formed(&b);
+    }
 }
 
 /* ---- profiles */
@@ -606,14 +703,18 @@ int main(void) {
     play_batch(&b);
     play_write_through(&b);
     play_dirty_words(&b);
+    play_checkpoints(&b);
     check_words();
     check_image();
     check_refusals();
     check_full_queues();
     check_damaged();
     check_no_such_call();
-    check_marks();
+    check_dirty_marks();
     check_clean_words();
+    check_refused_checkpoints();
+    check_marks_left();
+    check_damaged_checkpoints();
     check_profiles();
     check_write_through();
     check_no_such_profile();

@@ -28,6 +28,13 @@
  *     nicoisetarn_idle(&unit);                   drained 1
  *     nicoisetarn_flush(&unit);                  flushed 1: a word
  *
+ * A checkpoint (02: set a mark) has a name, 1 to 8, and remembers the next operation number. A restore (02: return to a
+ * mark) drops what was loaded and stored since, as an abort at that number does, and forgets the mark and all set later.
+ *
+ *     nicoisetarn_checkpoint(&unit, 3);          checkpointed 4: the next number
+ *     nicoisetarn_store(&unit, 4, 1, 8);         stored, number 4
+ *     nicoisetarn_restore(&unit, 3);             kept 3
+ *
  * A start may choose write-through without write-allocate in place of write-back: a drain then needs no line. It writes
  * memory, and also the cached line where there is one, which it uses. Idle requests no line for a store, no line is
  * dirty, and an accepted flush answers 0.
@@ -86,8 +93,9 @@ extern "C" {
 #define NICOISETARN_MAX_MEMORY 65536 /* and at most so many */
 #define NICOISETARN_STORES 16        /* places of the store queue */
 #define NICOISETARN_LOADS 8          /* places of the load queue */
+#define NICOISETARN_CHECKPOINTS 8    /* places of marks, and the greatest name of one */
 #define NICOISETARN_RECORDS 256      /* tag records: set * ways + way names one */
-#define NICOISETARN_IMAGE_BYTES 1952 /* bytes of an image */
+#define NICOISETARN_IMAGE_BYTES 2048 /* bytes of an image */
 
 /* Profiles that a start may choose: what a drain does with a store. */
 typedef enum nicoisetarn_write_profile {
@@ -105,7 +113,7 @@ typedef struct nicoisetarn_image {
     uint32_t nicoisetarn_words[NICOISETARN_IMAGE_BYTES / 4];
 } nicoisetarn_image;
 
-NICOISETARN_ASSERT(sizeof(nicoisetarn_image) == NICOISETARN_IMAGE_BYTES, "an image has 1952 bytes");
+NICOISETARN_ASSERT(sizeof(nicoisetarn_image) == NICOISETARN_IMAGE_BYTES, "an image has 2048 bytes");
 NICOISETARN_ASSERT(NICOISETARN_ALIGNMENT(nicoisetarn_image) == 4, "an image is aligned to 4");
 
 /*
@@ -133,7 +141,7 @@ NICOISETARN_ASSERT(sizeof(nicoisetarn_answer) == 12, "an answer has 12 bytes");
 NICOISETARN_ASSERT(offsetof(nicoisetarn_answer, first) == 4, "first stands behind kind");
 NICOISETARN_ASSERT(offsetof(nicoisetarn_answer, second) == 8, "second stands behind first");
 
-/* Kinds of answers, with what first and second are. Kinds from 13 to 253 are free for answers to come. */
+/* Kinds of answers, with what first and second are. Kinds from 14 to 253 are free for answers to come. */
 typedef enum nicoisetarn_kind {
     NICOISETARN_KIND_REFUSED = 0,      /* a nicoisetarn_refusal */
     NICOISETARN_KIND_STORED = 1,       /* the store's number */
@@ -148,13 +156,15 @@ typedef enum nicoisetarn_kind {
     NICOISETARN_KIND_FLUSHED = 10,     /* the words of 4 bytes written to memory */
     NICOISETARN_KIND_SHOWN = 11,       /* the part's place in the cache, its length: 16, or 0 at place 0 */
     NICOISETARN_KIND_READY = 12,       /* an accepted start */
+    NICOISETARN_KIND_CHECKPOINTED = 13, /* the operation number that the mark remembers */
     NICOISETARN_KIND_RAN = 254,        /* nicoisetarn_run_in: each call of the list has its own answer, accepted or refused */
     NICOISETARN_KIND_NO_SUCH_CALL = 255 /* no such call or profile, or a batch of lengths that do not fit: nothing changed */
 } nicoisetarn_kind;
 
 /*
  * Refusals, by the numbers of the scope paper. The first that applies is given, in the order 1, 10, 2, 3, 4, 5,
- * 13, then 11 or 12; each of 14 to 18 follows 10. (6 is the script player's, for a line that it cannot read.)
+ * 13, then 11 or 12; each of 14 to 18 follows 10, and so do 19, 20 and 21, in this order. (6 is the script player's, for
+ * a line that it cannot read.)
  */
 typedef enum nicoisetarn_refusal {
     NICOISETARN_REFUSED_FIGURES = 1,      /* sets, ways or a length is not allowed or disagrees with the image */
@@ -170,7 +180,10 @@ typedef enum nicoisetarn_refusal {
     NICOISETARN_REFUSED_COMMIT = 15,      /* commit: the number is below the committed one or above the last */
     NICOISETARN_REFUSED_ABORT = 16,       /* abort: the number is at most the committed one, or above last + 1 */
     NICOISETARN_REFUSED_NO_REQUEST = 17,  /* reply: the miss register is free */
-    NICOISETARN_REFUSED_FLUSH = 18        /* flush: a committed store is held */
+    NICOISETARN_REFUSED_FLUSH = 18,       /* flush: a committed store is held */
+    NICOISETARN_REFUSED_NAME = 19,        /* checkpoint, restore: the name is not 1 to 8 */
+    NICOISETARN_REFUSED_NAME_IN_USE = 20, /* checkpoint: a mark in force has the name */
+    NICOISETARN_REFUSED_NO_CHECKPOINT = 21 /* restore: no mark has the name; checkpoint: the last number is 4294967295 */
 } nicoisetarn_refusal;
 
 /* The word of a kind, as the script player prints it; empty where there is no such kind. */
@@ -189,7 +202,8 @@ static inline const char *nicoisetarn_kind_word(uint32_t kind) {
     case NICOISETARN_KIND_FLUSHED: return "flushed";
     case NICOISETARN_KIND_SHOWN: return "shown"; /* not printed by the player */
     case NICOISETARN_KIND_READY: return "ready";
-    case NICOISETARN_KIND_RAN: return "ran"; /* nor are these */
+    case NICOISETARN_KIND_CHECKPOINTED: return "checkpointed"; /* nor are these */
+    case NICOISETARN_KIND_RAN: return "ran";
     case NICOISETARN_KIND_NO_SUCH_CALL: return "no such call";
     default: return "";
     }
@@ -213,21 +227,26 @@ static inline const char *nicoisetarn_refusal_words(uint32_t number) {
     case NICOISETARN_REFUSED_ABORT: return "abort: n is at most h or above last + 1";
     case NICOISETARN_REFUSED_NO_REQUEST: return "reply: register free";
     case NICOISETARN_REFUSED_FLUSH: return "flush: a committed store is held";
+    case NICOISETARN_REFUSED_NAME: return "name outside 1 to 8";
+    case NICOISETARN_REFUSED_NAME_IN_USE: return "set: name in use";
+    case NICOISETARN_REFUSED_NO_CHECKPOINT: return "return: name not in use, or set when last is 4294967295";
     default: return "";
     }
 }
 
 /* Call numbers of nicoisetarn_step_in and of a batch, with the operands that each takes. */
 typedef enum nicoisetarn_call {
-    NICOISETARN_CALL_LOAD = 0,     /* address, width */
-    NICOISETARN_CALL_STORE = 1,    /* address, width, value */
-    NICOISETARN_CALL_RETRY = 2,    /* number */
-    NICOISETARN_CALL_COMMIT = 3,   /* number */
-    NICOISETARN_CALL_ABORT = 4,    /* number */
-    NICOISETARN_CALL_IDLE = 5,     /* none */
-    NICOISETARN_CALL_REPLY = 6,    /* none */
-    NICOISETARN_CALL_FLUSH = 7,    /* none */
-    NICOISETARN_CALL_SHOW_LINE = 8 /* address */
+    NICOISETARN_CALL_LOAD = 0,       /* address, width */
+    NICOISETARN_CALL_STORE = 1,      /* address, width, value */
+    NICOISETARN_CALL_RETRY = 2,      /* number */
+    NICOISETARN_CALL_COMMIT = 3,     /* number */
+    NICOISETARN_CALL_ABORT = 4,      /* number */
+    NICOISETARN_CALL_IDLE = 5,       /* none */
+    NICOISETARN_CALL_REPLY = 6,      /* none */
+    NICOISETARN_CALL_FLUSH = 7,      /* none */
+    NICOISETARN_CALL_SHOW_LINE = 8,  /* address */
+    NICOISETARN_CALL_CHECKPOINT = 9, /* name */
+    NICOISETARN_CALL_RESTORE = 10    /* name */
 } nicoisetarn_call;
 
 #define NICOISETARN_CALL_STRIDE 6   /* numbers of a call in a batch: the call's, x, y, z, and two that must be 0 */
@@ -239,7 +258,7 @@ typedef enum nicoisetarn_call {
  * A start in a profile, on an image where it is stored. It reads the memory alone. A number that no profile has is
  * answered by NICOISETARN_KIND_NO_SUCH_CALL: nothing changes, and figures, image, cache and memory are not looked at.
  */
-nicoisetarn_answer nicoisetarn_start_with_in(nicoisetarn_image *image, uint32_t sets, uint32_t ways, uint32_t profile,
+nicoisetarn_answer nicoisetarn_start_2048_in(nicoisetarn_image *image, uint32_t sets, uint32_t ways, uint32_t profile,
                                              uint8_t *cache, size_t cache_length,
                                              const uint8_t *memory, size_t memory_length);
 
@@ -293,15 +312,15 @@ static inline nicoisetarn_answer nicoisetarn_step(nicoisetarn_unit *unit, nicois
 
 /*
  * Start, with these sets and ways, in a profile (a nicoisetarn_write_profile): ready. The image becomes that of a unit
- * with both queues empty, no line present and last and committed number 0; way w of each set has age w; the cache bytes
- * become zero; the memory stays as found. It looks at no earlier image.
+ * with both queues empty, no mark in force, no line present and last and committed number 0; way w of each set has age
+ * w; the cache bytes become zero; the memory stays as found. It looks at no earlier image.
  * Refused by 1 alone: sets or ways is not allowed, the cache has not exactly sets * ways * 16 bytes, or the memory
  * is no multiple of 16 bytes from 16 to 65536. Image and cache then stay as they were.
  * A number that no profile has is no refusal: NICOISETARN_KIND_NO_SUCH_CALL, before 1, and nothing changes.
  */
 static inline nicoisetarn_answer nicoisetarn_start_with(nicoisetarn_unit *unit, uint32_t sets, uint32_t ways,
                                                         uint32_t profile) {
-    return nicoisetarn_start_with_in(unit->image, sets, ways, profile, unit->cache, unit->cache_length,
+    return nicoisetarn_start_2048_in(unit->image, sets, ways, profile, unit->cache, unit->cache_length,
                                      unit->memory, unit->memory_length);
 }
 
@@ -340,7 +359,7 @@ static inline nicoisetarn_answer nicoisetarn_retry(nicoisetarn_unit *unit, uint3
 
 /*
  * Commit of everything up to a number: committed. Answered loads up to it leave the queue in number order, each
- * using its line if that is present; waiting ones stay.
+ * using its line if that is present; waiting ones stay. Marks that remember a number up to it are forgotten.
  * Refused by 15: the number is below the committed one or above the last.
  */
 static inline nicoisetarn_answer nicoisetarn_commit(nicoisetarn_unit *unit, uint32_t number) {
@@ -349,11 +368,29 @@ static inline nicoisetarn_answer nicoisetarn_commit(nicoisetarn_unit *unit, uint
 
 /*
  * Abort of everything from a number on (a squash): kept, with the last number that is left. Stores and loads from
- * it on leave their queues, and the numbers are given again. No trace of them is left in any line or age.
+ * it on leave their queues, and the numbers are given again. No trace of them is left in any line or age. Marks that
+ * remember a number above it are forgotten.
  * Refused by 16: the number is at most the committed one, or above last + 1.
  */
 static inline nicoisetarn_answer nicoisetarn_abort(nicoisetarn_unit *unit, uint32_t number) {
     return nicoisetarn_step(unit, NICOISETARN_CALL_ABORT, number, 0, 0);
+}
+
+/*
+ * Checkpoint (02: set a mark): checkpointed, with the next operation number, which the mark remembers. It takes none.
+ * Refused by 19 (the name is not 1 to 8), 20 (a mark in force has it), 21 (no number left).
+ */
+static inline nicoisetarn_answer nicoisetarn_checkpoint(nicoisetarn_unit *unit, uint32_t name) {
+    return nicoisetarn_step(unit, NICOISETARN_CALL_CHECKPOINT, name, 0, 0);
+}
+
+/*
+ * Restore (02: return to a mark): kept, as the abort at the number that the mark remembers. The mark is forgotten, and
+ * all that were set later; those set earlier stay, also at the same number.
+ * Refused by 19 (the name is not 1 to 8), 21 (no mark in force has it).
+ */
+static inline nicoisetarn_answer nicoisetarn_restore(nicoisetarn_unit *unit, uint32_t name) {
+    return nicoisetarn_step(unit, NICOISETARN_CALL_RESTORE, name, 0, 0);
 }
 
 /*
@@ -457,12 +494,15 @@ enum {
     NICOISETARN_AT_REQUESTED_LINE = 28,
     NICOISETARN_AT_STORES = 32, /* 16 bytes each: number, address, width, value */
     NICOISETARN_AT_LOADS = 288, /* 16 bytes each: number, address, width, waiting */
-    NICOISETARN_AT_RECORDS = 416 /* 6 bytes each: valid, dirty marks, line (2), age, 0 */
+    NICOISETARN_AT_CHECKPOINTS = 416, /* 12 bytes each: name, number, rank */
+    NICOISETARN_AT_RECORDS = 512 /* 6 bytes each: valid, dirty marks, line (2), age, 0 */
 };
 
 NICOISETARN_ASSERT(NICOISETARN_AT_STORES == NICOISETARN_AT_REQUESTED_LINE + 4, "stores behind numbers");
 NICOISETARN_ASSERT(NICOISETARN_AT_LOADS == NICOISETARN_AT_STORES + 16 * NICOISETARN_STORES, "loads behind stores");
-NICOISETARN_ASSERT(NICOISETARN_AT_RECORDS == NICOISETARN_AT_LOADS + 16 * NICOISETARN_LOADS, "records behind loads");
+NICOISETARN_ASSERT(NICOISETARN_AT_CHECKPOINTS == NICOISETARN_AT_LOADS + 16 * NICOISETARN_LOADS, "marks behind loads");
+NICOISETARN_ASSERT(NICOISETARN_AT_RECORDS == NICOISETARN_AT_CHECKPOINTS + 12 * NICOISETARN_CHECKPOINTS,
+                   "records behind marks");
 NICOISETARN_ASSERT(NICOISETARN_IMAGE_BYTES == NICOISETARN_AT_RECORDS + 6 * NICOISETARN_RECORDS, "nothing behind");
 
 /* A held store; all zero where the place is free. */
@@ -474,6 +514,14 @@ typedef struct nicoisetarn_held_store {
 typedef struct nicoisetarn_listed_load {
     uint32_t number, address, width, waiting;
 } nicoisetarn_listed_load;
+
+/*
+ * A mark in force; all zero where the place is free. name: 1 to 8. number: the operation number that it remembers. rank:
+ * 1 for the mark set first, 2 for the next, and so on; other ranks are refused by 10.
+ */
+typedef struct nicoisetarn_mark {
+    uint32_t name, number, rank;
+} nicoisetarn_mark;
 
 /*
  * A tag record. valid: 0 or 1. dirty: 0 to 15, a mark for each aligned word of 4 bytes, that of the word at 4 * n of the
@@ -558,6 +606,15 @@ static inline nicoisetarn_listed_load nicoisetarn_load_at(const nicoisetarn_imag
     nicoisetarn_listed_load found = {0, 0, 0, 0};
     if (place < NICOISETARN_LOADS) {
         memcpy(&found, &image->nicoisetarn_words[NICOISETARN_AT_LOADS / 4 + 4 * place], sizeof found);
+    }
+    return found;
+}
+
+/* The mark in a place, the one set first in place 0; all zero past the last place. */
+static inline nicoisetarn_mark nicoisetarn_mark_at(const nicoisetarn_image *image, size_t place) {
+    nicoisetarn_mark found = {0, 0, 0};
+    if (place < NICOISETARN_CHECKPOINTS) {
+        memcpy(&found, &image->nicoisetarn_words[NICOISETARN_AT_CHECKPOINTS / 4 + 3 * place], sizeof found);
     }
     return found;
 }

@@ -2,8 +2,8 @@
 //! with one function for each clause, and the input checks (2, 3, 4, 5).
 
 use crate::types::{
-    Figures, LoadEntry, Request, State, StoreEntry, Tag, WritePolicy, ALL_DIRTY, LINE, RECORDS,
-    WORD,
+    Checkpoint, Figures, LoadEntry, Request, State, StoreEntry, Tag, WritePolicy, ALL_DIRTY,
+    CHECKPOINTS, LINE, RECORDS, WORD,
 };
 
 /// Refusal 1 or 10, in that order, or none.
@@ -62,11 +62,21 @@ pub fn value(width: u32, value: u32) -> Option<u32> {
     }
 }
 
+/// Refusal 19 of a mark's name, or none.
+pub fn name(name: u32) -> Option<u32> {
+    let known = (1..=CHECKPOINTS as u32).contains(&name);
+    if known {
+        None
+    } else {
+        Some(19)
+    }
+}
+
 /// A clause of well-formedness. It is asked only when check 1 has passed.
 pub type Clause = fn(&State, &[u8], &[u8]) -> bool;
 
 /// All the clauses with their names, in the order of the paper.
-pub const CLAUSES: [(&str, Clause); 22] = [
+pub const CLAUSES: [(&str, Clause); 30] = [
     ("committed at most last", committed_at_most_last),
     ("unused records zero", unused_records_zero),
     ("free places zero", free_places_zero),
@@ -89,16 +99,45 @@ pub const CLAUSES: [(&str, Clause); 22] = [
     ("request absent", request_absent),
     ("request in memory", request_in_memory),
     ("request wanted", request_wanted),
+    ("free checkpoints zero", free_checkpoints_zero),
+    ("free checkpoints last", free_checkpoints_last),
+    ("checkpoint names 1 to 8", checkpoint_names),
+    ("checkpoint names distinct", checkpoint_names_distinct),
+    ("checkpoints above committed", checkpoints_above_committed),
+    ("checkpoints up to last + 1", checkpoints_up_to_next),
+    ("checkpoints never fall", checkpoints_never_fall),
+    ("checkpoint ranks in order", checkpoint_ranks),
 ];
 
 /// The clauses on the records in use, by their places in `CLAUSES`.
 const OF_RECORDS: std::ops::Range<usize> = 3..13;
+/// The clauses on the marks, which are the last ones.
+const OF_CHECKPOINTS: std::ops::Range<usize> = 22..CLAUSES.len();
 
-/// All clauses together, those on the records in one pass. It is asked only when
-/// check 1 has passed.
+/// All clauses together, those on the records in one pass and those on the marks in
+/// another. It is asked only when check 1 has passed.
 pub fn well_formed(state: &State, cache: &[u8], memory: &[u8]) -> bool {
-    let mut others = CLAUSES[..OF_RECORDS.start].iter().chain(&CLAUSES[OF_RECORDS.end..]);
-    others.all(|(_, clause)| clause(state, cache, memory)) && records_good(state, cache, memory)
+    let behind = &CLAUSES[OF_RECORDS.end..OF_CHECKPOINTS.start];
+    let mut others = CLAUSES[..OF_RECORDS.start].iter().chain(behind);
+    others.all(|(_, clause)| clause(state, cache, memory))
+        && checkpoints_good(state)
+        && records_good(state, cache, memory)
+}
+
+/// The clauses on the marks.
+fn checkpoints_good(state: &State) -> bool {
+    let used = state.checkpoints.iter().take_while(|mark| mark.name != 0).count();
+    let (set, free) = state.checkpoints.split_at(used);
+    let (mut lowest, next) = (u64::from(state.committed) + 1, u64::from(state.last) + 1);
+    let mut names = 0u32;
+    free.iter().all(|mark| *mark == Checkpoint::default())
+        && set.iter().zip(1u32..).all(|(mark, rank)| {
+            let (bit, number) = (1u32 << mark.name.min(31), u64::from(mark.number));
+            let rises = (lowest..=next).contains(&number);
+            let good = name(mark.name).is_none() && names & bit == 0 && mark.rank == rank;
+            (names, lowest) = (names | bit, number);
+            good && rises
+        })
 }
 
 /// The clauses on the records in use, set by set.
@@ -186,6 +225,17 @@ pub fn find(state: &State, line: u32) -> Option<usize> {
     let base = (set as usize).saturating_mul(state.figures.ways as usize);
     let ways = state.tags.iter().skip(base).take(state.figures.ways as usize);
     ways.enumerate().find(|(_, tag)| tag.valid && tag.line == line).map(|(way, _)| base + way)
+}
+
+/// The marks in force, in order of setting: the places that have a name.
+pub fn in_force(state: &State) -> impl Iterator<Item = &Checkpoint> {
+    state.checkpoints.iter().filter(|mark| mark.name != 0)
+}
+
+/// The place of the mark of a name, if one is in force; the name is not 0, which free
+/// places have.
+pub fn checkpoint_of(state: &State, name: u32) -> Option<usize> {
+    state.checkpoints.iter().position(|mark| mark.name == name)
 }
 
 /// A listed load that waits and has a smaller number than the one given.
@@ -370,4 +420,47 @@ pub fn request_wanted(state: &State, _: &[u8], _: &[u8]) -> bool {
             && !waits_before(state, store.number)
     });
     by_load || by_store && !writes_through(state)
+}
+
+/// A free place of the marks is zero.
+pub fn free_checkpoints_zero(state: &State, _: &[u8], _: &[u8]) -> bool {
+    let mut free = state.checkpoints.iter().filter(|mark| mark.name == 0);
+    free.all(|mark| *mark == Checkpoint::default())
+}
+
+/// The free places of the marks stand behind those in use.
+pub fn free_checkpoints_last(state: &State, _: &[u8], _: &[u8]) -> bool {
+    state.checkpoints.windows(2).all(|w| w[0].name != 0 || w[1].name == 0)
+}
+
+/// "A mark has a name 1 to 8".
+pub fn checkpoint_names(state: &State, _: &[u8], _: &[u8]) -> bool {
+    in_force(state).all(|mark| name(mark.name).is_none())
+}
+
+/// "have distinct names".
+pub fn checkpoint_names_distinct(state: &State, _: &[u8], _: &[u8]) -> bool {
+    let mut marks = state.checkpoints.iter().enumerate().filter(|(_, mark)| mark.name != 0);
+    marks.all(|(place, mark)| checkpoint_of(state, mark.name) == Some(place))
+}
+
+/// "marks lie above h".
+pub fn checkpoints_above_committed(state: &State, _: &[u8], _: &[u8]) -> bool {
+    in_force(state).all(|mark| mark.number > state.committed)
+}
+
+/// "at most at last + 1".
+pub fn checkpoints_up_to_next(state: &State, _: &[u8], _: &[u8]) -> bool {
+    let next = u64::from(state.last) + 1;
+    in_force(state).all(|mark| u64::from(mark.number) <= next)
+}
+
+/// "never fall in order of setting".
+pub fn checkpoints_never_fall(state: &State, _: &[u8], _: &[u8]) -> bool {
+    in_force(state).zip(in_force(state).skip(1)).all(|(one, next)| one.number <= next.number)
+}
+
+/// "ranks 1, 2 and so on".
+pub fn checkpoint_ranks(state: &State, _: &[u8], _: &[u8]) -> bool {
+    in_force(state).zip(1u32..).all(|(mark, rank)| mark.rank == rank)
 }

@@ -13,7 +13,7 @@ pub type Needed = [(&'static str, u64)];
 const OF_ALL: [(&str, u64); 1] = [("run after a start", 3)];
 
 /// What they must meet out of so many of their own.
-const NEEDED: [(&str, u64); 29] = [
+const NEEDED: [(&str, u64); 50] = [
     ("run from a well-formed state", 40),
     ("value", 1),
     ("wait", 1),
@@ -31,6 +31,22 @@ const NEEDED: [(&str, u64); 29] = [
     ("dropped stretch, load and drain inside", 2),
     ("dropped stretch, load and reply inside", 2),
     ("dropped stretch, load and eviction inside", 5),
+    ("dropped stretch at a mark, load inside", 5),
+    ("mark set", 1),
+    ("return to a mark", 1),
+    ("return that forgets a later mark at its number", 5),
+    ("return that keeps an earlier mark at its number", 10),
+    ("return when no number is left", 50),
+    ("abort that forgets a mark", 15),
+    ("abort at the number of a mark", 5),
+    ("commit that forgets marks and keeps others", 15),
+    ("mark stretch", 1),
+    ("mark stretch, load and drain inside", 5),
+    ("mark stretch, load and reply inside", 5),
+    ("mark stretch, load and eviction inside", 12),
+    ("mark stretch, waiting load and eviction inside", 20),
+    ("mark stretch, second mark and refusals inside", 8),
+    ("mark stretch, older work committed inside", 8),
     ("refused 2", 30),
     ("refused 3", 30),
     ("refused 4", 30),
@@ -43,6 +59,11 @@ const NEEDED: [(&str, u64); 29] = [
     ("refused 16", 10),
     ("refused 17", 10),
     ("refused 18", 10),
+    ("refused 19", 5),
+    ("refused 20", 5),
+    ("refused 21", 1),
+    ("set refused by 21", 5),
+    ("set refused by 20 when no number is left", 50),
 ];
 
 /// What those of write-back must meet besides.
@@ -66,7 +87,7 @@ const OF_THROUGH: [(&str, u64); 2] =
 const PROFILES: [(&str, &Needed); 2] = [("write-back", &OF_BACK), ("write-through", &OF_THROUGH)];
 
 /// The names under which refusals are counted.
-const REFUSALS: [&str; 19] = [
+const REFUSALS: [&str; 22] = [
     "refused 0",
     "refused 1",
     "refused 2",
@@ -86,6 +107,9 @@ const REFUSALS: [&str; 19] = [
     "refused 16",
     "refused 17",
     "refused 18",
+    "refused 19",
+    "refused 20",
+    "refused 21",
 ];
 
 /// The name under which a refusal is counted.
@@ -164,7 +188,7 @@ impl Counts {
 
     /// A row for each of the names.
     pub fn rows(&self, needed: &Needed) -> String {
-        needed.iter().map(|(name, _)| format!("{name:<44}{:>12}\n", self.of(name))).collect()
+        needed.iter().map(|(name, _)| format!("{name:<50}{:>12}\n", self.of(name))).collect()
     }
 }
 
@@ -200,11 +224,11 @@ impl ByProfile {
 impl std::fmt::Display for ByProfile {
     fn fmt(&self, f: &mut std::fmt::Formatter) -> std::fmt::Result {
         let [(back, of_back), (through, of_through)] = PROFILES;
-        writeln!(f, "{:<44}{back:>14}{through:>14}", "")?;
+        writeln!(f, "{:<50}{back:>14}{through:>14}", "")?;
         let [back, through] = &self.0;
-        writeln!(f, "{:<44}{:>14}{:>14}", "calls", back.calls, through.calls)?;
+        writeln!(f, "{:<50}{:>14}{:>14}", "calls", back.calls, through.calls)?;
         for (name, _) in [&OF_ALL[..], &NEEDED, of_back, of_through].concat() {
-            writeln!(f, "{name:<44}{:>14}{:>14}", back.of(name), through.of(name))?;
+            writeln!(f, "{name:<50}{:>14}{:>14}", back.of(name), through.of(name))?;
         }
         Ok(())
     }

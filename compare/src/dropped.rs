@@ -70,6 +70,7 @@ fn same_end(whole: &Played, again: &Played) -> Result<(), String> {
     same("tags", &w.tags, &a.tags)?;
     same("stores", &w.stores, &a.stores)?;
     same("loads", &w.loads, &a.loads)?;
+    same("checkpoints", &w.checkpoints, &a.checkpoints)?;
     same("request", &[w.request], &[a.request])?;
     same("last", &[w.last], &[a.last])?;
     same("committed", &[w.committed], &[a.committed])

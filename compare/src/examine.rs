@@ -9,9 +9,9 @@ use crate::flat::Flat;
 use crate::plain;
 use crate::random::Run;
 use crate::rules::{self, Source};
-use crate::stretch::{self, Given, Stretch};
+use crate::stretch::{self, Given, Stretch, MARK, PLAIN};
 use crate::traffic::Dirty;
-use crate::types::{Answer, Call, Request, Snapshot, State, Step, WritePolicy, LINE};
+use crate::types::{Answer, Call, Checkpoint, Request, Snapshot, State, Step, WritePolicy, LINE};
 
 /// The checks to make.
 #[derive(Clone, Copy, Debug, PartialEq, Eq)]
@@ -60,6 +60,10 @@ struct Examiner<'a> {
     again: BTreeSet<u32>,
     /// The calls that evicted a line, in write-back a dirty one.
     evicting: BTreeSet<usize>,
+    /// The calls before which a mark is in force at the next number.
+    at_mark: BTreeSet<usize>,
+    /// The commits that raised h.
+    raising: BTreeSet<usize>,
 }
 
 /// Plays a run on a machine under the checks. The checks of runs after a start
@@ -75,6 +79,8 @@ pub fn examine(run: &Run, step: Step, checks: Checks) -> Result<Counts, Failure>
         used: BTreeSet::new(),
         again: BTreeSet::new(),
         evicting: BTreeSet::new(),
+        at_mark: BTreeSet::new(),
+        raising: BTreeSet::new(),
     };
     examiner.start()?;
     let whole = examiner.steps()?;
@@ -170,7 +176,7 @@ impl Examiner<'_> {
     fn count(&mut self, place: usize, before: Snapshot, answer: Answer, after: Snapshot) {
         let call = self.run.calls[place];
         match answer {
-            Answer::Refused(no) => self.counts.met(counts::refused(no), true),
+            Answer::Refused(no) => self.count_refusal(before, call, no),
             Answer::Value { number, .. } => self.count_value(before, call, number),
             Answer::Waits(_) => self.counts.met("wait", true),
             Answer::Drained(_) => self.count_drain(before, after),
@@ -178,13 +184,63 @@ impl Examiner<'_> {
             Answer::Filled(_) => self.count_fill(place, before, after),
             Answer::Flushed(_) => self.counts.met("flush", true),
             Answer::Shown(part) => self.counts.met("line shown", part.length > 0),
+            Answer::Checkpointed(_) => self.counts.met("mark set", true),
+            Answer::Kept(_) | Answer::Committed(_) => self.count_marks(place, before, after),
             _ => {}
+        }
+        let next = u64::from(before.state.last) + 1;
+        if check::in_force(before.state).any(|mark| u64::from(mark.number) == next) {
+            self.at_mark.insert(place);
         }
         self.counts.met_dirty(answer, Dirty::of(before.state), Dirty::of(after.state));
         let numbered = matches!(call, Call::Load { .. } | Call::Store { .. });
         if numbered && answer.accepted() && !self.used.insert(after.state.last) {
             self.again.insert(after.state.last);
         }
+    }
+
+    /// Counts a refusal.
+    fn count_refusal(&mut self, before: Snapshot, call: Call, no: u32) {
+        let set = matches!(call, Call::Checkpoint { .. });
+        let spent = set && before.state.last == u32::MAX;
+        self.counts.met(counts::refused(no), true);
+        self.counts.met("set refused by 21", set && no == 21);
+        self.counts.met("set refused by 20 when no number is left", spent && no == 20);
+    }
+
+    /// Counts what a commit, an abort or a return met of the marks.
+    fn count_marks(&mut self, place: usize, before: Snapshot, after: Snapshot) {
+        let (old, left) = (before.state, check::in_force(after.state).count());
+        let gone = check::in_force(old).count() > left;
+        let at = |number: u32| check::in_force(after.state).any(|mark| mark.number == number);
+        match self.run.calls[place] {
+            Call::Commit { number } => {
+                if number > old.committed {
+                    self.raising.insert(place);
+                }
+                self.counts.met("commit that forgets marks and keeps others", gone && left > 0);
+            }
+            Call::Abort { number } => {
+                self.counts.met("abort that forgets a mark", gone);
+                self.counts.met("abort at the number of a mark", at(number));
+            }
+            Call::Restore { name } => self.count_return(old, name, at),
+            _ => {}
+        }
+    }
+
+    /// Counts what a return met, by the numbers that marks have after it.
+    fn count_return(&mut self, old: &State, name: u32, kept: impl Fn(u32) -> bool) {
+        let marks: Vec<Checkpoint> = check::in_force(old).copied().collect();
+        let Some(place) = marks.iter().position(|mark| mark.name == name) else {
+            return;
+        };
+        let number = marks[place].number;
+        let later = marks[place + 1..].iter().any(|mark| mark.number == number);
+        self.counts.met("return to a mark", true);
+        self.counts.met("return that forgets a later mark at its number", later);
+        self.counts.met("return that keeps an earlier mark at its number", kept(number));
+        self.counts.met("return when no number is left", old.last == u32::MAX);
     }
 
     /// Counts what a drain met.
@@ -247,5 +303,29 @@ impl Examiner<'_> {
         self.counts.met(stretch.kind.with_drain, load && drain);
         self.counts.met(stretch.kind.with_reply, load && reply);
         self.counts.met(stretch.kind.with_eviction, load && evicts);
+        if stretch.kind.name == PLAIN.name {
+            let at_mark = load && self.at_mark.contains(&stretch.first);
+            self.counts.met("dropped stretch at a mark, load inside", at_mark);
+        }
+        if stretch.kind.name == MARK.name {
+            self.count_mark_stretch(inside, stretch, evicts);
+        }
+    }
+
+    /// Counts what a mark stretch has in it besides.
+    fn count_mark_stretch(&mut self, inside: &[Given], stretch: Stretch, evicts: bool) {
+        let has = |wanted: fn(&Given) -> bool| inside.iter().any(wanted);
+        let waits =
+            has(|one| matches!((one.call, one.answer), (Call::Load { .. }, Answer::Waits(_))));
+        let second = inside[1..].iter().any(|one| one.answer == Answer::Checkpointed(stretch.n));
+        let refused_set =
+            has(|one| matches!(one.call, Call::Checkpoint { .. }) && !one.answer.accepted());
+        let refused_return =
+            has(|one| matches!(one.call, Call::Restore { .. }) && !one.answer.accepted());
+        let raises = self.raising.range(stretch.first..=stretch.end).next().is_some();
+        self.counts.met("mark stretch, waiting load and eviction inside", waits && evicts);
+        let both = refused_set && refused_return;
+        self.counts.met("mark stretch, second mark and refusals inside", second && both);
+        self.counts.met("mark stretch, older work committed inside", raises);
     }
 }

@@ -167,6 +167,81 @@ faults! {
     ThroughTakesDirty,
     /// In write-through the oldest store's line may be requested.
     ThroughWantsForStore,
+
+    /// An abort n forgets marks at n too.
+    AbortForgetsAtNumber,
+    /// An abort forgets no mark.
+    AbortKeepsCheckpoints,
+    /// A commit keeps a mark at the committed number.
+    CommitKeepsAtNumber,
+    /// A commit forgets no mark.
+    CommitKeepsCheckpoints,
+    /// A commit forgets every mark.
+    CommitForgetsAll,
+    /// A commit leaves the ranks of the other marks as they were.
+    CommitKeepsRanks,
+    /// A commit leaves the places of the forgotten marks free before the others.
+    CommitLeavesHole,
+    /// A mark remembers the last number.
+    CheckpointAtLast,
+    /// A mark that is set has its rank counted from 0.
+    CheckpointRankFromZero,
+    /// Setting a mark takes a number.
+    CheckpointTakesNumber,
+    /// Setting a mark whose name is in use moves it.
+    CheckpointMoves,
+    /// A mark of the name 9 is set.
+    CheckpointTakesNine,
+    /// A set is refused by 21 before its name is looked at.
+    CheckpointEndBeforeName,
+    /// A set is refused by 21 before 20.
+    CheckpointEndBeforeUse,
+    /// A set whose name is in use is refused by 21.
+    CheckpointUsedGives21,
+    /// A return keeps its mark.
+    RestoreKeepsCheckpoint,
+    /// A return keeps marks set later at the same number.
+    RestoreForgetsByNumber,
+    /// A return forgets marks set earlier at the same number.
+    RestoreForgetsEarlier,
+    /// A return clears the names of the forgotten marks and keeps the rest.
+    RestoreForgetsNames,
+    /// A return to a name in use goes to the mark of that rank.
+    RestoreByRank,
+    /// A return drops from the number above that of its mark.
+    RestoreOneHigh,
+    /// A return answers the number of its mark.
+    RestoreAnswersNumber,
+    /// A return leaves the last number as it is.
+    RestoreKeepsLast,
+    /// A return forgets marks and drops nothing else.
+    RestoreKeepsEntries,
+    /// A return frees the register.
+    RestoreFreesRegister,
+    /// A return uses the lines of the dropped loads that were answered.
+    RestoreUsesLines,
+    /// A return is refused when no number is left.
+    RestoreRefusedAtEnd,
+    /// A return to a name outside 1 to 8 is refused by 21.
+    RestoreUseBeforeName,
+    /// A return to a name not in use is refused by 20.
+    RestoreUnusedGives20,
+    /// A free place of the marks that is not zero counts as well formed.
+    TakesFreeCheckpoint,
+    /// A mark behind a free place counts as well formed.
+    TakesCheckpointBehindFree,
+    /// A mark with a name above 8 counts as well formed.
+    TakesNinthName,
+    /// Two marks of one name count as well formed.
+    TakesNameTwice,
+    /// A mark at the committed number or below counts as well formed.
+    TakesCommittedCheckpoint,
+    /// A mark above last + 1 counts as well formed.
+    TakesCheckpointAhead,
+    /// Marks that fall in order of setting count as well formed.
+    TakesFallingCheckpoints,
+    /// Marks with other ranks count as well formed.
+    TakesOtherRanks,
 }
 
 /// The faults of write-through alone. Scripts keep to write-back.
@@ -185,10 +260,59 @@ pub const THROUGH: [Fault; 12] = [
     Fault::ThroughWantsForStore,
 ];
 
+/// The faults of marks alone. No script has a letter for them.
+pub const CHECKPOINTS: [Fault; 37] = [
+    Fault::AbortForgetsAtNumber,
+    Fault::AbortKeepsCheckpoints,
+    Fault::CommitKeepsAtNumber,
+    Fault::CommitKeepsCheckpoints,
+    Fault::CommitForgetsAll,
+    Fault::CommitKeepsRanks,
+    Fault::CommitLeavesHole,
+    Fault::CheckpointAtLast,
+    Fault::CheckpointRankFromZero,
+    Fault::CheckpointTakesNumber,
+    Fault::CheckpointMoves,
+    Fault::CheckpointTakesNine,
+    Fault::CheckpointEndBeforeName,
+    Fault::CheckpointEndBeforeUse,
+    Fault::CheckpointUsedGives21,
+    Fault::RestoreKeepsCheckpoint,
+    Fault::RestoreForgetsByNumber,
+    Fault::RestoreForgetsEarlier,
+    Fault::RestoreForgetsNames,
+    Fault::RestoreByRank,
+    Fault::RestoreOneHigh,
+    Fault::RestoreAnswersNumber,
+    Fault::RestoreKeepsLast,
+    Fault::RestoreKeepsEntries,
+    Fault::RestoreFreesRegister,
+    Fault::RestoreUsesLines,
+    Fault::RestoreRefusedAtEnd,
+    Fault::RestoreUseBeforeName,
+    Fault::RestoreUnusedGives20,
+    Fault::TakesFreeCheckpoint,
+    Fault::TakesCheckpointBehindFree,
+    Fault::TakesNinthName,
+    Fault::TakesNameTwice,
+    Fault::TakesCommittedCheckpoint,
+    Fault::TakesCheckpointAhead,
+    Fault::TakesFallingCheckpoints,
+    Fault::TakesOtherRanks,
+];
+
 /// The faults in what counts as well formed alone, which no run after a start tells.
-pub const OF_STATES: [Fault; 4] = [
+pub const OF_STATES: [Fault; 12] = [
     Fault::TakesFifthMark,
     Fault::TakesCleanWord,
     Fault::ThroughTakesDirty,
     Fault::ThroughWantsForStore,
+    Fault::TakesFreeCheckpoint,
+    Fault::TakesCheckpointBehindFree,
+    Fault::TakesNinthName,
+    Fault::TakesNameTwice,
+    Fault::TakesCommittedCheckpoint,
+    Fault::TakesCheckpointAhead,
+    Fault::TakesFallingCheckpoints,
+    Fault::TakesOtherRanks,
 ];

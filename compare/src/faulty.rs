@@ -1,6 +1,8 @@
 //! The faulty machines: each is the right one with one step made wrong, and some
 //! do not know the clause of well-formedness that they would else stop at.
-//! `fault` says what each does.
+//! `fault` says what each does. `checkpoints` has those that are wrong about marks.
+
+mod checkpoints;
 
 use std::ops::Range;
 
@@ -13,6 +15,8 @@ use crate::types::{
     Answer, Call, Figures, Part, Request, State, StoreEntry, Tag, WritePolicy, ALL_DIRTY, LINE,
     LOADS, STORES, WORD,
 };
+
+pub use checkpoints::*;
 
 /// Checks 1 and 10 of a machine that does not know one of the clauses.
 fn without(unknown: Clause, state: &State, cache: &[u8], memory: &[u8]) -> Option<u32> {

@@ -13,10 +13,12 @@ pub struct Flat {
     /// The number that the next accepted load or store gets.
     next: u64,
     committed: u64,
-    /// Accepted stores that are not aborted.
+    /// Accepted stores that no abort or return has dropped.
     stores: BTreeMap<u32, StoreEntry>,
     /// Address and width of the latest accepted load of each number.
     loads: BTreeMap<u32, (u32, u32)>,
+    /// The number that the latest accepted setting of each name answered.
+    marks: BTreeMap<u32, u32>,
 }
 
 /// Applies a store whole, byte k of its value at address + k.
@@ -76,6 +78,7 @@ impl Flat {
             committed,
             stores: BTreeMap::new(),
             loads: BTreeMap::new(),
+            marks: BTreeMap::new(),
         }
     }
 
@@ -135,6 +138,8 @@ impl Flat {
                 Ok(())
             }
             (Call::Abort { number }, Answer::Kept(_)) => self.aborted(number),
+            (Call::Checkpoint { name }, Answer::Checkpointed(number)) => self.set(name, number),
+            (Call::Restore { name }, Answer::Kept(last)) => self.returned(name, last),
             (Call::Flush, Answer::Flushed(_)) => self.flushed(after),
             (Call::Idle | Call::Reply | Call::ShowLine { .. }, _) => Ok(()),
             _ => Err(format!("{answer:?} is no answer to {call:?}")),
@@ -147,6 +152,26 @@ impl Flat {
         self.loads.retain(|number, _| *number < n);
         self.next = n as u64;
         Ok(())
+    }
+
+    /// An accepted setting of a mark answers the next number.
+    fn set(&mut self, name: u32, number: u32) -> Result<(), String> {
+        if self.next != number as u64 {
+            return Err(format!("mark {name}: expected {}, seen {number}", self.next));
+        }
+        self.marks.insert(name, number);
+        Ok(())
+    }
+
+    /// An accepted return to a mark: an abort at the number that its setting answered.
+    fn returned(&mut self, name: u32, last: u32) -> Result<(), String> {
+        let Some(&number) = self.marks.get(&name) else {
+            return Err(format!("no accepted setting of {name}"));
+        };
+        if last as u64 + 1 != number as u64 {
+            return Err(format!("return to {number}: last {last}"));
+        }
+        self.aborted(number)
     }
 
     /// An accepted load or store has the next number.
@@ -196,8 +221,8 @@ impl Flat {
         same("memory after a flush", &self.flat(self.committed + 1), after.memory)
     }
 
-    /// The state's flat memory with its held stores on top has every store that
-    /// is not aborted.
+    /// The state's flat memory with its held stores on top has every store that no
+    /// abort or return has dropped.
     fn held_on_top(&self, after: Snapshot) -> Result<(), String> {
         let mut seen = flat_of_state(after);
         for store in after.state.stores.iter().filter(|s| s.number != 0) {

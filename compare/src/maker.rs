@@ -2,19 +2,26 @@
 //! among them, and turns that lead into rich situations. One table says how often
 //! each is made where.
 
+use crate::check;
 use crate::model::{Machine, Right};
 use crate::random::{Rng, Run};
-use crate::types::{Answer, Call, LoadEntry, Request, State, WritePolicy, LINE, LOADS};
+use crate::types::{
+    Answer, Call, LoadEntry, Request, State, WritePolicy, CHECKPOINTS, LINE, LOADS, STORES,
+};
 
 /// Where calls and turns are drawn.
 #[derive(Clone, Copy, Debug, PartialEq, Eq)]
 pub enum Mix {
-    /// One call of any kind.
+    /// One call of any kind but those on marks.
     Single,
     /// Inside a dropped stretch.
     Inside,
+    /// Inside a mark stretch.
+    Marked,
     /// Short runs: many refusals, and much that is dropped.
     Short,
+    /// Short runs with many marks in force: a quarter of the calls set one or return.
+    Branches,
     /// Long scripts: mostly accepted calls, with much work for the cache.
     Long,
     /// Scripts that stretches are struck from: much is dropped.
@@ -23,7 +30,7 @@ pub enum Mix {
     Accepted,
 }
 
-use Mix::{Accepted, Inside, Long, Short, Single, Struck};
+use Mix::{Accepted, Branches, Inside, Long, Marked, Short, Single, Struck};
 
 /// A call or turn, and how often it is made where; elsewhere never.
 struct Row {
@@ -41,26 +48,55 @@ impl Row {
     }
 }
 
-/// Every call, then every turn of several calls.
+/// Every call, then every turn of several calls. The calls on marks are for short runs
+/// alone: no script has a letter for them.
 const ROWS: &[Row] = &[
-    row(Maker::load, &[(Single, 9), (Inside, 3)]),
-    row(Maker::store, &[(Single, 6), (Inside, 2)]),
-    row(Maker::retry, &[(Single, 4), (Inside, 1)]),
-    row(Maker::commit, &[(Single, 4), (Inside, 1)]),
-    row(Maker::abort, &[(Single, 2)]),
+    row(Maker::load, &[(Single, 9), (Inside, 3), (Marked, 3), (Branches, 6)]),
+    row(Maker::store, &[(Single, 6), (Inside, 2), (Marked, 2), (Branches, 6)]),
+    row(Maker::retry, &[(Single, 4), (Inside, 1), (Marked, 1), (Branches, 1)]),
+    row(Maker::commit, &[(Single, 4), (Inside, 1), (Marked, 2), (Branches, 4)]),
+    row(Maker::abort, &[(Single, 2), (Branches, 4)]),
     row(Maker::idle, &[(Single, 6)]),
     row(Maker::reply, &[(Single, 3)]),
-    row(Maker::flush, &[(Single, 1), (Inside, 1)]),
-    row(Maker::show, &[(Single, 5), (Inside, 1)]),
-    row(Maker::single, &[(Short, 9), (Long, 24), (Struck, 8), (Accepted, 20)]),
-    row(Maker::progress, &[(Inside, 2), (Short, 3), (Long, 20), (Struck, 8), (Accepted, 20)]),
+    row(Maker::flush, &[(Single, 1), (Inside, 1), (Marked, 1), (Branches, 4)]),
+    row(Maker::show, &[(Single, 5), (Inside, 1), (Marked, 1), (Branches, 1)]),
+    row(Maker::checkpoint, &[(Marked, 3), (Short, 1), (Branches, 10)]),
+    row(Maker::restore, &[(Marked, 2), (Short, 1), (Branches, 8)]),
+    row(Maker::single, &[(Short, 14), (Branches, 6), (Long, 24), (Struck, 8), (Accepted, 20)]),
+    row(
+        Maker::progress,
+        &[
+            (Inside, 2),
+            (Marked, 5),
+            (Short, 3),
+            (Branches, 3),
+            (Long, 20),
+            (Struck, 8),
+            (Accepted, 20),
+        ],
+    ),
     row(Maker::store_and_commit, &[(Short, 2), (Long, 14), (Struck, 6), (Accepted, 20)]),
-    row(Maker::dropped, &[(Inside, 1), (Short, 3), (Long, 8), (Struck, 10), (Accepted, 3)]),
-    row(Maker::settle, &[(Short, 1), (Long, 4), (Struck, 2), (Accepted, 1)]),
-    row(Maker::bad_call, &[(Short, 2), (Long, 1), (Struck, 1)]),
-    row(Maker::late_retry, &[(Short, 2), (Long, 8), (Struck, 6), (Accepted, 1)]),
-    row(Maker::crowd_queue, &[(Short, 1), (Long, 1), (Struck, 1)]),
-    row(Maker::store_between_loads, &[(Short, 4)]),
+    row(
+        Maker::dropped,
+        &[
+            (Inside, 1),
+            (Marked, 2),
+            (Short, 3),
+            (Branches, 3),
+            (Long, 8),
+            (Struck, 10),
+            (Accepted, 3),
+        ],
+    ),
+    row(Maker::marked, &[(Marked, 1), (Short, 5), (Branches, 8)]),
+    row(Maker::several_marks, &[(Short, 2), (Branches, 3)]),
+    row(Maker::mark_at_the_end, &[(Short, 2), (Branches, 3)]),
+    row(Maker::late_return, &[(Short, 2), (Branches, 2)]),
+    row(Maker::settle, &[(Short, 2), (Long, 4), (Struck, 2), (Accepted, 1)]),
+    row(Maker::bad_call, &[(Short, 6), (Long, 1), (Struck, 1)]),
+    row(Maker::late_retry, &[(Short, 5), (Long, 8), (Struck, 6), (Accepted, 1)]),
+    row(Maker::crowd_queue, &[(Short, 1), (Branches, 1), (Long, 1), (Struck, 1)]),
+    row(Maker::store_between_loads, &[(Short, 8)]),
 ];
 
 /// Dropped stretches within each other.
@@ -77,6 +113,8 @@ pub struct Maker {
     crowded: Vec<u32>,
     /// The numbers of the dropped stretches that the next call is inside of.
     open: Vec<u32>,
+    /// The names of the mark stretches among those.
+    branches: Vec<u32>,
 }
 
 /// The calls.
@@ -90,11 +128,15 @@ impl Maker {
             .filter(|line| u64::from(*line) < lines)
             .collect();
         crowded.push(rng.below(lines) as u32);
-        Maker { run, rng, state, cache, memory, crowded, open: Vec::new() }
+        let (open, branches) = (Vec::new(), Vec::new());
+        Maker { run, rng, state, cache, memory, crowded, open, branches }
     }
 
     /// Makes turns until the run is long enough.
     pub fn make(mut self, length: usize, mix: Mix) -> Maker {
+        if self.run.numbered != 0 && self.rng.one_in(2) {
+            self.mark_at_the_end();
+        }
         while self.run.calls.len() < length {
             self.draw(mix);
         }
@@ -231,6 +273,48 @@ impl Maker {
         self.push(Call::ShowLine { address });
     }
 
+    /// A name that no mark in force has.
+    fn free_name(&mut self) -> Option<u32> {
+        let names = 1..=CHECKPOINTS as u32;
+        let in_use = |name: &u32| check::checkpoint_of(&self.state, *name).is_some();
+        let free: Vec<u32> = names.filter(|name| !in_use(name)).collect();
+        (!free.is_empty()).then(|| self.rng.pick(&free))
+    }
+
+    /// Any name of a mark, or none at all.
+    fn any_name(&mut self) -> u32 {
+        let name = 1 + self.rng.below(CHECKPOINTS as u64) as u32;
+        self.rng.pick(&[name, name, name, 0, 9, u32::MAX])
+    }
+
+    /// The marks in force, inside a mark stretch those set in it.
+    fn names_inside(&self) -> Vec<u32> {
+        let names = check::in_force(&self.state).map(|mark| mark.name);
+        let names: Vec<u32> = names.collect();
+        let branch = names.iter().position(|name| Some(name) == self.branches.last());
+        names[branch.map_or(0, |place| place + 1)..].to_vec()
+    }
+
+    /// Sets a mark, mostly of a free name.
+    fn checkpoint(&mut self) {
+        let name = match self.free_name() {
+            Some(name) if !self.rng.one_in(4) => name,
+            _ => self.any_name(),
+        };
+        self.push(Call::Checkpoint { name });
+    }
+
+    /// Returns to a mark, inside a mark stretch mostly to one set in it.
+    fn restore(&mut self) {
+        let names = self.names_inside();
+        let name = match self.rng.below(8) {
+            0 => self.any_name(),
+            1..=5 if !names.is_empty() => self.rng.pick(&names),
+            _ => self.free_name().unwrap_or(0),
+        };
+        self.push(Call::Restore { name });
+    }
+
     fn load(&mut self) {
         self.any_load();
     }
@@ -326,9 +410,99 @@ impl Maker {
         self.push(Call::Abort { number: n });
     }
 
-    /// An uncommitted load that waits while its line and another are filled, for
-    /// stores or in write-through for loads, is answered late and mostly aborted.
+    /// A mark stretch, often with older work inside that is committed, or carried on.
+    fn marked(&mut self) {
+        let name = self.free_name().filter(|_| self.open.len() < DEEPEST);
+        let Some(name) = name else {
+            return self.restore();
+        };
+        if self.open.is_empty() && self.rng.one_in(2) {
+            self.store_and_commit();
+        }
+        for _ in 0..self.rng.below(3) {
+            self.any_store();
+        }
+        let Answer::Checkpointed(n) = self.push(Call::Checkpoint { name }) else {
+            return self.single();
+        };
+        self.open.push(n);
+        self.branches.push(name);
+        if self.rng.one_in(4) {
+            self.second_mark(name);
+        }
+        for _ in 0..2 + self.rng.below(5) {
+            self.draw(Mix::Marked);
+        }
+        self.branches.pop();
+        self.open.pop();
+        self.push(Call::Restore { name });
+    }
+
+    /// A second mark at the number of the first, and a set and a return that are refused.
+    fn second_mark(&mut self, first: u32) {
+        self.checkpoint();
+        self.push(Call::Checkpoint { name: first });
+        let name = self.free_name().unwrap_or(0);
+        self.push(Call::Restore { name });
+    }
+
+    /// Marks at several numbers, and a commit or an abort among them.
+    fn several_marks(&mut self) {
+        let low = self.state.last;
+        for _ in 0..2 + self.rng.below(3) {
+            self.checkpoint();
+            self.any_store();
+        }
+        let room = u64::from(self.state.last - low) + 1;
+        let number = low + self.rng.below(room) as u32;
+        let commits = self.rng.one_in(2);
+        self.push(if commits { Call::Commit { number } } else { Call::Abort { number } });
+    }
+
+    /// Where few numbers are left, a mark, all of them, sets that are refused, by 20 too,
+    /// and the return to the mark.
+    fn mark_at_the_end(&mut self) {
+        let name = self.free_name().filter(|_| self.state.last > u32::MAX - STORES as u32);
+        let Some(name) = name else {
+            return self.single();
+        };
+        if !self.push(Call::Checkpoint { name }).accepted() {
+            return;
+        }
+        while self.any_store().accepted() {}
+        while self.any_load().accepted() {}
+        self.push(Call::Checkpoint { name });
+        self.checkpoint();
+        self.push(Call::Restore { name });
+    }
+
+    /// An uncommitted load that waits while its line and another are filled is answered
+    /// late and mostly aborted.
     fn late_retry(&mut self) {
+        let first = self.two_fills_due();
+        let answer = self.load_beside_fills(first);
+        if let Answer::Waits(number) = answer {
+            self.push(Call::Retry { number });
+            if !self.rng.one_in(4) {
+                self.push(Call::Abort { number });
+            }
+        }
+    }
+
+    /// Such a load behind a mark that is returned to.
+    fn late_return(&mut self) {
+        let Some(name) = self.free_name() else {
+            return self.restore();
+        };
+        let first = self.two_fills_due();
+        self.push(Call::Checkpoint { name });
+        self.load_beside_fills(first);
+        self.push(Call::Restore { name });
+    }
+
+    /// Two lines to be filled, for stores or in write-through for loads, all committed;
+    /// an address in the first.
+    fn two_fills_due(&mut self) -> u32 {
         let (first, second) = (self.address(1), self.address(1));
         for address in [first, second] {
             let (width, value) = (1, self.rng.below(256) as u32);
@@ -339,17 +513,17 @@ impl Maker {
         }
         let last = self.state.last;
         self.push(Call::Commit { number: last });
+        first
+    }
+
+    /// A load of that line, its answer, and calls that carry the fills on.
+    fn load_beside_fills(&mut self, first: u32) -> Answer {
         let answer = self.push(Call::Load { address: first ^ 8, width: 1 });
         for _ in 0..8 {
             let filled = self.state.request != Request::Free;
             self.push(if filled { Call::Reply } else { Call::Idle });
         }
-        if let Answer::Waits(number) = answer {
-            self.push(Call::Retry { number });
-            if !self.rng.one_in(4) {
-                self.push(Call::Abort { number });
-            }
-        }
+        answer
     }
 
     /// A store between two loads, the later one of its line, all committed: once that

@@ -106,6 +106,7 @@ pub fn name(answer: Answer) -> &'static str {
         Answer::Flushed(_) => "flush",
         Answer::Refused(no) => refused(no),
         Answer::Shown(_) => "shown",
+        Answer::Checkpointed(_) => "mark set",
     }
 }
 

@@ -1,4 +1,4 @@
-//! The machine: ten calls in place on a lent state, cache and memory, and the steps
+//! The machine: twelve calls in place on a lent state, cache and memory, and the steps
 //! that they are made of. Each call does its own checks in the paper's order and
 //! changes nothing when it refuses.
 //!
@@ -10,8 +10,8 @@ use std::ops::Range;
 
 use crate::check;
 use crate::types::{
-    Answer, Call, Figures, LoadEntry, Part, Request, State, StoreEntry, Tag, LINE, LOADS, STORES,
-    WORD, WORDS,
+    Answer, Call, Checkpoint, Figures, LoadEntry, Part, Request, State, StoreEntry, Tag,
+    CHECKPOINTS, LINE, LOADS, STORES, WORD, WORDS,
 };
 
 /// The right machine.
@@ -138,6 +138,28 @@ fn request(state: &mut State, line: u32) -> Answer {
     Answer::Requested(line * LINE as u32)
 }
 
+/// Keeps those of the marks that a test lets stay, in their order; the free places behind
+/// them are zero.
+pub fn keep_checkpoints(state: &mut State, stays: impl Fn(&Checkpoint) -> bool) {
+    let mut kept = 0;
+    for place in 0..CHECKPOINTS {
+        let mark = state.checkpoints[place];
+        if mark.name != 0 && stays(&mark) {
+            state.checkpoints[kept] = mark;
+            kept += 1;
+        }
+    }
+    state.checkpoints[kept..].fill(Checkpoint::default());
+}
+
+/// Ranks the marks anew, in order of setting.
+pub fn rank_checkpoints(state: &mut State) {
+    let marks = state.checkpoints.iter_mut().filter(|mark| mark.name != 0);
+    for (mark, rank) in marks.zip(1..) {
+        mark.rank = rank;
+    }
+}
+
 /// A machine. What stands here is right.
 pub trait Machine {
     // The checks.
@@ -181,6 +203,19 @@ pub trait Machine {
     /// The check of a flush.
     fn flush_refusal(state: &State) -> Option<u32> {
         committed_store(state).map(|_| 18)
+    }
+
+    /// The checks of setting a mark.
+    fn checkpoint_refusal(state: &State, name: u32) -> Option<u32> {
+        check::name(name)
+            .or_else(|| check::checkpoint_of(state, name).map(|_| 20))
+            .or_else(|| (state.last == u32::MAX).then_some(21))
+    }
+
+    /// The checks of returning to a mark.
+    fn restore_refusal(state: &State, name: u32) -> Option<u32> {
+        let unused = check::checkpoint_of(state, name).is_none();
+        check::name(name).or_else(|| unused.then_some(21))
     }
 
     // The steps of loads and inquiries.
@@ -398,7 +433,43 @@ pub trait Machine {
         }
     }
 
-    // The ten calls.
+    /// Squashes from n on: entries numbered n or more go, and the next one is n.
+    fn drop_from(state: &mut State, n: u32) -> Answer {
+        Self::remove_from(state, n);
+        state.last = n - 1;
+        Answer::Kept(n - 1)
+    }
+
+    // The steps of the marks.
+
+    /// The mark that is set: the next number, and the rank behind those in force.
+    fn new_checkpoint(state: &State, name: u32) -> Checkpoint {
+        let rank = check::in_force(state).count() as u32 + 1;
+        Checkpoint { name, number: state.last + 1, rank }
+    }
+
+    /// Abort n forgets marks above n: they were set last.
+    fn forget_above(state: &mut State, n: u32) {
+        keep_checkpoints(state, |mark| mark.number <= n);
+    }
+
+    /// A commit of k forgets marks at or below k, and the others are ranked anew.
+    fn forget_committed(state: &mut State, k: u32) {
+        keep_checkpoints(state, |mark| mark.number > k);
+        rank_checkpoints(state);
+    }
+
+    /// The number that a return to a mark drops from.
+    fn restored_number(mark: Checkpoint) -> u32 {
+        mark.number
+    }
+
+    /// A return forgets its mark and all set later.
+    fn forget_from(state: &mut State, place: usize) {
+        state.checkpoints[place..].fill(Checkpoint::default());
+    }
+
+    // The twelve calls.
 
     /// Start. Refused, it hands back the all-zero state and leaves the cache.
     fn start(figures: Figures, cache: &mut [u8], memory: &[u8]) -> (State, Answer) {
@@ -477,18 +548,19 @@ pub trait Machine {
         state.committed = k;
         Self::use_leaving(state, k);
         Self::remove_leaving(state, k);
+        Self::forget_committed(state, k);
         Answer::Committed(k)
     }
 
-    /// Abort n (squash): drops every store and load numbered n or more.
+    /// Abort n (squash): drops every store and load numbered n or more, and the marks
+    /// above n.
     fn abort(state: &mut State, cache: &[u8], memory: &[u8], n: u32) -> Answer {
         let refused = Self::refusal(state, cache, memory).or_else(|| Self::abort_refusal(state, n));
         if let Some(no) = refused {
             return Answer::Refused(no);
         }
-        Self::remove_from(state, n);
-        state.last = n - 1;
-        Answer::Kept(n - 1)
+        Self::forget_above(state, n);
+        Self::drop_from(state, n)
     }
 
     /// Idle: the first of its four cases that applies. In write-through (a) applies
@@ -547,13 +619,42 @@ pub trait Machine {
         }
     }
 
+    /// Checkpoint: sets a mark at the next number. One of the eight places is free, as the
+    /// name is.
+    fn checkpoint(state: &mut State, cache: &[u8], memory: &[u8], name: u32) -> Answer {
+        let refused =
+            Self::refusal(state, cache, memory).or_else(|| Self::checkpoint_refusal(state, name));
+        if let Some(no) = refused {
+            return Answer::Refused(no);
+        }
+        let (mark, place) = (Self::new_checkpoint(state, name), check::in_force(state).count());
+        state.checkpoints[place] = mark;
+        Answer::Checkpointed(mark.number)
+    }
+
+    /// Restore: returns to a mark. It drops what an abort at the mark's number does, and
+    /// forgets the mark and all set later.
+    fn restore(state: &mut State, cache: &[u8], memory: &[u8], name: u32) -> Answer {
+        let refused =
+            Self::refusal(state, cache, memory).or_else(|| Self::restore_refusal(state, name));
+        if let Some(no) = refused {
+            return Answer::Refused(no);
+        }
+        let Some(place) = check::checkpoint_of(state, name) else {
+            return Answer::Refused(21);
+        };
+        let number = Self::restored_number(state.checkpoints[place]);
+        Self::forget_from(state, place);
+        Self::drop_from(state, number)
+    }
+
     /// The bytes that show line gives: that part of the lent cache.
     fn shown_bytes<'a>(state: &State, cache: &'a [u8], memory: &[u8], address: u32) -> &'a [u8] {
         let part = Self::show_line(state, cache, memory, address);
         &cache[part.place..part.place + part.length]
     }
 
-    /// One call out of the ten.
+    /// One call out of the twelve.
     fn step(state: &mut State, cache: &mut [u8], memory: &mut [u8], call: Call) -> Answer {
         match call {
             Call::Start { figures } => {
@@ -574,6 +675,8 @@ pub trait Machine {
             Call::ShowLine { address } => {
                 Answer::Shown(Self::show_line(state, cache, memory, address))
             }
+            Call::Checkpoint { name } => Self::checkpoint(state, cache, memory, name),
+            Call::Restore { name } => Self::restore(state, cache, memory, name),
         }
     }
 }

@@ -3,7 +3,9 @@
 
 use std::collections::{BTreeMap, BTreeSet};
 
-use crate::types::{Figures, LoadEntry, Request, Snapshot, State, StoreEntry, Tag, WritePolicy};
+use crate::types::{
+    Checkpoint, Figures, LoadEntry, Request, Snapshot, State, StoreEntry, Tag, WritePolicy,
+};
 
 /// A line that is present.
 #[derive(Clone, Debug, PartialEq, Eq)]
@@ -13,6 +15,13 @@ pub struct Present {
     /// The dirty words, from the lowest address on.
     pub dirty: [bool; 4],
     pub bytes: Vec<u8>,
+}
+
+/// A branch mark in force.
+#[derive(Clone, Copy, Debug, PartialEq, Eq)]
+pub struct Mark {
+    pub name: u32,
+    pub number: u64,
 }
 
 /// A well-formed state with its cache and memory. Two of them are equal exactly
@@ -25,6 +34,8 @@ pub struct View {
     pub request: Option<u32>,
     pub stores: Vec<StoreEntry>,
     pub loads: Vec<LoadEntry>,
+    /// The marks in force. The rank of each is its place, counted from 1.
+    pub marks: Vec<Mark>,
     /// The present lines by line number.
     pub present: BTreeMap<u32, Present>,
     /// For each set its ways, from the one used last to the one used first.
@@ -86,6 +97,7 @@ pub fn read(now: Snapshot) -> Result<View, &'static str> {
         },
         stores: Vec::new(),
         loads: Vec::new(),
+        marks: Vec::new(),
         present: BTreeMap::new(),
         recency: Vec::new(),
         memory: now.memory.to_vec(),
@@ -94,11 +106,13 @@ pub fn read(now: Snapshot) -> Result<View, &'static str> {
         return Err("h never exceeds last");
     }
     read_lists(state, &mut view)?;
+    read_marks(state, &mut view)?;
     read_tags(now, &mut view)?;
     numbers(&view)?;
     accesses(&view)?;
     waiting_loads(&view)?;
     request(&view)?;
+    marks_in_force(&view)?;
     Ok(view)
 }
 
@@ -114,6 +128,45 @@ fn read_lists(state: &State, view: &mut View) -> Result<(), &'static str> {
     loads.resize(8, LoadEntry::default());
     if stores != state.stores || loads != state.loads {
         return Err("free places are zero");
+    }
+    Ok(())
+}
+
+/// The marks with their ranks, and nothing but zero in the free places, which come last.
+fn read_marks(state: &State, view: &mut View) -> Result<(), &'static str> {
+    let mut free = false;
+    for (place, &Checkpoint { name, number, rank }) in state.checkpoints.iter().enumerate() {
+        match name {
+            0 if number != 0 || rank != 0 => return Err("a free place of the marks is zero"),
+            0 => free = true,
+            _ if free => return Err("free places of the marks are last"),
+            _ if rank as usize != place + 1 => return Err("marks have ranks 1, 2 and so on"),
+            _ => view.marks.push(Mark { name, number: number as u64 }),
+        }
+    }
+    Ok(())
+}
+
+/// The names and the numbers of the marks.
+fn marks_in_force(view: &View) -> Result<(), &'static str> {
+    let names: BTreeSet<u32> = view.marks.iter().map(|mark| mark.name).collect();
+    let numbers: Vec<u64> = view.marks.iter().map(|mark| mark.number).collect();
+    let mut sorted = numbers.clone();
+    sorted.sort();
+    if names.iter().any(|name| ![1, 2, 3, 4, 5, 6, 7, 8].contains(name)) {
+        return Err("marks have names 1 to 8");
+    }
+    if names.len() != numbers.len() {
+        return Err("marks have distinct names");
+    }
+    if numbers.iter().any(|number| *number <= view.committed) {
+        return Err("marks lie above h");
+    }
+    if numbers.iter().any(|number| *number > view.last + 1) {
+        return Err("marks lie at most at last + 1");
+    }
+    if sorted != numbers {
+        return Err("marks never fall in order of setting");
     }
     Ok(())
 }

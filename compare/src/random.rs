@@ -104,8 +104,10 @@ pub fn run(seed: u64) -> Run {
     let near_end = rng.one_in(12);
     let numbered = if near_end { u32::MAX - rng.below(24) as u32 } else { 0 };
     let run = Run { seed, figures, found, numbered, calls: Vec::new() };
-    let length = 20 + rng.below(181) as usize;
-    let mut run = Maker::new(run, rng).make(length, Mix::Short).run;
+    let length = 20 + rng.below(201) as usize;
+    let branches = rng.one_in(if near_end { 2 } else { 4 });
+    let mix = if branches { Mix::Branches } else { Mix::Short };
+    let mut run = Maker::new(run, rng).make(length, mix).run;
     run.calls.truncate(length);
     run
 }

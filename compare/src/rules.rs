@@ -4,7 +4,7 @@
 
 use std::collections::BTreeMap;
 
-use crate::plain::{self, covers, input_refusal, Present, View};
+use crate::plain::{self, covers, input_refusal, Mark, Present, View};
 use crate::types::{
     Answer, Call, Figures, LoadEntry, Part, Snapshot, State, StoreEntry, WritePolicy,
 };
@@ -66,6 +66,7 @@ fn started(figures: Figures, memory: &[u8]) -> View {
         request: None,
         stores: vec![],
         loads: vec![],
+        marks: vec![],
         present: Default::default(),
         recency: vec![(0..figures.ways as usize).collect(); figures.sets as usize],
         memory: memory.to_vec(),
@@ -127,8 +128,23 @@ fn conditions(view: &View, call: Call) -> Vec<Option<u32>> {
             let mut held = view.stores.iter().map(|store| store.number as u64);
             vec![when(18, held.any(|number| number <= view.committed))]
         }
+        Call::Checkpoint { name } => {
+            let spent = when(21, view.last == 4294967295);
+            vec![when(19, !named(name)), when(20, is_set(view, name)), spent]
+        }
+        Call::Restore { name } => vec![when(19, !named(name)), when(21, !is_set(view, name))],
         Call::Idle | Call::ShowLine { .. } | Call::Start { .. } => vec![],
     }
+}
+
+/// Is it the name of a mark?
+fn named(name: u32) -> bool {
+    [1, 2, 3, 4, 5, 6, 7, 8].contains(&name)
+}
+
+/// Is a mark of this name in force?
+fn is_set(view: &View, name: u32) -> bool {
+    view.marks.iter().any(|mark| mark.name == name)
 }
 
 /// A refusal under its condition.
@@ -152,6 +168,8 @@ fn outcome(view: View, call: Call) -> (Answer, View) {
         Call::Reply => reply(view),
         Call::Flush => flush(view),
         Call::ShowLine { address } => (Answer::Shown(shown(&view, address)), view),
+        Call::Checkpoint { name } => checkpoint(view, name),
+        Call::Restore { name } => restore(view, name),
         Call::Start { .. } => (Answer::Ready, view),
     }
 }
@@ -246,14 +264,33 @@ fn commit(mut view: View, k: u32) -> (Answer, View) {
         use_line(&mut view, line);
     }
     view.loads.retain(|load| !leaving(load));
+    view.marks.retain(|mark| mark.number > view.committed);
     (Answer::Committed(k), view)
 }
 
 fn abort(mut view: View, n: u32) -> (Answer, View) {
     view.stores.retain(|store| store.number < n);
     view.loads.retain(|load| load.number < n);
+    view.marks.retain(|mark| mark.number <= n as u64);
     view.last = n as u64 - 1;
     (Answer::Kept(n - 1), view)
+}
+
+fn checkpoint(mut view: View, name: u32) -> (Answer, View) {
+    let number = view.last + 1;
+    view.marks.push(Mark { name, number });
+    (Answer::Checkpointed(number as u32), view)
+}
+
+/// An abort at the mark's number, after which the marks set before it are left.
+fn restore(mut view: View, name: u32) -> (Answer, View) {
+    let mut earlier = view.marks.clone();
+    while earlier.iter().any(|mark| mark.name == name) {
+        earlier.pop();
+    }
+    let number = view.marks[earlier.len()].number;
+    view.marks = earlier;
+    abort(view, number as u32)
 }
 
 fn idle(mut view: View) -> (Answer, View) {
@@ -374,6 +411,7 @@ fn same_view(expected: &View, seen: &View) -> Result<(), String> {
     agree("request", &e.request, &s.request)?;
     agree("stores", &e.stores, &s.stores)?;
     agree("loads", &e.loads, &s.loads)?;
+    agree("marks", &e.marks, &s.marks)?;
     agree("lines present", &e.present, &s.present)?;
     agree("order of uses", &e.recency, &s.recency)?;
     let differs = (0..e.memory.len()).find(|at| e.memory.get(*at) != s.memory.get(*at));

@@ -1,6 +1,7 @@
 //! The kinds of dropped stretches: what opens and ends one, told by a run's calls
 //! and answers alone, and which of its calls are struck.
 
+use std::collections::BTreeMap;
 use std::fmt;
 
 use crate::types::{Answer, Call};
@@ -59,8 +60,18 @@ pub const PLAIN: Kind = Kind {
     struck: struck_from_plain,
 };
 
+/// From an accepted setting of a mark, which answered n, to the accepted return to it.
+pub const MARK: Kind = Kind {
+    name: "mark stretch",
+    with_drain: "mark stretch, load and drain inside",
+    with_reply: "mark stretch, load and reply inside",
+    with_eviction: "mark stretch, load and eviction inside",
+    find: mark_stretches,
+    struck: struck_from_mark,
+};
+
 /// Every kind.
-pub const KINDS: &[&Kind] = &[&PLAIN];
+pub const KINDS: &[&Kind] = &[&PLAIN, &MARK];
 
 /// Every stretch of every kind in a run whose first number is this.
 pub fn stretches(first: u64, given: &[Given]) -> Vec<Stretch> {
@@ -76,10 +87,24 @@ fn next_numbers(first: u64, given: &[Given]) -> Vec<u64> {
         match one.call {
             Call::Load { .. } | Call::Store { .. } if one.answer.accepted() => next += 1,
             Call::Abort { number } if one.answer.accepted() => next = number as u64,
+            Call::Restore { .. } => next = returned(one).unwrap_or(next),
             _ => {}
         }
     }
     before
+}
+
+/// The next number after an accepted return to a mark.
+fn returned(one: &Given) -> Option<u64> {
+    match one.answer {
+        Answer::Kept(last) => Some(last as u64 + 1),
+        _ => None,
+    }
+}
+
+/// Does a call set a mark or return to one?
+fn of_marks(call: Call) -> bool {
+    matches!(call, Call::Checkpoint { .. } | Call::Restore { .. })
 }
 
 /// The number that an accepted abort names.
@@ -91,8 +116,8 @@ fn aborted(one: &Given) -> Option<u32> {
 }
 
 /// For each accepted abort naming n, each place before it, back to an accepted abort
-/// that names less, where the next number is n. The abort alone is one of them when
-/// the next number is n already.
+/// that names less or to a call that sets a mark or returns to one, where the next
+/// number is n. The abort alone is one of them when the next number is n already.
 fn plain_stretches(first: u64, given: &[Given]) -> Vec<Stretch> {
     let next = next_numbers(first, given);
     let mut found = Vec::new();
@@ -101,7 +126,8 @@ fn plain_stretches(first: u64, given: &[Given]) -> Vec<Stretch> {
             continue;
         };
         for first in (0..=end).rev() {
-            if aborted(&given[first]).is_some_and(|named| named < n) {
+            let below = aborted(&given[first]).is_some_and(|named| named < n);
+            if below || of_marks(given[first].call) {
                 break;
             }
             if next[first] == n as u64 {
@@ -119,4 +145,30 @@ fn struck_from_plain(call: Call, n: u32) -> bool {
         Call::Retry { number } | Call::Abort { number } => number >= n,
         _ => false,
     }
+}
+
+/// For each accepted return to a mark the latest accepted setting of its name before it,
+/// which is that of the mark returned to.
+fn mark_stretches(_: u64, given: &[Given]) -> Vec<Stretch> {
+    let mut set: BTreeMap<u32, (usize, u32)> = BTreeMap::new();
+    let mut found = Vec::new();
+    for (place, one) in given.iter().enumerate() {
+        match (one.call, one.answer) {
+            (Call::Checkpoint { name }, Answer::Checkpointed(n)) => {
+                set.insert(name, (place, n));
+            }
+            (Call::Restore { name }, answer) if answer.accepted() => {
+                let latest = set.get(&name).map(|(first, n)| (*first, *n));
+                let stretch = |(first, n)| Stretch { kind: &MARK, first, end: place, n };
+                found.extend(latest.map(stretch));
+            }
+            _ => {}
+        }
+    }
+    found
+}
+
+/// What is struck from a plain one, and every call that sets a mark or returns to one.
+fn struck_from_mark(call: Call, n: u32) -> bool {
+    of_marks(call) || struck_from_plain(call, n)
 }

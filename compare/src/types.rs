@@ -15,6 +15,8 @@ pub const RECORDS: usize = 256;
 pub const STORES: usize = 16;
 /// Places of the load queue.
 pub const LOADS: usize = 8;
+/// Places of the checkpoints, and their names from 1.
+pub const CHECKPOINTS: usize = 8;
 
 /// A place of the store queue: a held store, or free when its number is 0.
 #[derive(Clone, Copy, Debug, Default, PartialEq, Eq)]
@@ -33,6 +35,17 @@ pub struct LoadEntry {
     pub address: u32,
     pub width: u32,
     pub answered: bool,
+}
+
+/// A place of the checkpoints (the branch marks of the paper): a mark in force, or free
+/// when its name is 0.
+#[derive(Clone, Copy, Debug, Default, PartialEq, Eq)]
+pub struct Checkpoint {
+    pub name: u32,
+    /// The next operation number when it was set.
+    pub number: u32,
+    /// Its rank, from 1, by order of setting among the marks in force.
+    pub rank: u32,
 }
 
 /// A tag record of one set and way. Age 0 is the line used last.
@@ -111,6 +124,8 @@ pub struct State {
     pub request: Request,
     pub stores: [StoreEntry; STORES],
     pub loads: [LoadEntry; LOADS],
+    /// The marks in force, in order of setting.
+    pub checkpoints: [Checkpoint; CHECKPOINTS],
     pub tags: [Tag; RECORDS],
 }
 
@@ -125,6 +140,7 @@ impl State {
             request: Request::Free,
             stores: [StoreEntry::default(); STORES],
             loads: [LoadEntry::default(); LOADS],
+            checkpoints: [Checkpoint::default(); CHECKPOINTS],
             tags: [Tag::default(); RECORDS],
         }
     }
@@ -138,7 +154,7 @@ pub struct Snapshot<'a> {
     pub memory: &'a [u8],
 }
 
-/// The ten calls with their arguments.
+/// The twelve calls with their arguments.
 #[derive(Clone, Copy, Debug, PartialEq, Eq)]
 pub enum Call {
     Start {
@@ -168,6 +184,14 @@ pub enum Call {
     Flush,
     ShowLine {
         address: u32,
+    },
+    /// Sets a mark of this name.
+    Checkpoint {
+        name: u32,
+    },
+    /// Returns to the mark of this name.
+    Restore {
+        name: u32,
     },
 }
 
@@ -204,6 +228,8 @@ pub enum Answer {
     /// Words written back.
     Flushed(u32),
     Shown(Part),
+    /// The next operation number, which the mark remembers.
+    Checkpointed(u32),
     /// The number of the refusal.
     Refused(u32),
 }

@@ -11,13 +11,14 @@ use compare::plain;
 use compare::random::{self, Rng};
 use compare::rules;
 use compare::types::{
-    Answer, Call, Figures, Part, Request, State, Step, Tag, WritePolicy, ALL_DIRTY, LINE, RECORDS,
+    Answer, Call, Checkpoint, Figures, Part, Request, State, Step, Tag, WritePolicy, ALL_DIRTY,
+    CHECKPOINTS, LINE, RECORDS,
 };
 use judged::Judged;
 
 /// A machine in which every part of the state is in use: word 0 of line 0 dirty, line
 /// 2 clean, set 1 invalid, stores 4, 5, 8, loads 3 (committed, waits), 6 (waits)
-/// and 7 (answered), line 1 requested, h 3 and last 8.
+/// and 7 (answered), line 1 requested, h 3 and last 8, marks 5, 2 and 7 at number 8.
 fn rich() -> Judged {
     let mut judged = Judged::new(2, 2, 128);
     judged.store(0, 4, 0x0908_0706);
@@ -33,6 +34,9 @@ fn rich() -> Judged {
     judged.store(4, 1, 9);
     judged.load(64, 2);
     judged.load(0, 2);
+    for name in [5, 2, 7] {
+        assert_eq!(judged.checkpoint(name), Answer::Checkpointed(8));
+    }
     judged.store(64, 1, 77);
     assert_eq!(judged.state.request, Request::Line(1));
     assert_eq!((judged.state.committed, judged.state.last), (3, 8));
@@ -40,7 +44,7 @@ fn rich() -> Judged {
 }
 
 /// One call of each kind but the start, all with arguments that would pass.
-fn calls() -> [Call; 9] {
+fn calls() -> [Call; 11] {
     [
         Call::Load { address: 0, width: 1 },
         Call::Store { address: 0, width: 1, value: 1 },
@@ -51,6 +55,8 @@ fn calls() -> [Call; 9] {
         Call::Reply,
         Call::Flush,
         Call::ShowLine { address: 0 },
+        Call::Checkpoint { name: 1 },
+        Call::Restore { name: 5 },
     ]
 }
 
@@ -264,6 +270,78 @@ fn requested_lines() {
     });
 }
 
+#[test]
+fn free_checkpoints() {
+    for place in 3..8 {
+        damage(&["free checkpoints zero"], |b| b.state.checkpoints[place].number = 8);
+        damage(&["free checkpoints zero"], |b| b.state.checkpoints[place].rank = 4);
+    }
+    // A mark that keeps its rank behind free places.
+    for place in 3..8 {
+        damage(&["free checkpoints last"], |b| b.state.checkpoints.swap(2, place));
+    }
+    damage(&["free checkpoints last"], |b| b.state.checkpoints.rotate_right(1));
+    damage(&["free checkpoints zero", "free checkpoints last"], |b| {
+        b.state.checkpoints[2].name = 0;
+        b.state.checkpoints[3] = Checkpoint { name: 8, number: 8, rank: 3 };
+    });
+}
+
+#[test]
+fn checkpoint_names() {
+    for name in [9, 10, 255, u32::MAX] {
+        damage(&["checkpoint names 1 to 8"], |b| b.state.checkpoints[1].name = name);
+    }
+    for (place, name) in [(0, 2), (0, 7), (1, 5), (2, 5), (2, 2)] {
+        damage(&["checkpoint names distinct"], |b| b.state.checkpoints[place].name = name);
+    }
+    damage(&["checkpoint names 1 to 8", "checkpoint names distinct"], |b| {
+        b.state.checkpoints[0].name = 9;
+        b.state.checkpoints[2].name = 9;
+    });
+}
+
+#[test]
+fn checkpoint_numbers() {
+    for number in [0, 1, 3] {
+        damage(&["checkpoints above committed"], |b| b.state.checkpoints[0].number = number);
+    }
+    for number in [10, u32::MAX] {
+        damage(&["checkpoints up to last + 1"], |b| b.state.checkpoints[2].number = number);
+    }
+    damage(&["checkpoints never fall"], |b| b.state.checkpoints[0].number = 9);
+    damage(&["checkpoints never fall"], |b| b.state.checkpoints[2].number = 4);
+    damage(&["checkpoints never fall"], |b| b.state.checkpoints[1].number = 7);
+}
+
+#[test]
+fn checkpoint_ranks() {
+    for (place, rank) in [(0, 0), (0, 2), (1, 1), (1, 3), (2, 2), (2, 4), (2, u32::MAX)] {
+        damage(&["checkpoint ranks in order"], |b| b.state.checkpoints[place].rank = rank);
+    }
+    damage(&["checkpoint ranks in order"], |b| {
+        b.state.checkpoints.iter_mut().take(3).for_each(|mark| mark.rank -= 1);
+    });
+}
+
+/// Marks from h + 1 to last + 1, those at one number among them, are well formed; and the
+/// next number may be one past 32 bits.
+#[test]
+fn checkpoints_in_bounds() {
+    for numbers in [[4, 4, 4], [4, 8, 9], [9, 9, 9], [5, 5, 9]] {
+        let mut judged = rich();
+        for (mark, number) in judged.state.checkpoints.iter_mut().zip(numbers) {
+            mark.number = number;
+        }
+        assert_eq!(broken(&judged), Vec::<&str>::new(), "{numbers:?}");
+    }
+    let mut judged = Judged::new(1, 1, 32);
+    judged.state.last = u32::MAX;
+    judged.state.checkpoints[0] = Checkpoint { name: 1, number: u32::MAX, rank: 1 };
+    assert_eq!(broken(&judged), Vec::<&str>::new());
+    assert_eq!(judged.restore(1), Answer::Kept(u32::MAX - 1));
+}
+
 /// Line 2 present, and a committed store to line 3, which is absent.
 fn ready_store(policy: WritePolicy) -> Judged {
     let mut judged = Judged::start(Figures::new(2, 2).with_policy(policy), 128);
@@ -306,11 +384,32 @@ fn states_of_faults() {
     clean_word.cache[15] ^= 1;
     let dirty = dirty_line(WritePolicy::WriteThrough);
     let requested = requested_for_store(WritePolicy::WriteThrough);
+    let marks = |change: fn(&mut [Checkpoint; CHECKPOINTS])| {
+        let mut judged = rich();
+        change(&mut judged.state.checkpoints);
+        judged
+    };
+    let free = marks(|marks| marks[7].rank = 8);
+    let hole = marks(|marks| marks.swap(2, 3));
+    let nine = marks(|marks| marks[2].name = 9);
+    let twice = marks(|marks| marks[2].name = 5);
+    let low = marks(|marks| marks[0].number = 3);
+    let high = marks(|marks| marks[2].number = 10);
+    let falling = marks(|marks| marks[0].number = 9);
+    let ranks = marks(|marks| marks[2].rank = 4);
     let states = [
         (Fault::TakesFifthMark, "four dirty marks", fifth_mark),
         (Fault::TakesCleanWord, "clean words equal memory", clean_word),
         (Fault::ThroughTakesDirty, "none dirty in write-through", dirty),
         (Fault::ThroughWantsForStore, "request wanted", requested),
+        (Fault::TakesFreeCheckpoint, "free checkpoints zero", free),
+        (Fault::TakesCheckpointBehindFree, "free checkpoints last", hole),
+        (Fault::TakesNinthName, "checkpoint names 1 to 8", nine),
+        (Fault::TakesNameTwice, "checkpoint names distinct", twice),
+        (Fault::TakesCommittedCheckpoint, "checkpoints above committed", low),
+        (Fault::TakesCheckpointAhead, "checkpoints up to last + 1", high),
+        (Fault::TakesFallingCheckpoints, "checkpoints never fall", falling),
+        (Fault::TakesOtherRanks, "checkpoint ranks in order", ranks),
     ];
     assert_eq!(states.iter().map(|(fault, ..)| *fault).collect::<Vec<_>>(), OF_STATES);
     for (fault, name, judged) in states {
@@ -397,7 +496,7 @@ fn any_policy(rng: &mut Rng) -> WritePolicy {
 fn damage_at_random(judged: &mut Judged, rng: &mut Rng) {
     let number = odd_number(rng);
     let state = &mut judged.state;
-    match rng.below(26) {
+    match rng.below(40) {
         0 => state.figures.sets = number,
         1 => state.figures.ways = number,
         2 => state.memory_length = number,
@@ -411,7 +510,35 @@ fn damage_at_random(judged: &mut Judged, rng: &mut Rng) {
         12 => state.request = rng.pick(&[Request::Line(number), Request::Free]),
         13..=15 => request_for_store(state, rng),
         16..=23 => damage_line(judged, rng),
+        24..=37 => damage_checkpoints(judged, number, rng),
         _ => damage_entry(judged, number, rng),
+    }
+}
+
+/// Damages one of the marks, or a free place, after one or two were set.
+fn damage_checkpoints(judged: &mut Judged, number: u32, rng: &mut Rng) {
+    let store = Call::Store { address: 0, width: 1, value: 1 };
+    for call in [Call::Checkpoint { name: 6 }, store, Call::Checkpoint { name: 3 }] {
+        Right::step(&mut judged.state, &mut judged.cache, &mut judged.memory, call);
+    }
+    let state = &mut judged.state;
+    let used = check::in_force(state).count();
+    if used == 0 {
+        return;
+    }
+    let (low, high) = (state.committed, state.last.saturating_add(2));
+    let marks = &mut state.checkpoints;
+    let [one, other] = [(); 2].map(|()| rng.below(used as u64) as usize);
+    let numbers = (marks[other].number, marks[one].number);
+    match rng.below(8) {
+        0 => marks[one].name = rng.pick(&[9, number]),
+        1 => marks[one].name = marks[other].name,
+        2 => marks[0].number = rng.pick(&[low, number]),
+        3 => marks[used - 1].number = rng.pick(&[high, number]),
+        4 => (marks[one].number, marks[other].number) = numbers,
+        5 => marks[one].rank = rng.pick(&[0, number]),
+        6 => marks[CHECKPOINTS - 1].rank = number,
+        _ => marks[one..].rotate_right(1),
     }
 }
 
@@ -424,13 +551,14 @@ fn request_for_store(state: &mut State, rng: &mut Rng) {
     }
 }
 
-/// Damages one field of a tag record or of a queue, mostly of the first ones.
+/// Damages one field of a tag record, of a queue or of a mark, mostly of the first ones.
 fn damage_entry(judged: &mut Judged, number: u32, rng: &mut Rng) {
     let few = rng.pick(&[1, 2, 4, 8, 256]);
     let tag = &mut judged.state.tags[rng.below(few) as usize];
     let store = &mut judged.state.stores[rng.below(few.min(16)) as usize];
     let load = &mut judged.state.loads[rng.below(few.min(8)) as usize];
-    match rng.below(13) {
+    let mark = &mut judged.state.checkpoints[rng.below(few.min(8)) as usize];
+    match rng.below(16) {
         0 => tag.valid = !tag.valid,
         1 => tag.dirty = other_marks(tag.dirty, rng),
         2 => tag.line = number,
@@ -443,7 +571,10 @@ fn damage_entry(judged: &mut Judged, number: u32, rng: &mut Rng) {
         9 => load.number = number,
         10 => load.address = number,
         11 => load.width = number,
-        _ => load.answered = !load.answered,
+        12 => load.answered = !load.answered,
+        13 => mark.name = number,
+        14 => mark.number = number,
+        _ => mark.rank = number,
     }
 }
 
@@ -483,6 +614,7 @@ fn odd_call(rng: &mut Rng) -> Call {
     let (number, address) = (odd_number(rng), odd_number(rng));
     let (width, value) = (rng.pick(&[1, 2, 4, 4, number]), odd_number(rng));
     let figures = Figures::new(number, width).with_policy(any_policy(rng));
+    let name = rng.pick(&[1, 2, 3, 6, number]);
     rng.pick(&[
         Call::Start { figures },
         Call::Load { address, width },
@@ -494,6 +626,8 @@ fn odd_call(rng: &mut Rng) -> Call {
         Call::Reply,
         Call::Flush,
         Call::ShowLine { address },
+        Call::Checkpoint { name },
+        Call::Restore { name },
     ])
 }
 
@@ -513,11 +647,19 @@ const NEEDED: [(&str, u64); 3] = [("accepted", 15), ("refused 1", 15), ("refused
 
 /// The states that it must meet besides, out of as many: those that are well formed to
 /// each of the faults of states.
-const STATES: [(Fault, &str, u64); 4] = [
+const STATES: [(Fault, &str, u64); 12] = [
     (Fault::TakesFifthMark, "a fifth dirty mark", 150),
     (Fault::TakesCleanWord, "a clean word that differs, beside a dirty one", 100),
     (Fault::ThroughTakesDirty, "a dirty line in write-through", 75),
     (Fault::ThroughWantsForStore, "a line requested for a store in write-through", 1_000),
+    (Fault::TakesFreeCheckpoint, "a free place of the marks that is not zero", 150),
+    (Fault::TakesCheckpointBehindFree, "a mark behind a free place", 150),
+    (Fault::TakesNinthName, "a mark with a name above 8", 150),
+    (Fault::TakesNameTwice, "two marks of one name", 150),
+    (Fault::TakesCommittedCheckpoint, "a committed mark", 150),
+    (Fault::TakesCheckpointAhead, "a mark above last + 1", 150),
+    (Fault::TakesFallingCheckpoints, "marks that fall", 150),
+    (Fault::TakesOtherRanks, "marks with other ranks", 150),
 ];
 
 /// Counts what a damage led to.

@@ -68,6 +68,13 @@ fn demand_2_alone_notices() {
         Fault::FlushClearsMarks,
         Fault::ThroughLeavesLine,
         Fault::ThroughLeavesMemory,
+        Fault::CheckpointAtLast,
+        Fault::CheckpointTakesNumber,
+        Fault::RestoreByRank,
+        Fault::RestoreOneHigh,
+        Fault::RestoreAnswersNumber,
+        Fault::RestoreKeepsLast,
+        Fault::RestoreKeepsEntries,
     ];
     assert_eq!(missed(FLAT, &faults), []);
 }
@@ -84,6 +91,18 @@ fn demand_3_alone_notices() {
         Fault::RetryFromYounger,
         Fault::RetryUsesUncommitted,
         Fault::AbortKeepsLast,
+        Fault::AbortForgetsAtNumber,
+        Fault::CheckpointTakesNumber,
+        Fault::RestoreKeepsCheckpoint,
+        Fault::RestoreForgetsByNumber,
+        Fault::RestoreForgetsEarlier,
+        Fault::RestoreForgetsNames,
+        Fault::RestoreByRank,
+        Fault::RestoreOneHigh,
+        Fault::RestoreKeepsLast,
+        Fault::RestoreKeepsEntries,
+        Fault::RestoreFreesRegister,
+        Fault::RestoreUsesLines,
     ];
     assert_eq!(missed(DROPPED, &faults), []);
 }

@@ -124,6 +124,51 @@ fn expect_others(bad: &[u32], no: u32, good: &[u32], wrong: &[u32], call: fn(u32
     }
 }
 
+/// A busy machine with mark 5 in force, and a name of which the refusals tell: 19 bad, 20
+/// in use, 21 for a set no number left.
+fn marked(bad: &[u32]) -> (Judged, u32) {
+    let mut judged = busy();
+    judged.checkpoint(5);
+    if bad.contains(&21) {
+        judged.state.last = u32::MAX;
+    }
+    spoil(&mut judged, bad);
+    let name = match (bad.contains(&19), bad.contains(&20)) {
+        (true, _) => 9,
+        (_, true) => 5,
+        _ => 4,
+    };
+    (judged, name)
+}
+
+#[test]
+fn checkpoint_refusals_in_order() {
+    for bad in subsets(&[1, 10, 19, 20, 21]) {
+        // A bad name is never in use.
+        if !(bad.contains(&19) && bad.contains(&20)) {
+            let (judged, name) = marked(&bad);
+            expect(judged, Call::Checkpoint { name }, &bad);
+        }
+    }
+}
+
+#[test]
+fn restore_refusals_in_order() {
+    for bad in subsets(&[1, 10]) {
+        for end in [vec![], vec![21]] {
+            let (judged, _) = marked(&[bad.clone(), end].concat());
+            let with = |no| [&bad[..], &[no]].concat();
+            for name in [0, 9, 10, u32::MAX] {
+                expect(judged.clone(), Call::Restore { name }, &with(19));
+            }
+            for name in [1, 2, 3, 4, 6, 7, 8] {
+                expect(judged.clone(), Call::Restore { name }, &with(21));
+            }
+            expect(judged, Call::Restore { name: 5 }, &bad);
+        }
+    }
+}
+
 #[test]
 fn idle_reply_and_flush_refusals_in_order() {
     for bad in subsets(&[1, 10]) {
@@ -194,7 +239,8 @@ fn start_with(sets: u32, ways: u32, cache: usize, memory: usize) {
 
 /// A start over a state that holds rubbish, judged; refused, it leaves all zero.
 fn start_over_rubbish(figures: Figures, cache: usize, memory: usize) {
-    let mut judged = Judged { state: busy().state, cache: vec![9; cache], memory: vec![9; memory] };
+    let state = marked(&[]).0.state;
+    let mut judged = Judged { state, cache: vec![9; cache], memory: vec![9; memory] };
     let Figures { sets, ways, .. } = figures;
     let allowed = [1, 2, 4, 8, 16, 32, 64].contains(&sets)
         && (1..=4).contains(&ways)

@@ -77,6 +77,14 @@ fn abort(number: u32) -> Call {
     Call::Abort { number }
 }
 
+fn set(name: u32) -> Call {
+    Call::Checkpoint { name }
+}
+
+fn back(name: u32) -> Call {
+    Call::Restore { name }
+}
+
 #[test]
 fn stretches_of_small_runs() {
     assert_eq!(stretches(&[]), []);
@@ -103,6 +111,40 @@ fn nested_stretches() {
 }
 
 #[test]
+fn mark_stretches() {
+    assert_eq!(stretches(&[set(1)]), []);
+    assert_eq!(stretches(&[set(1), back(1)]), [(0, 1, 1)]);
+    assert_eq!(stretches(&[LOAD, set(1), LOAD, LOAD, back(1)]), [(1, 4, 2)]);
+    // A refused set opens no stretch and a refused return ends none.
+    assert_eq!(stretches(&[set(1), LOAD, set(1), back(2), back(0), back(1)]), [(0, 5, 1)]);
+    assert_eq!(stretches(&[set(9), back(9), back(1)]), []);
+    // The latest accepted setting is that of the mark returned to.
+    let calls = [set(1), LOAD, back(1), LOAD, set(1), LOAD, back(1)];
+    assert_eq!(stretches(&calls), [(0, 2, 1), (4, 6, 2)]);
+    // A mark that an abort or a commit forgot is set anew.
+    let calls = [LOAD, set(1), abort(1), set(1), back(1)];
+    assert_eq!(stretches(&calls), [(3, 4, 1)]);
+    let commit = Call::Commit { number: 1 };
+    assert_eq!(stretches(&[set(1), LOAD, commit, set(1), back(1)]), [(3, 4, 2)]);
+    // One in another, and one that the return to an older mark ended.
+    assert_eq!(stretches(&[set(1), set(2), back(2), back(1)]), [(1, 2, 1), (0, 3, 1)]);
+    assert_eq!(stretches(&[set(1), set(2), back(1), back(2)]), [(0, 2, 1)]);
+}
+
+/// A plain stretch has no call on marks in it, accepted or refused.
+#[test]
+fn plain_stretches_beside_marks() {
+    assert_eq!(stretches(&[set(1), LOAD, abort(1)]), [(1, 2, 1)]);
+    for call in [set(1), set(0), back(1), back(0)] {
+        assert_eq!(stretches(&[LOAD, call, abort(1)]), [], "{call:?}");
+        assert_eq!(stretches(&[call, Call::Idle, abort(1)]), [(2, 2, 1), (1, 2, 1)], "{call:?}");
+    }
+    // The next number after a return is that of the mark.
+    let calls = [LOAD, set(1), LOAD, back(1), LOAD, abort(2)];
+    assert_eq!(stretches(&calls), [(4, 5, 2), (1, 3, 2)]);
+}
+
+#[test]
 fn struck_calls() {
     let retry = |number| Call::Retry { number };
     let commit = Call::Commit { number: 5 };
@@ -112,5 +154,10 @@ fn struck_calls() {
     }
     for call in [retry(2), abort(2), commit, show, Call::Idle, Call::Reply, Call::Flush] {
         assert!(!(stretch::PLAIN.struck)(call, 3), "{call:?}");
+        assert!(!(stretch::MARK.struck)(call, 3), "{call:?}");
+    }
+    let of_marks = [set(1), set(0), back(8), back(9)];
+    for call in [LOAD, BAD_LOAD, retry(3), retry(4), abort(3), abort(9)].iter().chain(&of_marks) {
+        assert!((stretch::MARK.struck)(*call, 3), "{call:?}");
     }
 }

@@ -101,7 +101,7 @@ impl Machine for Image {
             }
             Made::Call(call) => black_box(self.call(cache, memory, call)).is_ok(),
             Made::NoCall => {
-                let told = black_box(numbered::step(self, cache, memory, 9, [0; 3]));
+                let told = black_box(numbered::step(self, cache, memory, numbered::CALLS, [0; 3]));
                 told != numbered::NO_SUCH_CALL
             }
         }
@@ -192,7 +192,7 @@ struct Case {
     call: Call,
 }
 
-/// The ten calls, each on a state in which it does its work, a drain under each write
+/// The twelve calls, each on a state in which it does its work, a drain under each write
 /// policy, and a refused one.
 fn cases(setup: Setup) -> Vec<Case> {
     let figures = setup.figures;
@@ -212,6 +212,9 @@ fn cases(setup: Setup) -> Vec<Case> {
     let through = figures.with_policy(WritePolicy::WriteThrough);
     let mut requested = filled();
     requested.request(absent);
+    let mut marked = filled();
+    marked.push(Call::Checkpoint { name: 1 });
+    let restore = Call::Restore { name: 1 };
     let mut waiting = filled();
     let number = waiting.request(absent);
     waiting.push(Call::Reply);
@@ -222,6 +225,8 @@ fn cases(setup: Setup) -> Vec<Case> {
         Case { name: "retry: a value", way: waiting.busy(), call: Call::Retry { number } },
         busy("commit: two loads leave", |state| Call::Commit { number: state.last }),
         busy("abort: six entries dropped", |state| Call::Abort { number: state.last - 5 }),
+        busy("checkpoint", |_| Call::Checkpoint { name: 1 }),
+        Case { name: "restore: six entries dropped", way: marked.busy(), call: restore },
         Case { name: "idle: a store drained", way: committed(figures), call: Call::Idle },
         Case { name: "idle: .. in write-through", way: committed(through), call: Call::Idle },
         Case { name: "reply: a dirty line evicted", way: requested.busy(), call: Call::Reply },

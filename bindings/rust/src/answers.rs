@@ -8,7 +8,8 @@ use crate::boundary::{self, AnswerImage};
 /// changed nothing.
 ///
 /// The first that applies is given, in the order 1, 10, 2, 3, 4, 5, 13, then 11 or
-/// 12; each of 14 to 18 follows 10. (6 is the script player's.)
+/// 12; each of 14 to 18 follows 10, and so do 19, 20 and 21, in this order. (6 is the
+/// script player's.)
 #[derive(Clone, Copy, Debug, PartialEq, Eq, Hash)]
 #[repr(u32)]
 pub enum Refusal {
@@ -41,11 +42,18 @@ pub enum Refusal {
     NoRequest = 17,
     /// Flush: a committed store is held.
     Flush = 18,
+    /// Checkpoint or restore: the name is not 1 to 8.
+    Name = 19,
+    /// Checkpoint: a mark in force has the name.
+    NameInUse = 20,
+    /// Restore: no mark in force has the name. Checkpoint: the last number is
+    /// 4294967295.
+    NoCheckpoint = 21,
 }
 
 impl Refusal {
     /// All refusals, by rising numbers.
-    pub const ALL: [Refusal; 14] = [
+    pub const ALL: [Refusal; 17] = [
         Refusal::Figures,
         Refusal::Width,
         Refusal::Alignment,
@@ -60,6 +68,9 @@ impl Refusal {
         Refusal::Abort,
         Refusal::NoRequest,
         Refusal::Flush,
+        Refusal::Name,
+        Refusal::NameInUse,
+        Refusal::NoCheckpoint,
     ];
 
     /// The scope paper's number.
@@ -92,6 +103,9 @@ impl Refusal {
             Refusal::Abort => "abort: n is at most h or above last + 1",
             Refusal::NoRequest => "reply: register free",
             Refusal::Flush => "flush: a committed store is held",
+            Refusal::Name => "name outside 1 to 8",
+            Refusal::NameInUse => "set: name in use",
+            Refusal::NoCheckpoint => "return: name not in use, or set when last is 4294967295",
         }
     }
 }
@@ -141,6 +155,8 @@ pub enum Answer {
     },
     /// An accepted start.
     Ready,
+    /// The operation number that the mark remembers.
+    Checkpointed(u32),
 }
 
 /// What an answer of the library stands for.
@@ -160,6 +176,7 @@ pub(crate) fn told(answer: AnswerImage) -> Result<Answer, Refusal> {
         boundary::KIND_FLUSHED => Answer::Flushed(first),
         boundary::KIND_SHOWN => Answer::Shown { place: first, length: second },
         boundary::KIND_READY => Answer::Ready,
+        boundary::KIND_CHECKPOINTED => Answer::Checkpointed(first),
         // "No such call" and "ran" among them: this crate makes only calls that there are,
         // starts only in profiles that there are, and a batch is no call.
         _ => panic!("the library answers no call of this crate by kind {kind}"),

@@ -19,6 +19,7 @@ pub const KIND_FILLED: u32 = 9;
 pub const KIND_FLUSHED: u32 = 10;
 pub const KIND_SHOWN: u32 = 11;
 pub const KIND_READY: u32 = 12;
+pub const KIND_CHECKPOINTED: u32 = 13;
 pub const KIND_RAN: u32 = 254;
 
 // Calls by their numbers.
@@ -31,6 +32,8 @@ pub const CALL_IDLE: u32 = 5;
 pub const CALL_REPLY: u32 = 6;
 pub const CALL_FLUSH: u32 = 7;
 pub const CALL_SHOW_LINE: u32 = 8;
+pub const CALL_CHECKPOINT: u32 = 9;
+pub const CALL_RESTORE: u32 = 10;
 
 // Profiles by their numbers.
 pub const PROFILE_WRITE_BACK: u32 = 0;
@@ -56,7 +59,7 @@ const _: () = {
 };
 
 extern "C" {
-    fn nicoisetarn_start_with_in(
+    fn nicoisetarn_start_2048_in(
         image: *mut Image,
         sets: u32,
         ways: u32,
@@ -110,7 +113,7 @@ pub fn start(image: &mut Image, figures: Figures, cache: &mut [u8], memory: &[u8
     // two of them are exclusive; each slice goes with its own length; the library
     // reads the memory only and keeps no pointer; any bytes are an image.
     unsafe {
-        nicoisetarn_start_with_in(
+        nicoisetarn_start_2048_in(
             image,
             sets,
             ways,

@@ -26,6 +26,10 @@ pub enum Call {
     Flush,
     /// An address of the line.
     ShowLine(u32),
+    /// The name of the mark to be set.
+    Checkpoint(u32),
+    /// The name of the mark to return to.
+    Restore(u32),
 }
 
 impl Call {
@@ -41,6 +45,8 @@ impl Call {
             Call::Reply => (boundary::CALL_REPLY, [0; 3]),
             Call::Flush => (boundary::CALL_FLUSH, [0; 3]),
             Call::ShowLine(address) => (boundary::CALL_SHOW_LINE, [address, 0, 0]),
+            Call::Checkpoint(name) => (boundary::CALL_CHECKPOINT, [name, 0, 0]),
+            Call::Restore(name) => (boundary::CALL_RESTORE, [name, 0, 0]),
         }
     }
 }

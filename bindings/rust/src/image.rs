@@ -22,6 +22,8 @@ pub const RECORDS: usize = 256;
 pub const STORES: usize = 16;
 /// Places of the load queue.
 pub const LOADS: usize = 8;
+/// Places of checkpoints; their names are 1 to so many.
+pub const CHECKPOINTS: usize = 8;
 
 /// Where a drain writes a store, and what it needs for it: the write profile.
 #[derive(Clone, Copy, Debug, Default, PartialEq, Eq, Hash)]
@@ -101,6 +103,18 @@ pub struct ListedLoad {
     pub waiting: bool,
 }
 
+/// A checkpoint (02: a mark in force); all zero where the place is free.
+#[derive(Clone, Copy, Debug, Default, PartialEq, Eq, Hash)]
+#[repr(C)]
+pub struct Checkpoint {
+    /// The name, 1 to 8; 0 where the place is free.
+    pub name: u32,
+    /// The operation number that it remembers.
+    pub number: u32,
+    /// 1 for the one set first, 2 for the next, and so on.
+    pub rank: u32,
+}
+
 /// A tag record. The bytes of record r stand at 16 × r in the cache.
 #[derive(Clone, Copy, Debug, Default, PartialEq, Eq, Hash)]
 pub struct Tag {
@@ -171,6 +185,7 @@ pub struct Image {
     line: u32,
     stores: [HeldStore; STORES],
     loads: [LoadImage; LOADS],
+    checkpoints: [Checkpoint; CHECKPOINTS],
     tags: [TagImage; RECORDS],
 }
 
@@ -178,16 +193,18 @@ pub struct Image {
 const _: () = {
     assert!(size_of::<Image>() == Image::SIZE && align_of::<Image>() == 4);
     assert!(size_of::<HeldStore>() == 16 && size_of::<LoadImage>() == 16);
+    assert!(size_of::<Checkpoint>() == 12);
     assert!(size_of::<TagImage>() == 6 && align_of::<TagImage>() == 2);
     assert!(offset_of!(Image, sets) == 0 && offset_of!(Image, ways) == 4);
     assert!(offset_of!(Image, profile) == 8 && offset_of!(Image, memory_length) == 12);
     assert!(offset_of!(Image, last) == 16 && offset_of!(Image, committed) == 20);
     assert!(offset_of!(Image, requested) == 24 && offset_of!(Image, line) == 28);
     assert!(offset_of!(Image, stores) == 32 && offset_of!(Image, loads) == 288);
-    assert!(offset_of!(Image, tags) == 416);
+    assert!(offset_of!(Image, checkpoints) == 416 && offset_of!(Image, tags) == 512);
     assert!(offset_of!(HeldStore, address) == 4 && offset_of!(HeldStore, width) == 8);
     assert!(offset_of!(HeldStore, value) == 12 && offset_of!(LoadImage, address) == 4);
     assert!(offset_of!(LoadImage, width) == 8 && offset_of!(LoadImage, waiting) == 12);
+    assert!(offset_of!(Checkpoint, number) == 4 && offset_of!(Checkpoint, rank) == 8);
     assert!(offset_of!(TagImage, dirty) == 1 && offset_of!(TagImage, line) == 2);
     assert!(offset_of!(TagImage, age) == 4 && offset_of!(TagImage, unused) == 5);
 };
@@ -195,7 +212,7 @@ const _: () = {
 /// What an image holds, whether or not a call would refuse it.
 impl Image {
     /// Bytes of an image.
-    pub const SIZE: usize = 1952;
+    pub const SIZE: usize = 2048;
 
     /// The image with these bytes.
     pub fn from_bytes(bytes: [u8; Image::SIZE]) -> Image {
@@ -258,6 +275,11 @@ impl Image {
             width: load.width,
             waiting: load.waiting != 0,
         })
+    }
+
+    /// The checkpoints, in the order in which they were set.
+    pub fn checkpoints(&self) -> &[Checkpoint; CHECKPOINTS] {
+        &self.checkpoints
     }
 
     /// The tag record of a number, set × ways + way; none past the table.

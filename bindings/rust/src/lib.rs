@@ -69,6 +69,22 @@
 //! # Ok::<(), Refusal>(())
 //! ```
 //!
+//! A checkpoint (02: a mark) has a name, 1 to 8, and remembers the next operation number.
+//! A restore (02: return to a mark) drops what was loaded and stored since.
+//!
+//! ```
+//! # use nicoisetarn::{Answer, Checkpoint, Figures, Refusal, Unit};
+//! # let mut unit = Unit::start(Figures::new(1, 1), vec![0; 32])?;
+//! assert_eq!(unit.store(4, 1, 7)?, Answer::Stored(1));
+//! assert_eq!(unit.checkpoint(3)?, Answer::Checkpointed(2));
+//! assert_eq!(unit.image().checkpoints()[0], Checkpoint { name: 3, number: 2, rank: 1 });
+//! assert_eq!(unit.store(4, 1, 8)?, Answer::Stored(2));
+//! assert_eq!(unit.restore(3)?, Answer::Kept(1));
+//! assert_eq!(unit.load(4, 1)?, Answer::Value { number: 2, value: 7 });
+//! assert_eq!(unit.restore(3), Err(Refusal::NoCheckpoint));
+//! # Ok::<(), Refusal>(())
+//! ```
+//!
 //! A start may choose write-through without write-allocate in place of write-back. A
 //! drain then needs no line and writes memory at once.
 //!
@@ -113,7 +129,7 @@ pub use answers::{Answer, Refusal};
 pub use batch::Batch;
 pub use calls::{Call, Part};
 pub use image::{
-    Figures, HeldStore, Image, ListedLoad, Tag, WritePolicy, LINE, LOADS, MAX_MEMORY, MAX_SETS,
-    MAX_WAYS, MIN_MEMORY, RECORDS, STORES, WORD,
+    Checkpoint, Figures, HeldStore, Image, ListedLoad, Tag, WritePolicy, CHECKPOINTS, LINE, LOADS,
+    MAX_MEMORY, MAX_SETS, MAX_WAYS, MIN_MEMORY, RECORDS, STORES, WORD,
 };
 pub use unit::Unit;

@@ -17,8 +17,8 @@ pub struct Unit {
 }
 
 impl Unit {
-    /// Start over a memory, which stays as found: both queues empty, no line
-    /// present, last and committed number 0; way w of each set has age w. The unit
+    /// Start over a memory, which stays as found: both queues empty, no checkpoint, no
+    /// line present, last and committed number 0; way w of each set has age w. The unit
     /// keeps the figures' write policy.
     ///
     /// Refused by 1 alone: sets is not 1, 2, 4, 8, 16, 32 or 64, ways is not 1 to 4,
@@ -42,7 +42,7 @@ impl Unit {
         (self.image, self.cache, self.memory)
     }
 
-    /// What the state holds: numbers, queues, tag records, the miss register.
+    /// What the state holds: numbers, queues, checkpoints, tag records, the miss register.
     pub fn image(&self) -> &Image {
         &self.image
     }
@@ -108,7 +108,7 @@ impl Unit {
 
     /// Commit of everything up to a number: [`Answer::Committed`]. Answered loads up
     /// to it leave the queue in number order, each using its line if that is present;
-    /// waiting ones stay.
+    /// waiting ones stay. Checkpoints at or below it are forgotten.
     ///
     /// Refused by 15: the number is below the committed one or above the last.
     pub fn commit(&mut self, number: u32) -> Result<Answer, Refusal> {
@@ -116,11 +116,29 @@ impl Unit {
     }
 
     /// Abort of everything from a number on (a squash): [`Answer::Kept`]. No trace of
-    /// it is left in any line or age.
+    /// it is left in any line or age. Checkpoints above that number are forgotten.
     ///
     /// Refused by 16: the number is at most the committed one, or above last + 1.
     pub fn abort(&mut self, number: u32) -> Result<Answer, Refusal> {
         self.call(Call::Abort(number))
+    }
+
+    /// Checkpoint (02: set a mark): [`Answer::Checkpointed`], with the next operation
+    /// number, which the mark remembers. It takes none.
+    ///
+    /// Refused by 19 (the name is not 1 to 8), 20 (a mark in force has it) or 21 (no
+    /// number left).
+    pub fn checkpoint(&mut self, name: u32) -> Result<Answer, Refusal> {
+        self.call(Call::Checkpoint(name))
+    }
+
+    /// Restore (02: return to a mark): [`Answer::Kept`], as the abort at the number that
+    /// the mark remembers. The mark is forgotten, and all that were set later; those set
+    /// earlier stay, also at the same number.
+    ///
+    /// Refused by 19 (the name is not 1 to 8) or 21 (no mark in force has it).
+    pub fn restore(&mut self, name: u32) -> Result<Answer, Refusal> {
+        self.call(Call::Restore(name))
     }
 
     /// Idle, the background work, does the first of these that it can.

@@ -7,11 +7,11 @@
 mod beside;
 mod numbered;
 
-use beside::{in_each_profile, times, Bench, Beside};
+use beside::{in_each_profile, times, with_marks, Bench, Beside};
 use compare::random::{self, Mix, Rng, Run};
 use compare::types::{Answer, Setup};
 use nicoisetarn::{Answer as Ours, Batch, Call as Made, Figures, Image, Refusal, Unit};
-use numbered::{Listed, UNKNOWN, UNTOUCHED};
+use numbered::{Listed, CALLS, NO_CALLS, UNKNOWN, UNTOUCHED};
 
 /// What a run led to, call by call on the library and on the model.
 fn one_by_one(run: &Run) -> Result<(Vec<Answer>, Bench), String> {
@@ -59,7 +59,8 @@ fn long_runs_in_lists() {
     let setups = [Setup::new(1, 1, 16), Setup::new(4, 3, 512), Setup::new(64, 4, 65536)];
     let mut rng = Rng::new(0x10_BA7C);
     for setup in in_each_profile(&setups.repeat(times() as usize)) {
-        let run = random::script_run(&mut rng, setup, 8_000, Mix::Accepted);
+        let run = random::script_run(&mut rng, setup, 6_500, Mix::Accepted);
+        let run = with_marks(run, &mut rng);
         if let Err(what) = check_run(&run, &mut rng, 1_000) {
             panic!("{setup:?}, {what}");
         }
@@ -69,13 +70,13 @@ fn long_runs_in_lists() {
 /// Six numbers that are no call.
 fn no_call(rng: &mut Rng) -> Listed {
     let any = |rng: &mut Rng| rng.word() as u32;
-    let (not_zero, known) = (any(rng).max(1), rng.below(9) as u32);
+    let (not_zero, known) = (any(rng).max(1), rng.below(CALLS.into()) as u32);
     let operands = [any(rng), rng.pick(&[1, 2, 4]), rng.pick(&[0, 1])];
     let (number, fifth, sixth) = match rng.below(4) {
-        0 => (rng.pick(&[9, 10, 13, 254, 255, 256, u32::MAX]), 0, 0),
+        0 => (rng.pick(&NO_CALLS), 0, 0),
         1 => (known, rng.pick(&[1, not_zero]), 0),
         2 => (known, 0, rng.pick(&[1, not_zero])),
-        _ => (any(rng).max(9), any(rng), any(rng)),
+        _ => (any(rng).max(CALLS), any(rng), any(rng)),
     };
     let [x, y, z] = operands;
     [number, x, y, z, fifth, sixth]
@@ -165,7 +166,7 @@ fn line_shown_on_the_way() {
 /// Operands that a call does not take are not looked at.
 #[test]
 fn operands_not_taken_in_a_list() {
-    let taken = [2, 3, 1, 1, 1, 0, 0, 0, 1];
+    let taken = [2, 3, 1, 1, 1, 0, 0, 0, 1, 1, 1];
     for (call, taken) in (0..).zip(taken) {
         let made = [0, u32::MAX].map(|not_taken| {
             let (mut image, mut cache, mut memory) = started().into_parts();

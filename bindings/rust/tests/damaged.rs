@@ -1,7 +1,8 @@
 //! Calls on damaged benches: states that runs led to with one field damaged or in
 //! another profile, images of random bytes, and lent buffers of wrong lengths. Each
 //! call is answered as the Rust model answers it, and a refused one changes nothing;
-//! so it is with all calls in one list. (`marks` tries every byte of dirty marks.)
+//! so it is with all calls in one list. (`dirty_marks` tries every byte of dirty marks,
+//! `checkpoints` every byte of checkpoints.)
 //!
 //! NICOISETARN_TIMES=N in the environment makes N times as many calls.
 
@@ -10,15 +11,15 @@ mod numbered;
 
 use beside::layout;
 use beside::{
-    each_call, figures_agree, judge, odd_number, stands, state_of, tags, times, with_byte,
-    with_word, Bench, Beside,
+    each_call, figures_agree, in_force, judge, odd_number, stands, state_of, tags, times,
+    with_byte, with_word, Bench, Beside,
 };
 use compare::check::{self, CLAUSES};
 use compare::counts::{refused, Counts};
 use compare::random::Rng;
 use compare::types::{Answer, Call, Part, WritePolicy};
-use nicoisetarn::{Figures, Image, Refusal, Tag, LINE, LOADS, RECORDS, STORES, WORD};
-use numbered::NO_PROFILES;
+use nicoisetarn::{Figures, Image, Refusal, Tag, CHECKPOINTS, LINE, LOADS, RECORDS, STORES, WORD};
+use numbered::{NO_CALLS, NO_PROFILES};
 
 /// Where a damage is done: fields of the image by the place of the first, how
 /// many there are, how far apart and of how many bytes; dirty marks; or what is lent,
@@ -50,6 +51,11 @@ impl Field {
         Field::Image(layout::LOADS_AT + at, LOADS, layout::ENTRY, 4)
     }
 
+    /// A number of each checkpoint.
+    const fn of_checkpoints(at: usize) -> Field {
+        Field::Image(layout::CHECKPOINTS_AT + at, CHECKPOINTS, layout::CHECKPOINT, 4)
+    }
+
     /// A number of each tag record, of so many bytes.
     const fn of_tags(at: usize, width: usize) -> Field {
         Field::Image(layout::TAGS_AT + at, RECORDS, layout::TAG, width)
@@ -57,7 +63,7 @@ impl Field {
 }
 
 /// Every field, with its name.
-const FIELDS: [(&str, Field); 26] = [
+const FIELDS: [(&str, Field); 29] = [
     ("sets", Field::word(layout::SETS)),
     ("ways", Field::word(layout::WAYS)),
     ("profile", Field::word(layout::PROFILE)),
@@ -74,6 +80,9 @@ const FIELDS: [(&str, Field); 26] = [
     ("load: address", Field::of_loads(layout::ADDRESS)),
     ("load: width", Field::of_loads(layout::WIDTH)),
     ("load: waiting", Field::of_loads(layout::WAITING)),
+    ("checkpoint: name", Field::of_checkpoints(0)),
+    ("checkpoint: number", Field::of_checkpoints(layout::NUMBER)),
+    ("checkpoint: rank", Field::of_checkpoints(layout::RANK)),
     ("tag: valid", Field::of_tags(0, 1)),
     ("tag: dirty marks", Field::DirtyMarks),
     ("tag: line", Field::of_tags(layout::LINE, 2)),
@@ -114,24 +123,24 @@ fn damage_number(bytes: &mut [u8], at: usize, width: usize, stride: usize, rng: 
     }
 }
 
-/// The places that are damaged most: those in use and the next one.
-fn places_in_use(image: &Image, places: usize) -> u64 {
-    let stores = image.stores().iter().filter(|store| store.number != 0).count();
-    let loads = image.loads().iter().filter(|load| load.number != 0).count();
-    let in_use = match places {
-        STORES => stores,
-        LOADS => loads,
-        RECORDS => (image.figures().sets * image.figures().ways) as usize,
+/// How many places are in use, of those among which a field stands.
+fn places_in_use(image: &Image, at: usize) -> usize {
+    let stores = || image.stores().iter().filter(|store| store.number != 0).count();
+    let loads = || image.loads().iter().filter(|load| load.number != 0).count();
+    match at {
+        layout::STORES_AT..layout::LOADS_AT => stores(),
+        layout::LOADS_AT..layout::CHECKPOINTS_AT => loads(),
+        layout::CHECKPOINTS_AT..layout::TAGS_AT => in_force(image).count(),
+        layout::TAGS_AT.. => (image.figures().sets * image.figures().ways) as usize,
         _ => 0,
-    };
-    (in_use + 1).min(places) as u64
+    }
 }
 
-/// One of so many places, mostly one of those.
-fn place(image: &Image, places: usize, rng: &mut Rng) -> usize {
-    let most = places_in_use(image, places);
-    let within = if rng.one_in(4) { places as u64 } else { most };
-    rng.below(within) as usize
+/// One of so many places of a field, mostly one in use or the next one.
+fn place(image: &Image, at: usize, places: usize, rng: &mut Rng) -> usize {
+    let most = (places_in_use(image, at) + 1).min(places);
+    let within = if rng.one_in(4) { places } else { most };
+    rng.below(within as u64) as usize
 }
 
 /// Puts other dirty marks into a record, often a valid one: four of them, a fifth beside
@@ -139,7 +148,7 @@ fn place(image: &Image, places: usize, rng: &mut Rng) -> usize {
 fn damage_marks(image: &Image, rng: &mut Rng) -> Image {
     let valid: Vec<usize> = tags(image).filter(|(_, tag)| tag.valid).map(|it| it.0).collect();
     let record = match valid.is_empty() || rng.one_in(2) {
-        true => place(image, RECORDS, rng),
+        true => place(image, layout::TAGS_AT, RECORDS, rng),
         false => rng.pick(&valid),
     };
     let old = image.tag(record).map_or(0, |tag| tag.dirty);
@@ -184,7 +193,7 @@ fn damage_length(bytes: &mut Vec<u8>, rng: &mut Rng) {
 fn damage(bench: &mut Bench, field: Field, rng: &mut Rng) {
     match field {
         Field::Image(first, places, stride, width) => {
-            let at = first + stride * place(&bench.image, places, rng);
+            let at = first + stride * place(&bench.image, first, places, rng);
             let mut bytes = bench.image.to_bytes();
             damage_number(&mut bytes, at, width, stride, rng);
             bench.image = Image::from_bytes(bytes);
@@ -200,7 +209,7 @@ fn damage(bench: &mut Bench, field: Field, rng: &mut Rng) {
 
 /// A number that no call has, whatever the image is.
 fn play_no_call(bench: &mut Bench, rng: &mut Rng) -> numbered::Numbers {
-    let call = rng.pick(&[9, 10, 256, u32::MAX]);
+    let call = rng.pick(&NO_CALLS);
     let operands = [rng.word() as u32, rng.word() as u32, 1];
     let Bench { image, cache, memory } = bench;
     numbered::step(image, cache, memory, call, operands)
@@ -250,7 +259,7 @@ fn play_each(bench: &Bench, rng: &mut Rng, counts: &mut Counts) -> Result<Answer
             idle = answer;
         }
         if answer.accepted() && !matches!(call, Call::ShowLine { .. }) {
-            beside.restore(bench);
+            beside.reset(bench);
         } else if beside.library != *bench {
             return Err(format!("{call:?}: {answer:?}, but it has changed something"));
         }
@@ -267,7 +276,8 @@ fn play_each(bench: &Bench, rng: &mut Rng, counts: &mut Counts) -> Result<Answer
 /// by 1 or 10, so is each of them, and nothing changes; else all is as call by call.
 fn play_list(bench: &Bench, calls: &[Call], idle: Answer) -> Result<(), String> {
     let mut beside = Beside::new(bench);
-    let (mut list, mut expected) = (vec![[9, 0, 1, 0, 0, 0]], vec![numbered::UNKNOWN]);
+    let (mut list, mut expected) =
+        (vec![[numbered::CALLS, 0, 1, 0, 0, 0]], vec![numbered::UNKNOWN]);
     for &call in calls {
         let Some(numbers) = numbered::call_of(call) else {
             continue;
@@ -347,14 +357,15 @@ fn broken_alone(bench: &Bench) -> Option<&'static str> {
     }
 }
 
-/// Why an image is refused for its dirty words, where it has one reason alone.
-fn refused_words(bench: &Bench) -> Option<&'static str> {
+/// Why an image is refused for its dirty words or its checkpoints, where it has one reason
+/// alone.
+fn refused_alone(bench: &Bench) -> Option<&'static str> {
     match broken_alone(bench)? {
         "four dirty marks" => Some("fifth mark"),
         "clean words equal memory" if clean_word_differs(bench) => {
             Some("clean word of a dirty line differs")
         }
-        _ => None,
+        clause => Some(clause).filter(|clause| clause.contains("checkpoint")),
     }
 }
 
@@ -370,7 +381,7 @@ fn clean_word_differs(bench: &Bench) -> bool {
 
 /// Counts an image with one of these reasons, which an idle call has refused.
 fn count_reasons(counts: &mut Counts, bench: &Bench, idle: Answer) {
-    for why in [refused_through(bench), refused_words(bench)].into_iter().flatten() {
+    for why in [refused_through(bench), refused_alone(bench)].into_iter().flatten() {
         assert_eq!(idle, Answer::Refused(10), "{why}");
         counts.met(why, true);
     }
@@ -406,11 +417,11 @@ fn judge_fields(tallies: &[Tally]) {
 }
 
 /// What damaged fields must meet, out of so many calls.
-const NEEDED_OF_FIELDS: [(&str, u64); 27] = [
+const NEEDED_OF_FIELDS: [(&str, u64); 37] = [
     ("other call accepted", 40),
     ("accepted start", 100),
     ("line shown", 500),
-    ("image that stands for no state", 100),
+    ("image that stands for no state", 150),
     ("refused 1", 20),
     ("refused 2", 2_000),
     ("refused 3", 2_000),
@@ -423,6 +434,13 @@ const NEEDED_OF_FIELDS: [(&str, u64); 27] = [
     ("fifth mark", 10_000),
     ("clean word of a dirty line differs", 10_000),
     ("byte of a dirty word changed", 10_000),
+    ("free checkpoints zero", 1_000),
+    ("checkpoint names 1 to 8", 20_000),
+    ("checkpoint names distinct", 50_000),
+    ("checkpoints above committed", 10_000),
+    ("checkpoints up to last + 1", 30_000),
+    ("checkpoints never fall", 150_000),
+    ("checkpoint ranks in order", 5_000),
     ("list refused", 30),
     ("list accepted", 200),
     ("refused 10", 10),
@@ -434,13 +452,16 @@ const NEEDED_OF_FIELDS: [(&str, u64); 27] = [
     ("refused 16", 1_000),
     ("refused 17", 200),
     ("refused 18", 500),
+    ("refused 19", 500),
+    ("refused 20", 4_000),
+    ("refused 21", 500),
 ];
 
 #[test]
 fn one_field_damaged() {
     let mut counts = Counts::default();
     let mut tallies = [Tally::default(); FIELDS.len()];
-    for seed in 0..4_000 * times() {
+    for seed in 0..3_200 * times() {
         let mut rng = Rng::new(seed ^ 0xDA3A_6ED0);
         let found = Bench::on_the_way(seed, &mut rng);
         for ((name, field), into) in FIELDS.iter().zip(&mut tallies) {
@@ -506,7 +527,7 @@ fn profile_damaged() {
     }
     let needed = [
         ("image that stands for no state", 50),
-        ("state of write-back in write-through", 200),
+        ("state of write-back in write-through", 400),
         ("state of write-through in write-back", 100),
         ("dirty line in write-through", 200),
         ("request for a store in write-through", 20_000),
@@ -528,7 +549,7 @@ fn mend_flags(bytes: &mut [u8]) {
     put(layout::PROFILE, profile);
     put(layout::REQUESTED, names);
     put(layout::REQUESTED_LINE, names * 2);
-    for load in bytes[layout::LOADS_AT..layout::TAGS_AT].chunks_exact_mut(layout::ENTRY) {
+    for load in bytes[layout::LOADS_AT..layout::CHECKPOINTS_AT].chunks_exact_mut(layout::ENTRY) {
         let waits = u32::from(load[layout::WAITING] & 1);
         load[layout::WAITING..].copy_from_slice(&waits.to_ne_bytes());
     }

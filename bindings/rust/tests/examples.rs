@@ -1,5 +1,5 @@
 //! The scope paper's worked script by calls, every refusal, starts, write-through, dirty
-//! words, show line's part, and what an image tells.
+//! words, show line's part, and what an image tells. (`checkpoints` has those of marks.)
 
 mod beside;
 mod numbered;
@@ -7,10 +7,10 @@ mod numbered;
 use beside::layout::{self, LOADS_AT, TAGS_AT};
 use nicoisetarn::WritePolicy::{WriteBack, WriteThrough};
 use nicoisetarn::{
-    Answer, Call, Figures, HeldStore, Image, ListedLoad, Part, Refusal, Tag, Unit, MAX_MEMORY,
-    MAX_SETS, MAX_WAYS, MIN_MEMORY,
+    Answer, Call, Checkpoint, Figures, HeldStore, Image, ListedLoad, Part, Refusal, Tag, Unit,
+    MAX_MEMORY, MAX_SETS, MAX_WAYS, MIN_MEMORY,
 };
-use numbered::NO_PROFILES;
+use numbered::{NO_CALLS, NO_PROFILES};
 
 const fn figures(sets: u32, ways: u32) -> Figures {
     Figures::new(sets, ways)
@@ -71,7 +71,7 @@ fn in_each_policy(figures: Figures) -> [Figures; 2] {
 }
 
 /// A unit with h 1 and last 3: load 1 waits and its line is requested, store 2 is
-/// held, load 3 is answered.
+/// held, load 3 is answered, and mark 1 remembers 4.
 fn busy_with(figures: Figures) -> Unit {
     let mut unit = started_with(figures, 48);
     assert_eq!(unit.load(16, 2), Ok(Answer::Waits(1)));
@@ -79,6 +79,7 @@ fn busy_with(figures: Figures) -> Unit {
     assert_eq!(unit.idle(), Ok(Answer::Requested(16)));
     assert_eq!(unit.store(8, 4, 0xCAFE), Ok(Answer::Stored(2)));
     assert_eq!(unit.load(8, 2), Ok(Answer::Value { number: 3, value: 0xCAFE }));
+    assert_eq!(unit.checkpoint(1), Ok(Answer::Checkpointed(4)));
     unit
 }
 
@@ -191,7 +192,7 @@ fn numbers_of_no_profile() {
 #[test]
 fn numbers_of_no_call() {
     for unit in fit_and_unfit() {
-        for call in [9, 10, 13, 255, 256, u32::MAX] {
+        for call in NO_CALLS {
             let (mut image, mut cache, mut memory) = unit.clone().into_parts();
             let answer = numbered::step(&mut image, &mut cache, &mut memory, call, [0, 1, 0]);
             assert_eq!(answer, numbered::NO_SUCH_CALL);
@@ -422,7 +423,7 @@ fn shown_part() {
 /// Operands that a call does not take are not looked at.
 #[test]
 fn operands_not_taken() {
-    let taken = [2, 3, 1, 1, 1, 0, 0, 0, 1];
+    let taken = [2, 3, 1, 1, 1, 0, 0, 0, 1, 1, 1];
     for (call, taken) in (0..).zip(taken) {
         let made = [0, u32::MAX].map(|not_taken| {
             let (mut image, mut cache, mut memory) = busy().into_parts();
@@ -448,6 +449,8 @@ fn what_an_image_tells() {
     let waits = ListedLoad { number: 1, address: 16, width: 2, waiting: true };
     let answered = ListedLoad { number: 3, address: 8, width: 2, waiting: false };
     assert_eq!(image.loads()[..3], [waits, answered, ListedLoad::default()]);
+    let mark = Checkpoint { name: 1, number: 4, rank: 1 };
+    assert_eq!(image.checkpoints()[..2], [mark, Checkpoint::default()]);
     assert_eq!(image.tag(1), Some(Tag { age: 1, ..Tag::default() }));
     assert_eq!(unit.reply(), Ok(Answer::Filled(16)));
     let image = unit.image();
@@ -472,10 +475,10 @@ fn policies_of_images() {
 #[test]
 fn refusals_have_their_numbers() {
     let numbers: Vec<u32> = Refusal::ALL.iter().map(|refusal| refusal.number()).collect();
-    assert_eq!(numbers, [1, 2, 3, 4, 5, 10, 11, 12, 13, 14, 15, 16, 17, 18]);
+    assert_eq!(numbers, [1, 2, 3, 4, 5, 10, 11, 12, 13, 14, 15, 16, 17, 18, 19, 20, 21]);
     for refusal in Refusal::ALL {
         assert_eq!(Refusal::of_number(refusal.number()), Some(refusal));
     }
-    assert_eq!((Refusal::of_number(6), Refusal::of_number(7)), (None, None));
+    assert_eq!([6, 7, 22].map(Refusal::of_number), [None; 3]);
     assert_eq!(Refusal::Flush.to_string(), "refused 18: flush: a committed store is held");
 }

@@ -6,13 +6,13 @@
 
 mod beside;
 
-use beside::{in_each_profile, judge, tags, times, Bench, Beside};
+use beside::{in_each_profile, in_force, judge, tags, times, with_marks, Bench, Beside};
 use compare::counts::{Counts, Needed};
 use compare::met;
 use compare::random::{self, Mix, Rng, Run};
 use compare::traffic::Dirty;
 use compare::types::{Answer, Call, Setup};
-use nicoisetarn::{Image, LINE, WORD};
+use nicoisetarn::{Image, CHECKPOINTS, LINE, WORD};
 
 /// What runs met, for each of `PROFILES`.
 type ByProfile = [Counts; 2];
@@ -31,6 +31,7 @@ fn play(run: &Run, counts: &mut ByProfile) -> Result<(), String> {
         counts.met("inquiry answered", retried);
         counts.met("line shown", matches!(answer, Answer::Shown(part) if part.length != 0));
         count_writes(counts, answer, &before, &beside.library.image);
+        count_marks(counts, call, answer, [&before, &beside.library.image]);
     }
     Ok(())
 }
@@ -53,6 +54,25 @@ fn count_writes(counts: &mut Counts, answer: Answer, before: &Image, after: &Ima
     }
 }
 
+/// Counts what a call did with the checkpoints of an image, by those before and after it.
+fn count_marks(counts: &mut Counts, call: Call, answer: Answer, images: [&Image; 2]) {
+    let [were, are] = images.map(|image| in_force(image).count());
+    counts.met("all checkpoints in use", are == CHECKPOINTS);
+    match call {
+        Call::Restore { .. } if answer.accepted() => {
+            counts.met("return to a mark", true);
+            counts.met("return that forgets several marks", were > are + 1);
+            counts.met("return that keeps a mark", are > 0);
+        }
+        Call::Abort { .. } => counts.met("abort that forgets a mark", were > are),
+        Call::Commit { .. } => {
+            counts.met("commit that forgets a mark", were > are);
+            counts.met("commit that forgets a mark and keeps one", were > are && are > 0);
+        }
+        _ => {}
+    }
+}
+
 /// What is dirty in an image, as its accessors tell it.
 fn dirty_of(image: &Image) -> Dirty {
     let words: Vec<u32> = tags(image).map(|(_, tag)| tag.dirty_words()).collect();
@@ -65,7 +85,7 @@ fn dirty_of(image: &Image) -> Dirty {
 }
 
 /// What both kinds of runs must meet in each write profile, out of so many calls.
-const NEEDED: [(&str, u64); 13] = [
+const NEEDED: [(&str, u64); 18] = [
     ("accepted call", 2),
     ("stored", 20),
     ("value", 20),
@@ -79,6 +99,11 @@ const NEEDED: [(&str, u64); 13] = [
     ("drain to a present line", 200),
     ("idle", 50),
     ("flush", 500),
+    ("mark set", 100),
+    ("return to a mark", 100),
+    ("return that keeps a mark", 1_000),
+    ("commit that forgets a mark", 1_000),
+    ("abort that forgets a mark", 2_000),
 ];
 
 /// The write profiles by their numbers: what the runs of each must meet besides, and
@@ -118,7 +143,7 @@ fn judge_each(what: &str, counts: &ByProfile, needed: &Needed) {
 }
 
 /// What short runs must meet besides.
-const NEEDED_OF_SHORT: [(&str, u64); 13] = [
+const NEEDED_OF_SHORT: [(&str, u64); 19] = [
     ("line shown", 200),
     ("refused 2", 5_000),
     ("refused 3", 5_000),
@@ -132,6 +157,12 @@ const NEEDED_OF_SHORT: [(&str, u64); 13] = [
     ("refused 16", 2_000),
     ("refused 17", 500),
     ("refused 18", 500),
+    ("refused 19", 500),
+    ("refused 20", 500),
+    ("refused 21", 500),
+    ("return that forgets several marks", 1_000),
+    ("commit that forgets a mark and keeps one", 2_000),
+    ("all checkpoints in use", 20_000),
 ];
 
 #[test]
@@ -162,7 +193,8 @@ fn long_runs() {
     for turn in 0..times() {
         let mut rng = Rng::new(turn ^ 0x1046_0000);
         for setup in in_each_profile(&SETUPS) {
-            let run = random::script_run(&mut rng, setup, 25_000, Mix::Accepted);
+            let run = random::script_run(&mut rng, setup, 20_000, Mix::Accepted);
+            let run = with_marks(run, &mut rng);
             if let Err(what) = play(&run, &mut counts) {
                 panic!("turn {turn}, {setup:?}, {what}");
             }

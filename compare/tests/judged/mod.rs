@@ -76,6 +76,14 @@ impl Judged {
         self.call(Call::Flush)
     }
 
+    pub fn checkpoint(&mut self, name: u32) -> Answer {
+        self.call(Call::Checkpoint { name })
+    }
+
+    pub fn restore(&mut self, name: u32) -> Answer {
+        self.call(Call::Restore { name })
+    }
+
     /// The bytes that show line gives.
     pub fn shown(&self, address: u32) -> &[u8] {
         Right::shown_bytes(&self.state, &self.cache, &self.memory, address)

@@ -97,3 +97,11 @@ pub(crate) fn is_flushed(r: Step, k: u32) -> bool {
         _ => false,
     }
 }
+
+pub(crate) fn is_checkpointed(r: Step, i: u32) -> bool {
+    let a = r.answer;
+    match a {
+        Answer::Checkpointed(n) => n == i,
+        _ => false,
+    }
+}

@@ -9,6 +9,7 @@ use rules::WritePolicy;
 
 mod answers;
 mod lent_run;
+mod mark_run;
 mod through_run;
 
 // The address of the run: byte 2 of the line at 48, which is line 3, in set 1.
@@ -244,6 +245,7 @@ fn main() {
     let shown = show_part(drained, &mut cache, &mut memory);
     let flushed = flush_part(shown, &mut cache, &mut memory);
     refusal_part(flushed, &mut cache, &mut memory);
+    mark_run::mark_part(flushed, &cache, &memory);
     let requested = request_part(flushed, &mut cache, &mut memory);
     trace_part(requested, cache, memory);
     lent_run::lent_part();

@@ -235,6 +235,7 @@ opened-imaged s = λ j. record {
   request = opened-request (s .request) j;
   stores = back imagedStore openedStore opened-store (s .stores) j;
   loads = back imagedLoad openedLoad opened-load (s .loads) j;
+  checkpoints = s .checkpoints;
   tags = back imagedTag openedTag opened-tag (s .tags) j;
 }
 
@@ -262,6 +263,7 @@ imaged-opened i e =
       line = imaged-line (i .requested) (i .line) register j;
       stores = back openedStore imagedStore imaged-store (i .stores) j;
       loads = back-every openedLoad imagedLoad loadStands imaged-load (i .loads) (and-left (every loadStands (i .loads)) _ rest) j;
+      checkpoints = i .checkpoints;
       tags = back-every openedTag imagedTag tagStands imaged-tag (i .tags) (and-right (every loadStands (i .loads)) _ rest) j;
     }
 

@@ -148,6 +148,7 @@ openedWith tags i = record {
   request = openedRequest (i .requested) (i .line);
   stores = map openedStore (i .stores);
   loads = map openedLoad (i .loads);
+  checkpoints = i .checkpoints;
   tags = tags;
 }
 
@@ -172,6 +173,7 @@ imagedWith images s = record {
   line = lineNamed (s .request);
   stores = map imagedStore (s .stores);
   loads = map imagedLoad (s .loads);
+  checkpoints = s .checkpoints;
   tags = images;
 }
 

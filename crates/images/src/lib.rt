@@ -4,6 +4,8 @@ ghost use mathlib.Core.Path.{_≡_};
 ghost use Rattle.images.specs.Images.{openedProfile, profileOf, isProfile, figuresWith, usedRecords, openedFirst, imagedWith, imagedOf, standsFirst};
 ghost use Rattle.images.specs.Claims.{ImagesStandForStates};
 use model::State;
+use rules::CHECKPOINT_PLACES;
+use rules::Checkpoint;
 use rules::Figures;
 use rules::LOAD_PLACES;
 use rules::STORE_PLACES;
@@ -72,6 +74,8 @@ pub struct Image {
     pub line: u32,
     pub stores: [StoreImage; STORE_PLACES],
     pub loads: [LoadImage; LOAD_PLACES],
+    // the checkpoints, which have nothing but numbers
+    pub checkpoints: [Checkpoint; CHECKPOINT_PLACES],
     pub tags: [TagImage; TAG_RECORDS],
 }
 
@@ -139,6 +143,7 @@ pub fn opened(image: Image, n: usize) -> State
 {
     let stores = image.stores;
     let loads = image.loads;
+    let checkpoints = image.checkpoints;
     let tags = image.tags;
     State {
         figures: figures_with(image.sets, image.ways, image.profile),
@@ -148,6 +153,7 @@ pub fn opened(image: Image, n: usize) -> State
         request: queues::open_request(image.requested, image.line),
         stores: queues::open_stores(stores),
         loads: queues::open_loads(loads),
+        checkpoints,
         tags: tags::open_tags(tags, n),
     }
 }
@@ -173,6 +179,7 @@ pub fn imaged_with(images: [TagImage; TAG_RECORDS], state: State) -> Image
     let request = state.request;
     let stores = state.stores;
     let loads = state.loads;
+    let checkpoints = state.checkpoints;
     Image {
         sets: figures.sets,
         ways: figures.ways,
@@ -184,6 +191,7 @@ pub fn imaged_with(images: [TagImage; TAG_RECORDS], state: State) -> Image
         line: queues::line_named(request),
         stores: queues::image_stores(stores),
         loads: queues::image_loads(loads),
+        checkpoints,
         tags: images,
     }
 }

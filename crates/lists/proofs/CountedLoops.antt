@@ -173,6 +173,16 @@ module _ {A : Type 0} (f : ℕ → A → A) (d : A) where
         ]
       ])
 
+  -- a loop that changes every place: its next turn, and the whole
+  pub changes-next : (k end : ℕ) (l : List A) (u : A) → k < end → u ≡ f k (getD l k d) → stepsFrom change k (end - k) l ≡ stepsFrom change (k + 1) (end - (k + 1)) (set l k u)
+  changes-next k end l u h e = rw e (steps-next change k end l h)
+
+  pub changes-all : (n : ℕ) (l : List A) → length l ≡ n → stepsFrom change 0 n l ≡ eachFrom f 0 l
+  changes-all n l e =
+      ext-getD d _ _ (changes-length n 0 l ∙ sym (each-length f 0 l)) (λ k b.
+      let b′ : k < length l = omega (arith, changes-length n 0 l) in
+      changes-in n 0 l k (omega arith) (omega arith) b′ ∙ sym (each-at f l d k b′))
+
 -- ---- a list filled with one value
 
 module _ {A : Type 0} (x : A) where

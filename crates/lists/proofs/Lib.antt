@@ -10,3 +10,5 @@ pub mod Lengths
 pub mod Loops
 pub mod CountedLoops
 pub mod Total
+pub mod Cut
+pub mod Climbing

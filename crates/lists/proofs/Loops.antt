@@ -9,11 +9,11 @@ use native.Mathlib.Nat.{not-suc-le-zero, le-of-suc-le-suc}
 use native.Mathlib.Numerals.{add-one}
 use native.Mathlib.Omega.{arith}
 use lib.Dec.{ltb, eqb}
-use lib.ListN.{length, take, drop, getD, set, replicate, drop-of-length-le, length-append, length-take, List·getD-eq-default}
+use lib.ListN.{length, take, drop, getD, set, replicate, drop-of-length-le, length-append, length-take, length-drop, List·getD-eq-default}
 use lib.Seq.{drop-cons, take-all, take-suc, set-append-seam, set-out}
 use borrow.Author.Tests.{eq-eqb, ne-eqb, lt-ltb, le-ltb, le-leb, lt-leb, ltb-true, ltb-false}
 use Rattle.lists.specs.Counted.{someFrom}
-use Rattle.lists.specs.Padded.{any, every, freeLast, rising, first, position, final, filter, without, shifted, placed, changed}
+use Rattle.lists.specs.Padded.{any, every, freeLast, rising, first, position, final, filter, without, shifted, placed, cut, changed}
 use Rattle.lists.proofs.Cond.{both, either, cases, and-left, and-right}
 
 -- the tests of the code, as the tests of a definition: `search tests` closes a return that follows tests on numbers
@@ -291,6 +291,46 @@ module _ {A : Type 0} (free : A) where
   moved-all i n (x ∷ l) out len pos h e =
       let one : n - i ≡ 1 = omega arith in
       rw (one, take-all i l (omega arith)) at e
+
+-- ---- the entries before the first that passes a test are laid down before free places
+
+module _ {A : Type 0} (p : A → Bool) (free : A) where
+  -- the first i entries were laid down, and none of them passes
+  pub record Cutting (n : ℕ) (l : List A) (i : ℕ) (out : List A) : Type 0 where
+    pub laid-down : out ≡ laid free i (n - i) l
+    pub left : cut p free l ≡ take i l ++ cut p free (drop i l)
+
+  pub cutting-none : (n : ℕ) (l : List A) → Cutting n l 0 (replicate n free)
+  cutting-none n l = let z : n - 0 ≡ n = omega arith in record { laid-down = rw z; left = refl }
+
+  module _ (d : A) {n : ℕ} {l : List A} {i : ℕ} {out : List A} (len : length l ≡ n) (g : Cutting n l i out) where
+    -- the next entry fails the test, and is laid down
+    pub cutting-next : i < n → p (getD l i d) ≡ false → Cutting n l (i + 1) (set out i (getD l i d))
+    unfolding cut
+    cutting-next h t =
+        let h′ : i < length l = omega arith in
+        let room : n - i ≡ suc (n - suc i) = omega arith in
+        record {
+          laid-down = rw (g .laid-down, add-one i, room) (laid-next free d i (n - suc i) l h′);
+          left =
+              g .left
+              ∙ rw (rest-cons p d l i h′, t, add-one i, take-suc l i d h′)
+              (sym (append-assoc (take i l) (getD l i d ∷ []) (cut p free (drop (suc i) l))));
+        }
+
+    -- it passes
+    pub cutting-stop : i < n → p (getD l i d) ≡ true → out ≡ cut p free l
+    unfolding cut
+    cutting-stop h t =
+        let h′ : i < length l = omega arith in
+        let room : n - i ≡ suc (length (drop (i + 1) l)) = omega (arith, length-drop (i + 1) l) in
+        g .laid-down ∙ rw room (sym (g .left ∙ rw (rest-cons p d l i h′, t)))
+
+    pub cutting-end : n ≤ i → out ≡ cut p free l
+    unfolding cut
+    cutting-end h =
+        let none : n - i ≡ 0 = omega arith in
+        g .laid-down ∙ rw none (sym (g .left ∙ rw (rest-none p d l i (omega arith))))
 
 -- ---- the entries that fail a test are packed to the front of free places
 

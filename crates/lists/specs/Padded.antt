@@ -3,7 +3,8 @@
 use mathlib.Core.Bool.{Bool, true, false, cond, _||_, _&&_}
 use mathlib.Core.List.{List, [], _∷_, _++_}
 use Prim.Native.Nat.{ℕ, suc, _+_}
-use lib.Dec.{eqb, ltb}
+use lib.Dec.{eqb, ltb, leb}
+use lib.ListN.{length, replicate}
 
 module _ {A : Type 0} where
   -- ---- tests
@@ -23,6 +24,12 @@ module _ {A : Type 0} where
   ascending number m [] = true
   ascending number m (x ∷ xs) =
       cond (eqb (number x) 0) (ascending number m xs) (ltb m (number x) && ascending number (number x) xs)
+
+  -- the numbers of the entries are m or more and never fall; number 0 marks a free place
+  unfoldable pub climbing : (A → ℕ) → ℕ → List A → Bool
+  climbing number m [] = true
+  climbing number m (x ∷ xs) =
+      cond (eqb (number x) 0) (climbing number m xs) (leb m (number x) && climbing number (number x) xs)
 
   -- only free places follow a free place
   unfoldable pub freeLast : (A → ℕ) → List A → Bool
@@ -89,6 +96,11 @@ module _ {A : Type 0} where
   unfoldable pub placed : (A → Bool) → A → List A → List A
   placed p e [] = []
   placed p e (x ∷ xs) = cond (p x) (e ∷ xs) (x ∷ placed p e xs)
+
+  -- the first entry that passes the test, and every one after it, gives up its place
+  unfoldable pub cut : (A → Bool) → A → List A → List A
+  cut p free [] = []
+  cut p free (x ∷ xs) = cond (p x) (free ∷ replicate (length xs) free) (x ∷ cut p free xs)
 
   -- each entry that passes the test is changed
   unfoldable pub changed : (A → Bool) → (A → A) → List A → List A

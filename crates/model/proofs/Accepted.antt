@@ -13,13 +13,14 @@ use Rattle.rules.specs.declared.Figures.{Figures}
 use Rattle.rules.specs.declared.Tag.{Tag}
 use Rattle.rules.specs.declared.StoreEntry.{StoreEntry}
 use Rattle.rules.specs.declared.LoadEntry.{LoadEntry}
+use Rattle.rules.specs.declared.Checkpoint.{Checkpoint}
 use Rattle.rules.specs.Shape.{Hierarchy, noStore, noLoad, lineOf}
 use Rattle.rules.specs.Lines.{wordsOf, writeBackAll, dirtyWords}
-use Rattle.rules.specs.Calls.{waitingAt, answered, answerLoad, youngStore, youngLoad, squash, abortRule, flushRule}
+use Rattle.rules.specs.Calls.{waitingAt, answered, answerLoad, youngStore, youngLoad, squash, flushRule}
 use Rattle.records.specs.Records.{hasRoom, usedTags, flushedTags}
 use Rattle.line_bytes.specs.Writes.{linesWritten}
 use Rattle.line_checks.specs.Refusal.{hierarchy}
-use Rattle.model.specs.State.{queuesOf, hierarchyOf, outcomeOf, Flushable}
+use Rattle.model.specs.State.{queuesOf, hierarchyOf, outcomeOf, Squashes, Flushable}
 use Rattle.model.specs.declared.State.{State}
 use Rattle.model.specs.declared.Step.{Step}
 use Rattle.model.specs.declared.Answer.{Answer}
@@ -28,9 +29,9 @@ use Rattle.line_bytes.proofs.Writing.{lines-flushed}
 use Rattle.model.proofs.Checking.{used-at}
 use Rattle.model.proofs.Moves.{flush-parts}
 
--- an answer, and the state with another last number, other queues and other records
-abbrev leaving : Answer → State → ℕ → List StoreEntry → List LoadEntry → List Tag → Step
-leaving a s last stores loads tags = record {
+-- an answer, and the state with another last number, other queues, other checkpoints and other records
+abbrev leaving : Answer → State → ℕ → List StoreEntry → List LoadEntry → List Checkpoint → List Tag → Step
+leaving a s last stores loads checkpoints tags = record {
   answer = a;
   next = record {
     figures = s .figures;
@@ -40,6 +41,7 @@ leaving a s last stores loads tags = record {
     request = s .request;
     stores = stores;
     loads = loads;
+    checkpoints = checkpoints;
     tags = tags;
   };
 }
@@ -49,23 +51,24 @@ module _ (s : State) (i v : ℕ) (l : LoadEntry) (loads : List LoadEntry) where
   pub answered-leaves :
       (tags : List Tag) → hasRoom (s .figures) ≡ true → i ≤ s .committed → loads ≡ without (waitingAt i) noLoad (s .loads)
       → tags ≡ cond (hasRoom (s .figures)) (usedTags (s .figures) (lineOf (l .address)) (s .tags)) (s .tags) → (c m : List ℕ)
-      → outcomeOf (leaving (Value i v) s (s .last) (s .stores) loads tags) c m ≡ answerLoad i v l (queuesOf s) (hierarchyOf s c m)
+      → outcomeOf (leaving (Value i v) s (s .last) (s .stores) loads (s .checkpoints) tags) c m ≡ answerLoad i v l (queuesOf s) (hierarchyOf s c m)
   unfolding answerLoad
   answered-leaves tags room h e f c m = rw (e, f ∙ sym (cond-then _ _ room), le-leb _ _ h, used-at)
 
   -- an uncommitted one is marked answered
   pub answered-stays :
       s .committed < i → loads ≡ changed (waitingAt i) answered (s .loads) → (c m : List ℕ)
-      → outcomeOf (leaving (Value i v) s (s .last) (s .stores) loads (s .tags)) c m ≡ answerLoad i v l (queuesOf s) (hierarchyOf s c m)
+      → outcomeOf (leaving (Value i v) s (s .last) (s .stores) loads (s .checkpoints) (s .tags)) c m ≡ answerLoad i v l (queuesOf s) (hierarchyOf s c m)
   unfolding answerLoad
   answered-stays h e c m = rw (e, lt-leb _ _ h)
 
-pub aborted-state :
-    (s : State) (n : ℕ) (stores : List StoreEntry) (loads : List LoadEntry)
-    → stores ≡ changed (youngStore n) (λ s. noStore) (s .stores) → loads ≡ changed (youngLoad n) (λ l. noLoad) (s .loads) → (c m : List ℕ)
-    → outcomeOf (leaving (Kept (n - 1)) s (n - 1) stores loads (s .tags)) c m ≡ abortRule n (queuesOf s) (hierarchyOf s c m)
-unfolding abortRule squash
-aborted-state s n stores loads e f c m = rw (e, f)
+-- an abort, and a return, whatever checkpoints are left
+pub squashed-state :
+    (s : State) (n : ℕ) (stores : List StoreEntry) (loads : List LoadEntry) (left : List Checkpoint)
+    → stores ≡ changed (youngStore n) (λ s. noStore) (s .stores) → loads ≡ changed (youngLoad n) (λ l. noLoad) (s .loads)
+    → Squashes s n left (leaving (Kept (n - 1)) s (n - 1) stores loads left (s .tags))
+unfolding squash
+squashed-state s n stores loads left e f forget c m g = rw (e, f, g)
 
 -- all dirty words written back, from what each function made
 pub flushed-lines :
@@ -79,7 +82,7 @@ flushed-lines g tags clean cache memory written h e f =
 pub flushed-state :
     (s : State) (cache memory written : List ℕ) (n : ℕ) (clean : List Tag) → n ≡ total wordsOf (s .tags)
     → hierarchy (s .figures) 0 clean cache written ≡ writeBackAll (hierarchy (s .figures) 0 (s .tags) cache memory)
-    → outcomeOf (leaving (Flushed n) s (s .last) (s .stores) (s .loads) clean) cache written ≡ flushRule (queuesOf s) (hierarchyOf s cache memory)
+    → outcomeOf (leaving (Flushed n) s (s .last) (s .stores) (s .loads) (s .checkpoints) clean) cache written ≡ flushRule (queuesOf s) (hierarchyOf s cache memory)
 unfolding flushRule dirtyWords
 flushed-state s cache memory written n clean e h =
     let whole = h ∙ flush-parts (hierarchy (s .figures) 0 (s .tags) cache memory) in

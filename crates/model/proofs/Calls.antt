@@ -9,8 +9,9 @@ use borrow.Author.Tests.{ltb-true, ltb-false, le-leb, lt-leb, eq-eqb, ne-eqb}
 use Rattle.lists.proofs.Cond.{cases, and-left}
 use Rattle.rules.specs.Shape.{Queues, Hierarchy, fits, topNumber, isFreeStore, isFreeLoad}
 use Rattle.lists.specs.Padded.{any}
-use Rattle.rules.specs.Calls.{Call, Check, load, store, retry, commit, abort, idle, reply, flush, show, refused, check, numberCheck, loadRule, storeRule, guarded, passes, unchanged, accessChecks, earlyChecks, callChecks, rule}
-use Rattle.rules.specs.WellFormed.{linesFormed, queuesFormed, wellFormed}
+use Rattle.rules.specs.Calls.{Call, Check, load, store, retry, commit, abort, idle, reply, flush, show, checkpoint, restore, refused, check, numberCheck, loadRule, storeRule, checkpointRule, restoreRule, guarded, passes, unchanged, accessChecks, earlyChecks, callChecks, rule}
+use Rattle.rules.specs.Checkpoints.{nameAllowed, inUse}
+use Rattle.rules.specs.WellFormed.{linesFormed, queuesFormed, checkpointsFormed, wellFormed}
 use Rattle.rules.specs.Runs.{stateChecks, refusal, outcome}
 use Rattle.rules.proofs.Checks.{EachPasses, shut, malformed, opened, checked, guarded-append, guarded-passes}
 use Rattle.access.specs.AccessChecks.{sized, checkedAccess}
@@ -33,7 +34,7 @@ pub state-judged : (q : Queues) (b : Hierarchy) (k : ℕ) → k ≡ guarded (sta
 unfolding guarded wellFormed
 state-judged q b k e =
     cases (fits b)
-    (λ f. cases (linesFormed b && queuesFormed q b)
+    (λ f. cases (linesFormed b && (queuesFormed q b && checkpointsFormed (q .committed) (q .last) (q .checkpoints)))
     (λ g. let z : k ≡ 0 = rw (f, g) at e in rw (z, f, g))
     (λ g. let z : k ≡ 10 = rw (f, g) at e in rw (z, f, g)))
     (λ f. let z : k ≡ 1 = rw f at e in rw (z, f))
@@ -71,6 +72,8 @@ early idle b = tt
 early reply b = tt
 early flush b = tt
 early (show a) b = tt
+early (checkpoint x) b = tt
+early (restore x) b = tt
 
 -- ---- load, store: the access, then the rest of the checks
 
@@ -127,6 +130,41 @@ module _ (c : Call) (q : Queues) (b : Hierarchy) (o : Open c q b) where
   pub none-does : callChecks c q b ≡ [] → outcome c q b ≡ rule c q b
   unfolding guarded
   none-does e = o .does ∙ ap (λ (ks : List Check). guarded ks (λ j. unchanged (refusal c j) q b) (rule c q b)) e
+
+-- ---- set a mark, and return to it
+
+module _ (x : ℕ) (q : Queues) (b : Hierarchy) (o : Open (checkpoint x) q b) where
+  pub set-misnamed : nameAllowed x ≡ false → outcome (checkpoint x) q b ≡ unchanged (refused 19) q b
+  unfolding guarded
+  set-misnamed t = o .does ∙ rw t
+
+  module _ (name : nameAllowed x ≡ true) where
+    pub set-used : inUse x (q .checkpoints) ≡ true → outcome (checkpoint x) q b ≡ unchanged (refused 20) q b
+    unfolding guarded
+    set-used t = o .does ∙ rw (name, t)
+
+    module _ (unused : inUse x (q .checkpoints) ≡ false) where
+      pub set-numbers : q .last ≡ topNumber → outcome (checkpoint x) q b ≡ unchanged (refused 21) q b
+      unfolding guarded
+      set-numbers t = o .does ∙ rw (name, unused, eq-eqb (q .last) topNumber t)
+
+      pub set-does : (q .last ≡ topNumber → ⊥) → outcome (checkpoint x) q b ≡ checkpointRule x q b
+      unfolding guarded
+      set-does t = o .does ∙ rw (name, unused, ne-eqb (q .last) topNumber t)
+
+module _ (x : ℕ) (q : Queues) (b : Hierarchy) (o : Open (restore x) q b) where
+  pub return-misnamed : nameAllowed x ≡ false → outcome (restore x) q b ≡ unchanged (refused 19) q b
+  unfolding guarded
+  return-misnamed t = o .does ∙ rw t
+
+  module _ (name : nameAllowed x ≡ true) where
+    pub return-unused : inUse x (q .checkpoints) ≡ false → outcome (restore x) q b ≡ unchanged (refused 21) q b
+    unfolding guarded
+    return-unused t = o .does ∙ rw (name, t)
+
+    pub return-does : inUse x (q .checkpoints) ≡ true → outcome (restore x) q b ≡ restoreRule x q b
+    unfolding guarded
+    return-does t = o .does ∙ rw (name, t)
 
 -- ---- a store's checks after the access
 

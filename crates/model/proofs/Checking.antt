@@ -1,4 +1,5 @@
--- Checks 1 and 10 in the order of the code: the lines with the figures and the lent lengths, the queues' entries, the register.
+-- Checks 1 and 10 in the order of the code: the lines with the figures and the lent lengths, the queues' entries, the register, the
+-- checkpoints.
 use Prim.Native.Nat.{ℕ, _≤_}
 use mathlib.Core.Path.{_≡_, refl, sym, _∙_, ap}
 use mathlib.Core.Bool.{Bool, true, false, _&&_}
@@ -15,7 +16,7 @@ use Rattle.rules.specs.declared.Request.the-variants.{Free, Line}
 use Rattle.rules.specs.Lines.{slotOf, present, useLine}
 use Rattle.rules.specs.Shape.{Queues, Hierarchy, fits, topNumber}
 use Rattle.rules.specs.Calls.{guarded, storeReady}
-use Rattle.rules.specs.WellFormed.{freeZero, freePlacesLast, committedUpToLast, numbersRise, numbersUpToLast, numbersApart, accessesPass, committedWait, waitingUncovered, storePasses, loadPasses, requestAbsent, requestInside, requestWanted, linesFormed, queuesFormed, wellFormed}
+use Rattle.rules.specs.WellFormed.{freeZero, freePlacesLast, committedUpToLast, numbersRise, numbersUpToLast, numbersApart, accessesPass, committedWait, waitingUncovered, storePasses, loadPasses, requestAbsent, requestInside, requestWanted, linesFormed, queuesFormed, checkpointsFormed, wellFormed}
 use Rattle.rules.specs.Runs.{stateChecks}
 use Rattle.queue_checks.specs.Good.{queuesGood, queuesWith}
 use Rattle.access.specs.AccessChecks.{sized}
@@ -50,6 +51,10 @@ and-true false b c = refl
 abbrev pub requestGood : Queues → Hierarchy → Bool
 requestGood q b = requestAbsent (q .request) b && (requestInside (q .request) b && requestWanted (q .request) q (b .figures .policy))
 
+-- all that is asked of the checkpoints
+abbrev pub checkpointsGood : Queues → Bool
+checkpointsGood q = checkpointsFormed (q .committed) (q .last) (q .checkpoints)
+
 -- the number of checks 1 and 10, by what the code finds in the lines
 pub state-lines : (q : Queues) (b : Hierarchy) (k : ℕ) → k ≡ linesRefusal b → (k ≡ 0 → ⊥) → k ≡ guarded (stateChecks q b) (λ k. k) 0
 unfolding linesRefusal wellFormed guarded
@@ -79,17 +84,21 @@ module _ (q : Queues) (b : Hierarchy) (ss : length (q .stores) ≡ 16) (ls : len
           ∷ waitingUncovered q
           ∷ []
 
-  formed-parted : fits b ≡ true → linesFormed b ≡ true → wellFormed q b ≡ (queuesGood q b && requestGood q b)
-  unfolding wellFormed
-  formed-parted f l = rw (f, l) queues-parted
+  -- all that is asked beside the lines
+  abbrev restGood : Bool
+  restGood = (queuesGood q b && requestGood q b) && checkpointsGood q
 
-  -- the number of checks 1 and 10, by what the code finds in the queues and the register, where the lines pass
+  formed-parted : fits b ≡ true → linesFormed b ≡ true → wellFormed q b ≡ restGood
+  unfolding wellFormed
+  formed-parted f l = rw (f, l) (ap (λ (t : Bool). t && checkpointsGood q) queues-parted)
+
+  -- the number of checks 1 and 10, by what the code finds in the queues, the register and the checkpoints, where the lines pass
   module _ (e : linesRefusal b ≡ 0) where
-    state-fits : (queuesGood q b && requestGood q b) ≡ true → 0 ≡ guarded (stateChecks q b) (λ k. k) 0
+    state-fits : restGood ≡ true → 0 ≡ guarded (stateChecks q b) (λ k. k) 0
     unfolding guarded
     state-fits g = rw (lines-fit b e, formed-parted (lines-fit b e) (lines-formed b e) ∙ g)
 
-    state-malformed : (queuesGood q b && requestGood q b) ≡ false → 10 ≡ guarded (stateChecks q b) (λ k. k) 0
+    state-malformed : restGood ≡ false → 10 ≡ guarded (stateChecks q b) (λ k. k) 0
     unfolding guarded
     state-malformed g = rw (lines-fit b e, formed-parted (lines-fit b e) (lines-formed b e) ∙ g)
 
@@ -97,7 +106,7 @@ module _ (q : Queues) (b : Hierarchy) (ss : length (q .stores) ≡ 16) (ls : len
 
 module _ (s : State) (cache memory : List ℕ) where
   pub entries-at :
-      queuesGood (record { last = s .last; committed = s .committed; request = Free; stores = s .stores; loads = s .loads }) (sized (s .size))
+      queuesGood (record { last = s .last; committed = s .committed; request = Free; stores = s .stores; loads = s .loads; checkpoints = [] }) (sized (s .size))
       ≡ queuesGood (queuesOf s) (hierarchyOf s cache memory)
   unfolding queuesGood storePasses loadPasses
   entries-at = refl
@@ -131,7 +140,7 @@ module _ (s : State) (cache memory : List ℕ) where
 
 module _ (s : State) (cache memory : List ℕ) (ss : length (s .stores) ≡ 16) (ls : length (s .loads) ≡ 8) (top : s .last ≤ topNumber) (k : ℕ)
     (e : k ≡ linesRefusal (hierarchyOf s cache memory)) (z : k ≡ 0) (good : Bool)
-    (g : good ≡ queuesGood (record { last = s .last; committed = s .committed; request = Free; stores = s .stores; loads = s .loads }) (sized (s .size))) where
+    (g : good ≡ queuesGood (record { last = s .last; committed = s .committed; request = Free; stores = s .stores; loads = s .loads; checkpoints = [] }) (sized (s .size))) where
   abbrev pub Judged : ℕ → Type 0
   Judged n = n ≡ guarded (stateChecks (queuesOf s) (hierarchyOf s cache memory)) (λ k. k) 0
 
@@ -151,6 +160,11 @@ module _ (s : State) (cache memory : List ℕ) (ss : length (s .stores) ≡ 16) 
     found-request f =
         state-malformed (queuesOf s) (hierarchyOf s cache memory) ss ls top (sym e ∙ z) (rw (sym entries ∙ t, sym register ∙ f))
 
-    pub found-nothing : asked ≡ true → Judged 0
-    found-nothing f =
-        state-fits (queuesOf s) (hierarchyOf s cache memory) ss ls top (sym e ∙ z) (rw (sym entries ∙ t, sym register ∙ f))
+    module _ (f : asked ≡ true) (marks : Bool) (m : marks ≡ checkpointsGood (queuesOf s)) where
+      pub found-checkpoints : marks ≡ false → Judged 10
+      found-checkpoints g =
+          state-malformed (queuesOf s) (hierarchyOf s cache memory) ss ls top (sym e ∙ z) (rw (sym entries ∙ t, sym register ∙ f, sym m ∙ g))
+
+      pub found-nothing : marks ≡ true → Judged 0
+      found-nothing g =
+          state-fits (queuesOf s) (hierarchyOf s cache memory) ss ls top (sym e ∙ z) (rw (sym entries ∙ t, sym register ∙ f, sym m ∙ g))

@@ -6,14 +6,16 @@ use mathlib.Core.List.{List, map}
 use native.Mathlib.Omega.{arith}
 use lib.Dec.{ltb, eqb}
 use lib.ListN.{length, length-map}
-use borrow.Author.Tests.{ltb-true, ltb-false, le-leb, eqb-true, not-true}
+use borrow.Author.Tests.{ltb-true, ltb-false, le-leb, eqb-true, eqb-false, not-true}
 use Rattle.lists.specs.Padded.{any, every, first}
 use Rattle.lists.proofs.Cond.{and-left, and-right, or-then}
 use Rattle.lists.proofs.Every.{every-first, every-head}
 use Rattle.lists.proofs.Some.{any-first}
+use Rattle.rules.specs.declared.Checkpoint.{Checkpoint}
 use Rattle.rules.specs.declared.Request.{Request}
 use Rattle.rules.specs.declared.Request.the-variants.{Line}
-use Rattle.rules.specs.Shape.{Queues, Hierarchy, figuresAllowed, fits, noLoad, noStore, isFreeLoad, isFreeStore}
+use Rattle.rules.specs.Shape.{Queues, Hierarchy, figuresAllowed, fits, noLoad, noStore, noCheckpoint, isFreeLoad, isFreeStore}
+use Rattle.rules.specs.Checkpoints.{named, inUse, numberOf}
 use Rattle.rules.specs.Calls.{widthAllowed, passes, accessChecks, waitingAt, committedStore, oldestStore, storeReady}
 use Rattle.rules.specs.WellFormed.{loadPasses, storePasses, freeStoreZero, freeLoadZero, committedWaitAt, waitingUncoveredAt, requestAbsent, requestInside, requestWanted}
 use Rattle.rules.proofs.QueueView.{Parts, parts, goodLoad, goodStore, goodRequest, load-passes, store-passes, good-load, good-store}
@@ -56,6 +58,15 @@ access-fine b a w small p =
     (λ m i. record { some-byte = omega arith; narrow = omega arith; one-line = omega arith; inside = omega arith })
     (λ m i. record { some-byte = omega arith; narrow = omega arith; one-line = omega arith; inside = omega arith })
     w (access-width b a w p) (eqb-true (a % w) 0 (twice (eqb (a % w) 0) p₃)) (access-inside b a w p)
+
+-- ---- checkpoints
+
+-- the mark of a name in use remembers a number
+pub used-number : (x : ℕ) (cs : List Checkpoint) → inUse x cs ≡ true → 0 < numberOf x cs
+used-number x cs u =
+    let c : Checkpoint = first (named x) noCheckpoint cs in
+    let n : eqb (c .number) 0 ≡ false = not-true _ (and-left _ _ (any-first (named x) noCheckpoint cs u)) in
+    omega (arith, eqb-false (c .number) 0 n)
 
 -- ---- figures
 

@@ -225,7 +225,7 @@ pub drained-state :
     → memory′ ≡ storedThrough (s .figures .policy) e memory
     → hierarchy (s .figures) 0 tags cache′ [] ≡ writeStore e (hierarchy (s .figures) 0 (s .tags) cache [])
     → stores ≡ shifted noStore (s .stores)
-    → outcomeOf (record { answer = Drained (e .number); next = record { figures = s .figures; size = s .size; last = s .last; committed = s .committed; request = s .request; stores = stores; loads = s .loads; tags = tags } }) cache′ memory′
+    → outcomeOf (record { answer = Drained (e .number); next = record { figures = s .figures; size = s .size; last = s .last; committed = s .committed; request = s .request; stores = stores; loads = s .loads; checkpoints = s .checkpoints; tags = tags } }) cache′ memory′
     ≡ drainOldest (queuesOf s) (hierarchyOf s cache memory)
 unfolding storedMemory
 drained-state s cache memory e tags cache′ memory′ stores o narrow inside m w p =

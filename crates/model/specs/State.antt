@@ -1,5 +1,5 @@
 -- The state as a struct, beside the two halves of the rules; answers and calls of the code as those of the rules.
-use Prim.Native.Nat.{ℕ, _+_, _*_, _%_, _<_, _≤_}
+use Prim.Native.Nat.{ℕ, _+_, _*_, _-_, _%_, _<_, _≤_}
 use mathlib.Core.Path.{_≡_}
 use mathlib.Core.Bool.{Bool, true, false, cond, not}
 use mathlib.Core.List.{List, [], _∷_}
@@ -9,9 +9,10 @@ use Rattle.lists.specs.Padded.{any, first}
 use Rattle.rules.specs.declared.Figures.{Figures}
 use Rattle.rules.specs.declared.Tag.{Tag}
 use Rattle.rules.specs.declared.StoreEntry.{StoreEntry}
+use Rattle.rules.specs.declared.Checkpoint.{Checkpoint as Mark}
 use Rattle.rules.specs.declared.Request.{Request}
 use Rattle.rules.specs.declared.Request.the-variants.{Free}
-use Rattle.rules.specs.Shape.{Queues, Hierarchy, World, world, tableSize, storePlaces, loadPlaces, noStore, noLoad, noTag, noFigures, isFreeStore}
+use Rattle.rules.specs.Shape.{Queues, Hierarchy, World, world, tableSize, storePlaces, loadPlaces, checkpointPlaces, noStore, noLoad, noCheckpoint, noTag, noFigures, isFreeStore}
 use Rattle.rules.specs.Calls.{Outcome, waitingAt, guarded}
 use Rattle.rules.specs.Calls as rules
 use Rattle.rules.specs.WellFormed.{wellFormed}
@@ -23,9 +24,9 @@ use Rattle.line_bytes.specs.declared.Read.the-variants.{Whole, Lacking}
 use Rattle.model.specs.declared.State.{State}
 use Rattle.model.specs.declared.Step.{Step}
 use Rattle.model.specs.declared.Call.{Call}
-use Rattle.model.specs.declared.Call.the-variants.{Load, Store, Retry, Commit, Abort, Idle, Reply, Flush, Show}
+use Rattle.model.specs.declared.Call.the-variants.{Load, Store, Retry, Commit, Abort, Idle, Reply, Flush, Show, Checkpoint, Restore}
 use Rattle.model.specs.declared.Answer.{Answer}
-use Rattle.model.specs.declared.Answer.the-variants.{Refused, Stored, Value, Waits, Committed, Kept, Drained, Requested, Idled, Filled, Flushed, Shown}
+use Rattle.model.specs.declared.Answer.the-variants.{Refused, Stored, Value, Waits, Committed, Kept, Drained, Requested, Idled, Filled, Flushed, Shown, Checkpointed}
 
 -- ---- the state
 
@@ -36,6 +37,7 @@ queuesOf s = record {
   request = s .request;
   stores = s .stores;
   loads = s .loads;
+  checkpoints = s .checkpoints;
 }
 
 abbrev pub hierarchyOf : State → List ℕ → List ℕ → Hierarchy
@@ -64,6 +66,7 @@ noState = record {
   request = Free;
   stores = replicate storePlaces noStore;
   loads = replicate loadPlaces noLoad;
+  checkpoints = replicate checkpointPlaces noCheckpoint;
   tags = replicate tableSize noTag;
 }
 
@@ -77,6 +80,7 @@ withRegister r s = record {
   request = r;
   stores = s .stores;
   loads = s .loads;
+  checkpoints = s .checkpoints;
   tags = s .tags;
 }
 
@@ -90,6 +94,7 @@ withRecords tags s = record {
   request = s .request;
   stores = s .stores;
   loads = s .loads;
+  checkpoints = s .checkpoints;
   tags = tags;
 }
 
@@ -113,6 +118,7 @@ answerOf Idled cache = rules.idled
 answerOf (Filled a) cache = rules.filled a
 answerOf (Flushed k) cache = rules.flushed k
 answerOf (Shown p n) cache = rules.shown p (bytesFrom p n cache)
+answerOf (Checkpointed n) cache = rules.checkpointed n
 
 -- what load i answers to what it read
 abbrev pub answerTo : ℕ → Read → Answer
@@ -134,6 +140,14 @@ Does c w r cache memory = outcomeOf r cache memory ≡ outcome c (w .queues) (w 
 abbrev pub DoesWith : rules.Call → State → Step → List ℕ → Type 0
 DoesWith c s r cache = (memory : List ℕ) → Formed s cache memory → Does c (worldOf s cache memory) r cache memory
 
+-- what an abort and a return share: everything numbered n or more is dropped, and `left` are the checkpoints that stay, whatever change of
+-- them that is
+abbrev pub Squashes : State → ℕ → List Mark → Step → Type 0
+Squashes s n left r =
+    (forget : List Mark → List Mark) (cache memory : List ℕ) → left ≡ forget (s .checkpoints)
+    → outcomeOf r cache memory
+    ≡ record { answer = rules.kept (n - 1); queues = rules.squash forget n (queuesOf s); hierarchy = hierarchyOf s cache memory }
+
 abbrev pub callOf : Call → rules.Call
 callOf (Load a w) = rules.load a w
 callOf (Store a w v) = rules.store a w v
@@ -144,8 +158,10 @@ callOf Idle = rules.idle
 callOf Reply = rules.reply
 callOf Flush = rules.flush
 callOf (Show a) = rules.show a
+callOf (Checkpoint x) = rules.checkpoint x
+callOf (Restore x) = rules.restore x
 
--- the call only reads the lent bytes
+-- the call is one of those that `read_formed` makes: they only read the lent bytes (a setting and a return do not look at them)
 abbrev pub readsOnly : Call → Bool
 readsOnly (Load a w) = true
 readsOnly (Store a w v) = true
@@ -156,6 +172,8 @@ readsOnly Idle = false
 readsOnly Reply = false
 readsOnly Flush = false
 readsOnly (Show a) = true
+readsOnly (Checkpoint x) = false
+readsOnly (Restore x) = false
 
 -- ---- what check 1 and the access checks leave to the functions behind them
 

@@ -1,21 +1,24 @@
-// Abort.
+// Abort; and what a return to a mark shares with it.
 ghost use mathlib.Core.Path.{_≡_};
 ghost use mathlib.Core.List.{List};
 ghost use Prim.Native.Nat.{ℕ, _<_};
 ghost use Rattle.rules.specs.Calls.{abortRule};
 ghost use Rattle.rules.specs.Calls as rules;
-ghost use Rattle.model.specs.State.{queuesOf, hierarchyOf, outcomeOf, Does, DoesWith, worldOf};
+ghost use Rattle.model.specs.State.{queuesOf, hierarchyOf, outcomeOf, Squashes, Does, DoesWith, worldOf};
 use crate::Answer;
 use crate::Call;
 use crate::State;
 use crate::Step;
+use checkpoints::Change;
 use rules::BAD_ABORT;
+use rules::CHECKPOINT_PLACES;
+use rules::Checkpoint;
 
 impl State {
-    // "removes every store and load numbered n or more and sets last to n − 1"
-    fn abort_accepted(mut self, n: u32) -> Step
+    // "removes every store and load numbered n or more and sets last to n − 1", with the checkpoints that are left
+    pub(crate) fn squash(mut self, n: u32, left: [Checkpoint; CHECKPOINT_PLACES]) -> Step
         requires { ⌜ 0 < n ⌝ }
-        ensures { λ r. ⌜ ((c m : List ℕ) → outcomeOf r c m ≡ abortRule n (queuesOf self) (hierarchyOf self c m)) ⌝ }
+        ensures { λ r. ⌜ Squashes self n left r ⌝ }
     {
         let loads = self.loads;
         let stores = self.stores;
@@ -25,10 +28,21 @@ impl State {
         self.last = last;
         self.stores = held;
         self.loads = listed;
+        self.checkpoints = left;
         Step {
             answer: Answer::Kept(last),
             next: self,
         }
+    }
+
+    // "A plain abort n forgets marks above n"
+    fn abort_accepted(self, n: u32) -> Step
+        requires { ⌜ 0 < n ⌝ }
+        ensures { λ r. ⌜ ((c m : List ℕ) → outcomeOf r c m ≡ abortRule n (queuesOf self) (hierarchyOf self c m)) ⌝ }
+    {
+        let marks = self.checkpoints;
+        let left = checkpoints::changed(marks, Change::Above(n));
+        self.squash(n, left)
     }
 
     // An abort on a well-formed state: check 16, then the abort.

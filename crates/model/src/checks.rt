@@ -1,5 +1,5 @@
-// Checks 1 and 10 of a state: the lines first, with the figures and the lent lengths, then the queues and the register. And what calls
-// share: a refusal, and the state with another register.
+// Checks 1 and 10 of a state: the lines first, with the figures and the lent lengths, then the queues, the register and the checkpoints.
+// And what calls share: a refusal, and the state with another register.
 ghost use mathlib.Core.Path.{_≡_};
 ghost use mathlib.Core.Bool.{_&&_};
 ghost use Prim.Native.Nat.{_*_};
@@ -55,7 +55,11 @@ impl State {
         if !queue_checks::queues_good(stores, loads, self.last, self.committed, self.size) {
             return NOT_WELL_FORMED;
         }
-        if self.is_request_good() {
+        if !self.is_request_good() {
+            return NOT_WELL_FORMED;
+        }
+        let marks = self.checkpoints;
+        if checkpoints::are_formed(marks, self.committed, self.last) {
             return 0;
         }
         NOT_WELL_FORMED
@@ -75,6 +79,7 @@ impl State {
         let figures = self.figures;
         let stores = self.stores;
         let loads = self.loads;
+        let marks = self.checkpoints;
         let tags = self.tags;
         State {
             figures,
@@ -84,6 +89,7 @@ impl State {
             request,
             stores,
             loads,
+            checkpoints: marks,
             tags,
         }
     }

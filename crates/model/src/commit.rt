@@ -9,10 +9,12 @@ use crate::Answer;
 use crate::Call;
 use crate::State;
 use crate::Step;
+use checkpoints::Change;
 use rules::BAD_COMMIT;
 
 impl State {
     // "Commit k sets h to k. Answered loads numbered k or less leave the list in number order, each using its line if the line is present."
+    // 02, card 3: "a commit forgets marks at or below h"
     fn commit_accepted(mut self, k: u32) -> Step
         requires { ⌜ Shaped self (self .figures .sets * self .figures .ways * 16) ⌝ }
         ensures { λ r. ⌜ ((c m : List ℕ) → outcomeOf r c m ≡ commitRule k (queuesOf self) (hierarchyOf self c m)) ⌝ }
@@ -22,8 +24,11 @@ impl State {
         let figures = self.figures;
         let used = records::use_answered(tags, figures, loads, k);
         let rest = load_queue::remove_answered(loads, k);
+        let marks = self.checkpoints;
+        let left = checkpoints::changed(marks, Change::UpTo(k));
         self.committed = k;
         self.loads = rest;
+        self.checkpoints = left;
         self.tags = used;
         Step {
             answer: Answer::Committed(k),

@@ -1,6 +1,8 @@
-// The load/store unit: its state by value, and the ten calls as methods.
+// The load/store unit: its state by value, and its calls as methods.
 // Each call takes any state, buffers of any length and numbers of any size, refuses what is bad by the paper's number and then
 // changes nothing. `answerOf` in specs/State.antt gives the paper's number and values for each answer.
+use rules::CHECKPOINT_PLACES;
+use rules::Checkpoint;
 use rules::Figures;
 use rules::LOAD_PLACES;
 use rules::LoadEntry;
@@ -11,6 +13,7 @@ use rules::TAG_RECORDS;
 use rules::Tag;
 
 mod abort;
+mod checkpoint;
 mod checks;
 mod commit;
 mod flush;
@@ -18,13 +21,14 @@ mod idle;
 mod load;
 mod read;
 mod reply;
+mod restore;
 mod retry;
 mod show_line;
 mod start;
 mod steps;
 mod store;
 
-// The state. A free place of a queue and an unused record are all zero.
+// The state. A free place of a list and an unused record are all zero.
 pub struct State {
     // sets and ways
     pub figures: Figures,
@@ -40,6 +44,8 @@ pub struct State {
     pub stores: [StoreEntry; STORE_PLACES],
     // the load queue (01: the list of loads)
     pub loads: [LoadEntry; LOAD_PLACES],
+    // the checkpoints (02, card 3: the marks in force), in order of setting
+    pub checkpoints: [Checkpoint; CHECKPOINT_PLACES],
     pub tags: [Tag; TAG_RECORDS],
 }
 
@@ -77,10 +83,12 @@ pub enum Answer {
     Idled,
     // the first address of the line that was filled
     Filled(u32),
-    // how many lines were written
+    // how many words were written
     Flushed(u32),
     // the place and the length of the part of the cache: 16 bytes, or place 0 and length 0
     Shown(usize, usize),
+    // the operation number that the mark remembers
+    Checkpointed(u32),
 }
 
 // What a call hands back: its answer and the next state.
@@ -107,4 +115,8 @@ pub enum Call {
     Flush,
     // 01: show line, by an address in the line
     Show(u32),
+    // 02, card 3: set a mark of that name
+    Checkpoint(u32),
+    // return to it
+    Restore(u32),
 }

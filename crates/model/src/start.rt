@@ -1,16 +1,18 @@
 // Start.
 ghost use mathlib.Core.Path.{_≡_};
 ghost use lib.ListN.{replicate};
-ghost use Rattle.rules.specs.Shape.{noStore, noLoad};
+ghost use Rattle.rules.specs.Shape.{noStore, noLoad, noCheckpoint};
 ghost use Rattle.model.specs.State.{noState};
 ghost use Rattle.model.specs.Starts.{Starts};
 use crate::StartAnswer;
 use crate::Started;
 use crate::State;
 use rules::BAD_FIGURES;
+use rules::CHECKPOINT_PLACES;
 use rules::Figures;
 use rules::LINE_LENGTH;
 use rules::LOAD_PLACES;
+use rules::NO_CHECKPOINT;
 use rules::NO_FIGURES;
 use rules::NO_LOAD;
 use rules::NO_STORE;
@@ -20,9 +22,9 @@ use rules::STORE_PLACES;
 use rules::TAG_RECORDS;
 use rules::Tag;
 
-// A state with these figures and records, and every place of the queues free.
+// A state with these figures and records, and every place of the queues and of the checkpoints free.
 fn empty_state(figures: Figures, size: u32, tags: [Tag; TAG_RECORDS]) -> State
-    ensures { λ r. ⌜ r ≡ record { figures = figures; size = size; last = 0; committed = 0; request = Request.Free; stores = replicate 16 noStore; loads = replicate 8 noLoad; tags = tags } ⌝ }
+    ensures { λ r. ⌜ r ≡ record { figures = figures; size = size; last = 0; committed = 0; request = Request.Free; stores = replicate 16 noStore; loads = replicate 8 noLoad; checkpoints = replicate 8 noCheckpoint; tags = tags } ⌝ }
 {
     State {
         figures,
@@ -32,6 +34,7 @@ fn empty_state(figures: Figures, size: u32, tags: [Tag; TAG_RECORDS]) -> State
         request: Request::Free,
         stores: [NO_STORE; STORE_PLACES],
         loads: [NO_LOAD; LOAD_PLACES],
+        checkpoints: [NO_CHECKPOINT; CHECKPOINT_PLACES],
         tags,
     }
 }

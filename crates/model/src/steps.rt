@@ -67,6 +67,8 @@ impl State {
             Call::Idle => return self.idle_formed(cache, memory),
             Call::Reply => return self.reply_formed(cache, memory),
             Call::Flush => return self.flush_formed(cache, memory),
+            Call::Checkpoint(name) => return self.checkpoint_formed(name),
+            Call::Restore(name) => return self.restore_formed(name),
             _ => {}
         }
         self.read_formed(call, cache)

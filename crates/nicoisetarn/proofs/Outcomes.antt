@@ -37,7 +37,7 @@ use Rattle.nicoisetarn.proofs.ShownPart.{image-over}
 
 module _ (q : Queues) (b : Hierarchy) where
   rule-keeps : (c : rules.Call) → changesRecords c ≡ false → rules.rule c q b .hierarchy .tags ≡ b .tags
-  unfolding rules.loadRule rules.storeRule rules.abortRule rules.showRule
+  unfolding rules.loadRule rules.storeRule rules.abortRule rules.showRule rules.checkpointRule rules.restoreRule
   rule-keeps (rules.load a w) e = refl
   rule-keeps (rules.store a w v) e = refl
   rule-keeps (rules.retry i) e = wrong refl e
@@ -47,6 +47,8 @@ module _ (q : Queues) (b : Hierarchy) where
   rule-keeps rules.reply e = wrong refl e
   rule-keeps rules.flush e = wrong refl e
   rule-keeps (rules.show a) e = refl
+  rule-keeps (rules.checkpoint x) e = refl
+  rule-keeps (rules.restore x) e = refl
 
   outcome-keeps : (c : rules.Call) → changesRecords c ≡ false → outcome c q b .hierarchy .tags ≡ b .tags
   outcome-keeps c e = outcome-by c q b (λ o. o .hierarchy .tags ≡ b .tags) (λ k. refl) (λ f g p. rule-keeps c e)
@@ -169,6 +171,7 @@ kind-refused rules.idled e = let no : ⊥ = omega arith in absurd no
 kind-refused (rules.filled a) e = let no : ⊥ = omega arith in absurd no
 kind-refused (rules.flushed k) e = let no : ⊥ = omega arith in absurd no
 kind-refused (rules.shown p bs) e = let no : ⊥ = omega arith in absurd no
+kind-refused (rules.checkpointed n) e = let no : ⊥ = omega arith in absurd no
 
 module _ (i : Image) (cache memory : List ℕ) where
   state-keeps : (c : rules.Call) → standsFor i ≡ true → Keeps (Leaves (outcomeFrom c i cache memory)) i cache memory
@@ -204,7 +207,7 @@ refused-kept = record {
 
 -- ---- numbers that no call has
 
-kind-known : (a : rules.Answer) → imagedAnswer a .kind ≤ 11
+kind-known : (a : rules.Answer) → imagedAnswer a .kind ≤ 13
 kind-known (rules.refused k) = omega arith
 kind-known (rules.stored i) = omega arith
 kind-known (rules.value i v) = omega arith
@@ -217,6 +220,7 @@ kind-known rules.idled = omega arith
 kind-known (rules.filled a) = omega arith
 kind-known (rules.flushed k) = omega arith
 kind-known (rules.shown p bs) = omega arith
+kind-known (rules.checkpointed n) = omega arith
 
 module _ (i : Image) (cache memory : List ℕ) where
   called-known : (o : Option rules.Call) → called o i cache memory .answer ≡ noSuchCall → o ≡ none

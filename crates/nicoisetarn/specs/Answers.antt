@@ -23,7 +23,9 @@ callNumbered call x y z =
     (cond (eqb call 5) (some rules.idle)
     (cond (eqb call 6) (some rules.reply)
     (cond (eqb call 7) (some rules.flush)
-    (cond (eqb call 8) (some (rules.show x)) none))))))))
+    (cond (eqb call 8) (some (rules.show x))
+    (cond (eqb call 9) (some (rules.checkpoint x))
+    (cond (eqb call 10) (some (rules.restore x)) none))))))))))
 
 -- the same, as the code has it
 abbrev pub numberedOf : Numbered → Option rules.Call
@@ -48,6 +50,8 @@ imagedAnswer rules.idled = coded 8 0 0
 imagedAnswer (rules.filled a) = coded 9 a 0
 imagedAnswer (rules.flushed k) = coded 10 k 0
 imagedAnswer (rules.shown p bs) = coded 11 p (length bs)
+-- (12 is an accepted start)
+imagedAnswer (rules.checkpointed n) = coded 13 n 0
 
 -- the answer of an accepted start
 abbrev pub readyAnswer : AnswerImage

@@ -41,6 +41,7 @@ stateOf q b = record {
   request = q .request;
   stores = q .stores;
   loads = q .loads;
+  checkpoints = q .checkpoints;
   tags = b .tags;
 }
 
@@ -104,6 +105,8 @@ changesRecords rules.idle = true
 changesRecords rules.reply = true
 changesRecords rules.flush = true
 changesRecords (rules.show a) = false
+changesRecords (rules.checkpoint x) = false
+changesRecords (rules.restore x) = false
 
 -- the image of the state after a call, which keeps the images of records that do not change
 abbrev pub nextImage : rules.Call → Image → State → Image

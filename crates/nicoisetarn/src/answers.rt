@@ -5,14 +5,17 @@ ghost use Rattle.model.specs.State.{answerOf};
 ghost use Rattle.nicoisetarn.specs.Answers.{callNumbered, numberedOf, coded, imagedAnswer, PartSmall};
 use crate::AnswerImage;
 use crate::CALL_ABORT;
+use crate::CALL_CHECKPOINT;
 use crate::CALL_COMMIT;
 use crate::CALL_FLUSH;
 use crate::CALL_IDLE;
 use crate::CALL_LOAD;
 use crate::CALL_REPLY;
+use crate::CALL_RESTORE;
 use crate::CALL_RETRY;
 use crate::CALL_SHOW_LINE;
 use crate::CALL_STORE;
+use crate::KIND_CHECKPOINTED;
 use crate::KIND_COMMITTED;
 use crate::KIND_DRAINED;
 use crate::KIND_FILLED;
@@ -47,6 +50,8 @@ pub(crate) fn call_numbered(call: u32, x: u32, y: u32, z: u32) -> Numbered
         CALL_REPLY => Numbered::Known(Call::Reply),
         CALL_FLUSH => Numbered::Known(Call::Flush),
         CALL_SHOW_LINE => Numbered::Known(Call::Show(x)),
+        CALL_CHECKPOINT => Numbered::Known(Call::Checkpoint(x)),
+        CALL_RESTORE => Numbered::Known(Call::Restore(x)),
         _ => Numbered::Unknown,
     }
 }
@@ -80,5 +85,6 @@ pub(crate) fn answer_image(a: Answer) -> AnswerImage
         Answer::Filled(at) => coded(KIND_FILLED, at, 0),
         Answer::Flushed(k) => coded(KIND_FLUSHED, k, 0),
         Answer::Shown(start, n) => coded(KIND_SHOWN, start as u32, n as u32),
+        Answer::Checkpointed(n) => coded(KIND_CHECKPOINTED, n, 0),
     }
 }

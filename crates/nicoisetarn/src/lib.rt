@@ -31,6 +31,10 @@ pub const CALL_REPLY: u32 = 6;
 pub const CALL_FLUSH: u32 = 7;
 // address
 pub const CALL_SHOW_LINE: u32 = 8;
+// name (02, card 3: set a mark)
+pub const CALL_CHECKPOINT: u32 = 9;
+// name (02, card 3: return to a mark)
+pub const CALL_RESTORE: u32 = 10;
 
 // ---- answers by numbers
 
@@ -68,7 +72,9 @@ pub const KIND_FLUSHED: u32 = 10;
 pub const KIND_SHOWN: u32 = 11;
 // an accepted start
 pub const KIND_READY: u32 = 12;
-// A batch was made: the boundary's own, as the next. Kinds from 13 to 253 are free for answers to come.
+// the number that a mark remembers
+pub const KIND_CHECKPOINTED: u32 = 13;
+// A batch was made: the boundary's own, as the next. Kinds from 14 to 253 are free for answers to come.
 pub const KIND_RAN: u32 = 254;
 // There is no such call, or no such profile, or the lengths of a batch do not fit: the boundary's own, no answer of 01.
 pub const KIND_NO_SUCH_CALL: u32 = 255;
@@ -90,8 +96,9 @@ pub struct ImageStep {
 
 // Start, with a profile by its number (`images` has the numbers): an accepted one stores the image of the started state, a refused one
 // leaves image and cache as they were. Where there is no such profile the answer is that of an unknown call, and nothing is looked at.
+// Its name has the length of the image, so that an object file made for another length does not link.
 #[no_mangle]
-pub extern "C" fn nicoisetarn_start_with_in(
+pub extern "C" fn nicoisetarn_start_2048_in(
     image: &mut Image,
     sets: u32,
     ways: u32,

@@ -83,6 +83,8 @@ fn changes_records(call: Call) -> bool
         Call::Reply => true,
         Call::Flush => true,
         Call::Show(_) => false,
+        Call::Checkpoint(_) => false,
+        Call::Restore(_) => false,
     }
 }
 

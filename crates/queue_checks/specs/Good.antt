@@ -1,6 +1,6 @@
 -- What `queues_good` tests: well-formed, as far as it speaks of the two queues alone. Its clauses are those of the rules; the rest
 -- of this file is the same once more, entry by entry, as the code tests it.
--- A function is given the fields that it reads; the rules' records take 0 and Free for the others.
+-- A function is given the fields that it reads; the rules' records take 0, Free and no checkpoint for the others.
 use Prim.Native.Nat.{ℕ}
 use mathlib.Core.Bool.{Bool, not, _&&_}
 use mathlib.Core.List.{List, [], _∷_}
@@ -17,7 +17,8 @@ use Rattle.access.specs.AccessChecks.{sized}
 
 -- last, h and the two queues
 abbrev pub queuesFrom : ℕ → ℕ → List StoreEntry → List LoadEntry → Queues
-queuesFrom last h ss ls = record { last = last; committed = h; request = Free; stores = ss; loads = ls }
+queuesFrom last h ss ls =
+    record { last = last; committed = h; request = Free; stores = ss; loads = ls; checkpoints = [] }
 
 -- h and the two queues
 abbrev pub queuesWith : ℕ → List StoreEntry → List LoadEntry → Queues

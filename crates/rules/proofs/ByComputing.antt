@@ -4,13 +4,13 @@
 use Prim.Native.Nat.{zero, suc}
 use mathlib.Core.Path.{_≡_, refl}
 use mathlib.Core.Bool.{true, false}
-use mathlib.Core.List.{[], _∷_, _++_, map}
+use mathlib.Core.List.{[], _∷_, map}
 use lib.ListN.{take, replicate, set}
 use Rattle.rules.specs.declared.Request.the-variants.{Free, Line}
 use Rattle.rules.specs.declared.WritePolicy.{WritePolicy}
 use Rattle.rules.specs.declared.WritePolicy.the-variants.{WriteBack, WriteThrough}
 use Rattle.rules.specs.Shape.{geometry, fits}
-use Rattle.rules.specs.Calls.{retry, abort, idle, reply, flush, show, refused, stored, value, waits, committed, kept, drained, requested, filled, flushed, idled, shown, flushRule}
+use Rattle.rules.specs.Calls.{retry, idle, reply, flush, show, refused, stored, value, waits, committed, kept, drained, requested, filled, flushed, idled, shown, flushRule}
 use Rattle.rules.specs.WellFormed.{wellFormed}
 use Rattle.rules.specs.Runs.{emptyQueues, answers, after, startAnswer, startWorld, ready}
 use Rattle.rules.specs.Dropped.{Dropped}
@@ -18,8 +18,8 @@ use Rattle.rules.specs.Words.{DrainedTo, Unmarked}
 use Rattle.rules.specs.Lines.{dirtyWords, fillLine}
 use Rattle.rules.specs.Flat.{flatBefore, flatCommitted}
 use Rattle.lists.specs.Bytes.{valueAt}
-use Rattle.rules.specs.Examples.{table, script, whole, seenAnswers, struckAnswers, seenEnd, struckEnd, evicting, inquiring, waitingOnly, draining, otherCache, beginning, past, flatValue, twoLines, reusing, overtaken, evictedFlush, storeMisses, storeHits, afterIdle, writingTwice, storeToRequested, storedLine, drainingThrough, linePresent, marksAfter, markOf, sameByte, oneWord, twoWords, fourWords, evictedWord, bothPresent, threeWords, allDiffer}
-use Rattle.rules.specs.States.{tag, richTags, richCache, richStores, richLoads, richQueues, richLines, cleanTags, cleanCache, clauses, broken, brokenClauses}
+use Rattle.rules.specs.Examples.{table, script, stretchOf, whole, seenAnswers, struckAnswers, seenEnd, struckEnd, evicting, inquiring, waitingOnly, draining, otherCache, beginning, past, flatValue, twoLines, reusing, overtaken, evictedFlush, storeMisses, storeHits, afterIdle, writingTwice, storeToRequested, storedLine, drainingThrough, linePresent, marksAfter, markOf, sameByte, oneWord, twoWords, fourWords, evictedWord, bothPresent, threeWords, allDiffer}
+use Rattle.rules.specs.States.{tag, richTags, richCache, richStores, richLoads, richCheckpoints, richQueues, richLines, cleanTags, cleanCache, clauses, broken, brokenClauses}
 use Rattle.rules.specs.RefusalTable.{startRows, inputRows, stateRows, clauseRows, orderRows, AsStarted, AsGiven, GivenUnder}
 use Rattle.rules.specs.Computed.{computed}
 
@@ -41,7 +41,7 @@ state-refusals WriteBack = refl
 state-refusals WriteThrough = refl
 
 pub clause-refusals : AsGiven clauseRows
-unfolding computed clauseRows richTags richCache richStores richLoads cleanTags cleanCache broken
+unfolding computed clauseRows richTags richCache richStores richLoads richCheckpoints cleanTags cleanCache broken
 clause-refusals = refl
 
 pub refusals-in-order : (p : WritePolicy) → GivenUnder p orderRows
@@ -81,22 +81,22 @@ script-answers = refl
 
 -- the rich state keeps every clause, and check 1
 pub rich-formed : wellFormed richQueues richLines ≡ true
-unfolding computed richTags richCache richStores richLoads
+unfolding computed richTags richCache richStores richLoads richCheckpoints
 rich-formed = refl
 
 pub rich-fits : fits richLines ≡ true
-unfolding computed richTags richCache richStores richLoads
+unfolding computed richTags richCache richStores richLoads richCheckpoints
 rich-fits = refl
 
 -- each broken state breaks its clause alone (that it is not well formed is in the table of refusals)
 pub broken-clauses : map clauses broken ≡ brokenClauses
-unfolding computed richTags richCache richStores richLoads cleanTags cleanCache broken brokenClauses
+unfolding computed richTags richCache richStores richLoads richCheckpoints cleanTags cleanCache broken brokenClauses
 broken-clauses = refl
 
 -- ---- dropped stretches
 
 -- one meets the hypotheses of the theorem
-pub evicting-dropped : Dropped 3 (evicting .body ++ abort 3 ∷ []) (after (evicting .before) (evicting .from))
+pub evicting-dropped : Dropped 3 (stretchOf evicting) (after (evicting .before) (evicting .from))
 unfolding computed evicting
 evicting-dropped = record {
   opens = refl;
@@ -104,6 +104,7 @@ evicting-dropped = record {
   ends = refl;
   accepted = tt;
   above = (λ e t. e, (λ e t. e, (λ e t. e, (λ e t. e, (λ e t. e, tt)))));
+  quiet = refl;
 }
 
 -- what its calls answer: a wait, a held store, a refusal, and a fill that evicts the dirty line

@@ -13,7 +13,7 @@ use Rattle.rules.specs.declared.LoadEntry.{LoadEntry}
 use Rattle.rules.specs.Shape.{Queues, Hierarchy, World, fits, noLoad, lineOf}
 use Rattle.rules.specs.Lines.{present}
 use Rattle.rules.specs.Forward.{loadValue}
-use Rattle.rules.specs.Calls.{Call, Answer, Outcome, Check, load, store, retry, commit, abort, idle, reply, flush, show, refused, isAccepted, unchanged, emptyPart, guarded, passes, earlyChecks, callChecks, rule, loadAnswer, loadRule, storeRule, answerLoad, retryWith, retryRule, commitRule, abortRule, canDrain, canRequestLoad, canRequestStore, idleRule, replyRule, flushRule, showRule, waitingAt, nextNumber}
+use Rattle.rules.specs.Calls.{Call, Answer, Outcome, Check, load, store, retry, commit, abort, idle, reply, flush, show, refused, isAccepted, unchanged, emptyPart, guarded, passes, earlyChecks, callChecks, rule, loadAnswer, loadRule, storeRule, answerLoad, retryWith, retryRule, commitRule, abortRule, canDrain, canRequestLoad, canRequestStore, idleRule, replyRule, flushRule, showRule, waitingAt, nextNumber, checkpoint, restore, checkpointRule, restoreRule}
 use Rattle.rules.specs.WellFormed.{wellFormed}
 use Rattle.rules.specs.Runs.{formedCheck, namesRefusal, refusal, outcome, answer, next}
 use Rattle.rules.specs.Refusals.{allChecks, FirstFailing, RefusedExactly, RefusedKeeps}
@@ -138,6 +138,8 @@ refusal-by P r h idle k = r idle k
 refusal-by P r h reply k = r reply k
 refusal-by P r h flush k = r flush k
 refusal-by P r h (show a) k = h a
+refusal-by P r h (checkpoint x) k = r (checkpoint x) k
+refusal-by P r h (restore x) k = r (restore x) k
 
 -- ---- a rule refuses nothing
 
@@ -162,7 +164,7 @@ module _ (q : Queues) (b : Hierarchy) where
       (λ e. either Accepts (canRequestStore q b) (λ e. refl) (λ e. refl)))
 
   pub rule-accepts : (c : Call) → isAccepted (rule c q b .answer) ≡ true
-  unfolding loadRule storeRule retryRule commitRule abortRule replyRule flushRule showRule
+  unfolding loadRule storeRule retryRule commitRule abortRule checkpointRule restoreRule replyRule flushRule showRule
   rule-accepts (load a w) = load-accepts (nextNumber q) (loadValue (nextNumber q) a w (q .stores) b)
   rule-accepts (store a w v) = refl
   rule-accepts (retry i) =
@@ -175,6 +177,8 @@ module _ (q : Queues) (b : Hierarchy) where
   rule-accepts flush = refl
   rule-accepts (show a) =
       either (λ (r : Answer). isAccepted r ≡ true) (ltb a (b .size) && present b (lineOf a)) (λ e. refl) (λ e. refl)
+  rule-accepts (checkpoint x) = refl
+  rule-accepts (restore x) = refl
 
 -- ---- a refused call changes nothing
 

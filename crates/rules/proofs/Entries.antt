@@ -20,7 +20,8 @@ use Rattle.rules.specs.declared.LoadEntry.{LoadEntry}
 use Rattle.rules.specs.Shape.{Queues, Hierarchy, topNumber, noLoad, isFreeStore, isFreeLoad, isFree, lineOf}
 use Rattle.rules.specs.Lines.{present, cachedByte}
 use Rattle.rules.specs.Forward.{olderCovers, loadByte, loadValue, someUncovered}
-use Rattle.rules.specs.Calls.{load, store, retry, commit, abort, reply, flush, check, passes, widthAllowed, accessChecks, valueCheck, numberCheck, callChecks, committedStore, waitingAt, isNone, answered, answeredBy, waitsBelow, oldestStore, storeReady, wantsLine}
+use Rattle.rules.specs.Checkpoints.{inUse, nameAllowed}
+use Rattle.rules.specs.Calls.{load, store, retry, commit, abort, reply, flush, checkpoint, restore, check, passes, widthAllowed, accessChecks, valueCheck, numberCheck, callChecks, committedStore, waitingAt, isNone, answered, answeredBy, waitsBelow, oldestStore, storeReady, wantsLine}
 use Rattle.rules.specs.WellFormed.{alone, storePasses, loadPasses, committedWaitAt, waitingUncoveredAt, waitsFor}
 use Rattle.rules.proofs.QueueView.{goodStore, goodLoad, store-zero, store-low, store-passes, good-store, load-zero, load-low, load-passes, load-waits, load-exposed, good-load}
 
@@ -119,6 +120,15 @@ module _ (q : Queues) (b : Hierarchy) where
   abort-checked n e =
       let t = not-true (leb n (q .committed) || ltb (q .last + 1) n) (and-left _ _ e) in
       (leb-false n (q .committed) (or-left _ _ t), ltb-false (q .last + 1) n (or-right (leb n (q .committed)) _ t))
+
+  pub checkpoint-checked : (x : ℕ) → passes (callChecks (checkpoint x) q b) ≡ true → (nameAllowed x ≡ true) × (inUse x (q .checkpoints) ≡ false)
+  unfolding every
+  checkpoint-checked x e =
+      (not-false _ (not-true _ (and-left _ _ e)), not-true _ (and-left _ _ (and-right (not (not (nameAllowed x))) _ e)))
+
+  pub restore-checked : (x : ℕ) → passes (callChecks (restore x) q b) ≡ true → inUse x (q .checkpoints) ≡ true
+  unfolding every
+  restore-checked x e = not-false _ (not-true _ (and-left _ _ (and-right (not (not (nameAllowed x))) _ e)))
 
   pub reply-checked : passes (callChecks reply q b) ≡ true → isFree (q .request) ≡ false
   unfolding every

@@ -1,6 +1,6 @@
 -- The invariant of a run: its history is the stores that were drained, and then the held ones; flat memory of the state is memory as
 -- found with the drained ones applied; the listed loads are those of the history. Every call keeps it.
-use Prim.Native.Nat.{ℕ, _+_, _≤_, _<_}
+use Prim.Native.Nat.{ℕ, _+_, _-_, _≤_, _<_}
 use mathlib.Core.Path.{_≡_, refl, sym, _∙_, ap}
 use mathlib.Core.Bool.{Bool, true, not, _&&_, _||_}
 use mathlib.Core.List.{List, [], _∷_, _++_, append-assoc}
@@ -16,9 +16,10 @@ use Rattle.lists.proofs.Selected.{filter-append, filter-all}
 use Rattle.rules.specs.declared.Figures.{Figures}
 use Rattle.rules.specs.declared.StoreEntry.{StoreEntry}
 use Rattle.rules.specs.declared.LoadEntry.{LoadEntry}
-use Rattle.rules.specs.Shape.{Queues, Hierarchy, World, noLoad, isFreeLoad}
+use Rattle.rules.specs.Shape.{Queues, Hierarchy, World, world, noLoad, isFreeLoad}
 use Rattle.rules.specs.Forward.{loadValue}
-use Rattle.rules.specs.Calls.{Call, Answer, Outcome, load, store, retry, commit, abort, idle, reply, flush, show, isAccepted, passes, callChecks, waitingAt, isNone, nextNumber, loadAnswer, answered, loadRule, storeRule, answerLoad, retryWith, retryRule, answeredBy, commitRule, squash, abortRule, canDrain, canRequestLoad, canRequestStore, idleRule, replyRule, flushRule, showRule, rule}
+use Rattle.rules.specs.Checkpoints.{numberOf}
+use Rattle.rules.specs.Calls.{Call, Answer, Outcome, load, store, retry, commit, abort, idle, reply, flush, show, checkpoint, restore, isAccepted, passes, callChecks, waitingAt, isNone, nextNumber, loadAnswer, answered, loadRule, storeRule, answerLoad, retryWith, retryRule, answeredBy, commitRule, squash, abortRule, checkpointRule, restoreRule, canDrain, canRequestLoad, canRequestStore, idleRule, replyRule, flushRule, showRule, rule}
 use Rattle.rules.specs.WellFormed.{wellFormed}
 use Rattle.rules.specs.Runs.{refusal, answer, next, answers, after, started}
 use Rattle.rules.specs.Numbers.{numberAfter}
@@ -28,7 +29,8 @@ use Rattle.rules.specs.Values.{historyAt}
 use Rattle.rules.proofs.Checks.{refusal-by, outcome-by, rule-accepts}
 use Rattle.rules.proofs.Numbers.{rule-number}
 use Rattle.rules.proofs.QueueView.{Parts, parts, goodLoad, store-given, load-low}
-use Rattle.rules.proofs.Entries.{commit-checked, abort-checked}
+use Rattle.rules.proofs.Entries.{commit-checked, abort-checked, restore-checked}
+use Rattle.rules.proofs.InForce.{in-force, stands-behind}
 use Rattle.rules.proofs.Stored.{all-append, flat-start}
 use Rattle.rules.proofs.FlatCalls.{storesAfter, clear, Moved, rule-moved}
 
@@ -68,7 +70,7 @@ up-below m i h = every-imp (upTo m) (below i) (λ s e. lt-ltb (s .number) i (ome
 
 module _ (q : Queues) (b : Hierarchy) where
   -- the history's stores
-  rule-stores : (h : History) (c : Call) → added c (rule c q b .answer) h .stores ≡ storesAfter c (nextNumber q) (h .stores)
+  rule-stores : (h : History) (c : Call) → added c (rule c q b .answer) h .stores ≡ storesAfter c (rule c q b .answer) (nextNumber q) (h .stores)
   unfolding added storeRule
   rule-stores h (load a w) = refl
   rule-stores h (store a w v) = refl
@@ -79,51 +81,65 @@ module _ (q : Queues) (b : Hierarchy) where
   rule-stores h reply = refl
   rule-stores h flush = refl
   rule-stores h (show a) = refl
+  rule-stores h (checkpoint x) = refl
+  rule-stores h (restore x) = refl
 
   -- of the drained stores and the held ones, the held ones change
   stores-parted :
-      (c : Call) → passes (callChecks c q b) ≡ true → (ss ts : List StoreEntry) → every (upTo (q .committed)) ss ≡ true
-      → storesAfter c (nextNumber q) (ss ++ ts) ≡ ss ++ storesAfter c (nextNumber q) ts
-  stores-parted (load a w) e ss ts s = refl
-  stores-parted (store a w v) e ss ts s = append-assoc ss ts _
-  stores-parted (retry i) e ss ts s = refl
-  stores-parted (commit k) e ss ts s = refl
-  stores-parted (abort n) e ss ts s =
+      wellFormed q b ≡ true → (c : Call) → passes (callChecks c q b) ≡ true → (ss ts : List StoreEntry) → every (upTo (q .committed)) ss ≡ true
+      → storesAfter c (rule c q b .answer) (nextNumber q) (ss ++ ts) ≡ ss ++ storesAfter c (rule c q b .answer) (nextNumber q) ts
+  unfolding restoreRule
+  stores-parted wf (load a w) e ss ts s = refl
+  stores-parted wf (store a w v) e ss ts s = append-assoc ss ts _
+  stores-parted wf (retry i) e ss ts s = refl
+  stores-parted wf (commit k) e ss ts s = refl
+  stores-parted wf (abort n) e ss ts s =
       filter-append (below n) ss ts
       ∙ ap (λ (r : List StoreEntry). r ++ filter (below n) ts) (filter-all (below n) ss (up-below (q .committed) n (abort-checked q b n e .0) ss s))
-  stores-parted idle e ss ts s = refl
-  stores-parted reply e ss ts s = refl
-  stores-parted flush e ss ts s = refl
-  stores-parted (show a) e ss ts s = refl
+  stores-parted wf idle e ss ts s = refl
+  stores-parted wf reply e ss ts s = refl
+  stores-parted wf flush e ss ts s = refl
+  stores-parted wf (show a) e ss ts s = refl
+  stores-parted wf (checkpoint x) e ss ts s = refl
+  stores-parted wf (restore x) e ss ts s =
+      let n = numberOf x (q .checkpoints) in
+      let behind = stands-behind x n (world q b) (in-force x q b wf (restore-checked q b x e)) in
+      filter-append (below (n - 1 + 1)) ss ts
+      ∙ ap (λ (r : List StoreEntry). r ++ filter (below (n - 1 + 1)) ts) (filter-all (below (n - 1 + 1)) ss (up-below (q .committed) (n - 1 + 1) (omega (arith, behind)) ss s))
 
   -- the last number
   stores-bounded :
-      (c : Call) (m : ℕ) → m + 1 ≡ numberAfter c (nextNumber q) → (ss : List StoreEntry) → every (upTo (q .last)) ss ≡ true
-      → every (upTo m) (storesAfter c (nextNumber q) ss) ≡ true
-  stores-bounded (load a w) m e ss s = up-weaken (q .last) m (omega arith) ss s
-  stores-bounded (store a w v) m e ss s =
+      (c : Call) (r : Answer) (m : ℕ) → m + 1 ≡ numberAfter c r (nextNumber q) → (ss : List StoreEntry) → every (upTo (q .last)) ss ≡ true
+      → every (upTo m) (storesAfter c r (nextNumber q) ss) ≡ true
+  stores-bounded (load a w) r m e ss s = up-weaken (q .last) m (omega arith) ss s
+  stores-bounded (store a w v) r m e ss s =
       every-snoc (upTo m) _ ss (le-leb (nextNumber q) m (omega arith)) (up-weaken (q .last) m (omega arith) ss s)
-  stores-bounded (retry i) m e ss s = up-weaken (q .last) m (omega arith) ss s
-  stores-bounded (commit k) m e ss s = up-weaken (q .last) m (omega arith) ss s
-  stores-bounded (abort n) m e ss s =
+  stores-bounded (retry i) r m e ss s = up-weaken (q .last) m (omega arith) ss s
+  stores-bounded (commit k) r m e ss s = up-weaken (q .last) m (omega arith) ss s
+  stores-bounded (abort n) r m e ss s =
       every-filter (below n) (upTo m) (λ x t. le-leb (x .number) m (omega (arith, ltb-true (x .number) n t))) ss
-  stores-bounded idle m e ss s = up-weaken (q .last) m (omega arith) ss s
-  stores-bounded reply m e ss s = up-weaken (q .last) m (omega arith) ss s
-  stores-bounded flush m e ss s = up-weaken (q .last) m (omega arith) ss s
-  stores-bounded (show a) m e ss s = up-weaken (q .last) m (omega arith) ss s
+  stores-bounded idle r m e ss s = up-weaken (q .last) m (omega arith) ss s
+  stores-bounded reply r m e ss s = up-weaken (q .last) m (omega arith) ss s
+  stores-bounded flush r m e ss s = up-weaken (q .last) m (omega arith) ss s
+  stores-bounded (show a) r m e ss s = up-weaken (q .last) m (omega arith) ss s
+  stores-bounded (checkpoint x) r m e ss s = up-weaken (q .last) m (omega arith) ss s
+  stores-bounded (restore x) r m e ss s =
+      every-filter (below (numberIn r + 1)) (upTo m) (λ y t. le-leb (y .number) m (omega (arith, ltb-true (y .number) (numberIn r + 1) t))) ss
 
   stores-ordered :
-      (c : Call) (ss : List StoreEntry) → every (upTo (q .last)) ss ≡ true → increasing (λ s. s .number) 0 ss ≡ true
-      → increasing (λ s. s .number) 0 (storesAfter c (nextNumber q) ss) ≡ true
-  stores-ordered (load a w) ss s g = g
-  stores-ordered (store a w v) ss s g = increase-snoc (λ s. s .number) _ (q .last) (omega arith) 0 ss (omega arith) s g
-  stores-ordered (retry i) ss s g = g
-  stores-ordered (commit k) ss s g = g
-  stores-ordered (abort n) ss s g = increase-filter (λ s. s .number) (below n) 0 ss g
-  stores-ordered idle ss s g = g
-  stores-ordered reply ss s g = g
-  stores-ordered flush ss s g = g
-  stores-ordered (show a) ss s g = g
+      (c : Call) (r : Answer) (ss : List StoreEntry) → every (upTo (q .last)) ss ≡ true → increasing (λ s. s .number) 0 ss ≡ true
+      → increasing (λ s. s .number) 0 (storesAfter c r (nextNumber q) ss) ≡ true
+  stores-ordered (load a w) r ss s g = g
+  stores-ordered (store a w v) r ss s g = increase-snoc (λ s. s .number) _ (q .last) (omega arith) 0 ss (omega arith) s g
+  stores-ordered (retry i) r ss s g = g
+  stores-ordered (commit k) r ss s g = g
+  stores-ordered (abort n) r ss s g = increase-filter (λ s. s .number) (below n) 0 ss g
+  stores-ordered idle r ss s g = g
+  stores-ordered reply r ss s g = g
+  stores-ordered flush r ss s g = g
+  stores-ordered (show a) r ss s g = g
+  stores-ordered (checkpoint x) r ss s g = g
+  stores-ordered (restore x) r ss s g = increase-filter (λ s. s .number) (below (numberIn r + 1)) 0 ss g
 
   -- h does not fall, and is the history's
   record Marked (h : History) (c : Call) (o : Outcome) : Type 0 where
@@ -137,7 +153,7 @@ module _ (q : Queues) (b : Hierarchy) where
       either (Marked h (retry i)) (leb i (q .committed)) (λ t. record { rises = omega arith; marks = e }) (λ t. record { rises = omega arith; marks = e })
 
   rule-marked : (h : History) → h .committed ≡ q .committed → (c : Call) → passes (callChecks c q b) ≡ true → Marked h c (rule c q b)
-  unfolding added loadRule storeRule retryRule commitRule abortRule squash idleRule replyRule flushRule showRule
+  unfolding added loadRule storeRule retryRule commitRule abortRule squash checkpointRule restoreRule idleRule replyRule flushRule showRule
   rule-marked h e (load a w) p = record { rises = omega arith; marks = e }
   rule-marked h e (store a w v) p = record { rises = omega arith; marks = e }
   rule-marked h e (retry i) p =
@@ -152,6 +168,8 @@ module _ (q : Queues) (b : Hierarchy) where
   rule-marked h e reply p = record { rises = omega arith; marks = e }
   rule-marked h e flush p = record { rises = omega arith; marks = e }
   rule-marked h e (show a) p = record { rises = omega arith; marks = e }
+  rule-marked h e (checkpoint x) p = record { rises = omega arith; marks = e }
+  rule-marked h e (restore x) p = record { rises = omega arith; marks = e }
 
   -- ---- the loads
 
@@ -166,6 +184,8 @@ module _ (q : Queues) (b : Hierarchy) where
   Joins reply r = Unit {0}
   Joins flush r = Unit {0}
   Joins (show a) r = Unit {0}
+  Joins (checkpoint x) r = Unit {0}
+  Joins (restore x) r = Unit {0}
 
   -- a test that free places pass, and loads that are marked answered
   module _ (r : LoadEntry → Bool) (free : r noLoad ≡ true) (marks : (l : LoadEntry) → r l ≡ true → r (answered l) ≡ true) where
@@ -180,7 +200,7 @@ module _ (q : Queues) (b : Hierarchy) where
         (λ e. every-changed r r (waitingAt i) answered (λ x u t. marks x u) (λ x u t. u) (q .loads) g)
 
     rule-loads : (c : Call) → Joins c r → every r (q .loads) ≡ true → Passes (rule c q b)
-    unfolding loadRule storeRule retryRule commitRule abortRule squash idleRule replyRule flushRule showRule
+    unfolding loadRule storeRule retryRule commitRule abortRule squash checkpointRule restoreRule idleRule replyRule flushRule showRule
     rule-loads (load a w) j g = every-placed r isFreeLoad _ (q .loads) (j (isNone (loadValue (nextNumber q) a w (q .stores) b))) g
     rule-loads (store a w v) j g = g
     rule-loads (retry i) j g =
@@ -194,6 +214,9 @@ module _ (q : Queues) (b : Hierarchy) where
     rule-loads reply j g = g
     rule-loads flush j g = g
     rule-loads (show a) j g = g
+    rule-loads (checkpoint x) j g = g
+    rule-loads (restore x) j g =
+        every-changed r r (λ l. leb (numberOf x (q .checkpoints)) (l .number)) (λ l. noLoad) (λ y u t. free) (λ y u t. u) (q .loads) g
 
   -- each new load is younger than the drained stores
   clear-joins : (c : Call) (ss : List StoreEntry) → every (below (nextNumber q)) ss ≡ true → Joins c (clear ss)
@@ -206,6 +229,8 @@ module _ (q : Queues) (b : Hierarchy) where
   clear-joins reply ss s = tt
   clear-joins flush ss s = tt
   clear-joins (show a) ss s = tt
+  clear-joins (checkpoint x) ss s = tt
+  clear-joins (restore x) ss s = tt
 
   module _ (h : History) where
     -- the number that a load's answer names is the load's
@@ -228,6 +253,8 @@ module _ (q : Queues) (b : Hierarchy) where
     new-joins reply = tt
     new-joins flush = tt
     new-joins (show a) = tt
+    new-joins (checkpoint x) = tt
+    new-joins (restore x) = tt
 
     -- and still has the others
     still-remembered : (c : Call) (l : LoadEntry) → l .number ≤ q .last → remembered h l ≡ true → remembered (added c (rule c q b .answer) h) l ≡ true
@@ -243,6 +270,8 @@ module _ (q : Queues) (b : Hierarchy) where
     still-remembered reply l low r = r
     still-remembered flush l low r = r
     still-remembered (show a) l low r = r
+    still-remembered (checkpoint x) l low r = r
+    still-remembered (restore x) l low r = r
 
 -- ---- a call
 
@@ -255,8 +284,8 @@ module _ (found : List ℕ) (h : History) (q : Queues) (b : Hierarchy) (k : Trac
     gone = all-gone;
     parted =
         rule-stores q b h c
-        ∙ ap (storesAfter c (nextNumber q)) (k .parted)
-        ∙ stores-parted q b c e (k .gone) (filter heldStore (q .stores)) (k .settled)
+        ∙ ap (storesAfter c (rule c q b .answer) (nextNumber q)) (k .parted)
+        ∙ stores-parted q b wf c e (k .gone) (filter heldStore (q .stores)) (k .settled)
         ∙ ap (λ (ss : List StoreEntry). k .gone ++ ss) (m .parted)
         ∙ sym (append-assoc (k .gone) (m .drained) (filter heldStore (rule c q b .queues .stores)));
     flat = m .flat ∙ ap (appliedAll (m .drained)) (k .flat) ∙ sym (all-append (k .gone) (m .drained) found);
@@ -270,8 +299,8 @@ module _ (found : List ℕ) (h : History) (q : Queues) (b : Hierarchy) (k : Trac
         rule-loads q b (remembered (added c (rule c q b .answer) h)) refl (λ l t. t) c (new-joins q b h c)
         (every-imp₂ (goodLoad b (q .last) (q .committed) (q .stores)) (remembered h) (remembered (added c (rule c q b .answer) h))
         (λ l g. still-remembered q b h c l (load-low b (q .last) (q .committed) (q .stores) l g)) (q .loads) (p .loads-good) (k .listed));
-    bounded = rw (rule-stores q b h c) (stores-bounded q b c (rule c q b .queues .last) (rule-number q b c e) (h .stores) (k .bounded));
-    ordered = rw (rule-stores q b h c) (stores-ordered q b c (h .stores) (k .bounded) (k .ordered));
+    bounded = rw (rule-stores q b h c) (stores-bounded q b c (rule c q b .answer) (rule c q b .queues .last) (rule-number q b c e) (h .stores) (k .bounded));
+    ordered = rw (rule-stores q b h c) (stores-ordered q b c (rule c q b .answer) (h .stores) (k .bounded) (k .ordered));
   }
     where
       m : Moved c q b (rule c q b)

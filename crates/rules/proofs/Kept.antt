@@ -6,9 +6,10 @@ use mathlib.Core.Bool.{Bool, true, false, not, _&&_}
 use mathlib.Core.List.{List, [], _∷_}
 use mathlib.Core.Option.{Option, some, none}
 use native.Mathlib.Omega.{arith}
+use lib.ListN.{replicate}
 use lib.Dec.{leb, eqb}
 use borrow.Author.Tests.{ltb-true, leb-false, lt-ltb, le-leb, ne-eqb, eq-eqb, not-true, not-false}
-use Rattle.lists.specs.Padded.{any, every, rising, filter}
+use Rattle.lists.specs.Padded.{any, every, climbing, freeLast, rising, filter}
 use Rattle.lists.proofs.Cond.{either, cases, and-left, and-right, and-both, or-one, or-two, or-by, wrong}
 use Rattle.lists.proofs.Every.{every-first}
 use Rattle.lists.proofs.Some.{any-first, first-any}
@@ -16,11 +17,12 @@ use Rattle.rules.specs.declared.Figures.{Figures}
 use Rattle.rules.specs.declared.LoadEntry.{LoadEntry}
 use Rattle.rules.specs.declared.Request.{Request}
 use Rattle.rules.specs.declared.Request.the-variants.{Free, Line}
-use Rattle.rules.specs.Shape.{Queues, Hierarchy, World, noLoad, isFree, requestedLine, lineOf, writesThrough, fits}
+use Rattle.rules.specs.Shape.{Queues, Hierarchy, World, noLoad, isFree, requestedLine, lineOf, writesThrough, fits, world, noCheckpoint}
 use Rattle.rules.specs.Lines.{present, fillLine}
 use Rattle.rules.specs.Forward.{loadValue, someUncovered}
-use Rattle.rules.specs.Calls.{Call, Outcome, load, store, retry, commit, abort, idle, reply, flush, show, refused, isAccepted, unchanged, passes, accessChecks, callChecks, isNone, nextNumber, withRequest, loadRule, storeRule, answerLoad, retryWith, retryRule, answeredBy, useEach, commitRule, abortRule, oldestStore, storeReady, canDrain, wantsLine, canRequestLoad, lowestWanting, canRequestStore, idleRule, replyRule, flushRule, showRule, rule}
-use Rattle.rules.specs.WellFormed.{freeStoreZero, freeLoadZero, storePasses, loadPasses, committedWaitAt, waitingUncoveredAt, alone, requestAbsent, requestInside, requestWanted, waitsFor, wellFormed}
+use Rattle.rules.specs.Checkpoints.{numberOf, forgetAbove}
+use Rattle.rules.specs.Calls.{Call, Outcome, load, store, retry, commit, abort, idle, reply, flush, show, checkpoint, restore, refused, isAccepted, unchanged, passes, accessChecks, callChecks, isNone, nextNumber, withRequest, loadRule, storeRule, answerLoad, retryWith, retryRule, answeredBy, useEach, commitRule, abortRule, checkpointRule, restoreRule, oldestStore, storeReady, canDrain, wantsLine, canRequestLoad, lowestWanting, canRequestStore, idleRule, replyRule, flushRule, showRule, rule}
+use Rattle.rules.specs.WellFormed.{freeStoreZero, freeLoadZero, storePasses, loadPasses, committedWaitAt, waitingUncoveredAt, alone, requestAbsent, requestInside, requestWanted, waitsFor, wellFormed, freeCheckpointZero, placedAt, nameFits, namesDistinct, ranksFrom, checkpointsFormed}
 use Rattle.rules.specs.Runs.{refusal, outcome, answer, next, after, started, startAllowed, startAnswer, startWorld, ready, startRefused}
 use Rattle.rules.specs.Kept.{Formed, StartFormed, NextKept, RunKept, ownOutcome, Admitted, AdmittedAfterStart}
 use Rattle.rules.proofs.Checks.{guarded-numbered, ownChecks, opened-by, outcome-by, rule-accepts, refusal-number}
@@ -28,9 +30,11 @@ use Rattle.rules.proofs.LineFacts.{Good, good-tells, good-is}
 use Rattle.rules.proofs.LineRules.{LinesKept, kept-refl, kept-then, kept-fits, use-line, write-store, save-all, fill-line}
 use Rattle.rules.proofs.LineStart.{start-fits, start-good}
 use Rattle.rules.proofs.QueueView.{Parts, parts, whole, goodStore, goodLoad, goodRequest, good-store, good-load}
+use Rattle.rules.proofs.Checkpoints.{checkpoints-tell, checkpoints-are, above-formed}
 use Rattle.rules.proofs.SquashFormed.{squash-formed}
-use Rattle.rules.proofs.Entries.{load-checked, store-checked, commit-checked, abort-checked, reply-checked, fine, line-inside, one-line, store-access, load-access, load-uncovered, ready-tells, for-is, wants-tells, tried, tried-waits, none-uncovered, some-present}
-use Rattle.rules.proofs.QueuesKept.{wantedBy, asks-line, other-lines, free-load-good, oldest-good, tried-good, load-joins, store-joins, answered-leaves, commits, marks, oldest-leaves, asks}
+use Rattle.rules.proofs.Entries.{load-checked, store-checked, commit-checked, abort-checked, checkpoint-checked, restore-checked, reply-checked, fine, line-inside, one-line, store-access, load-access, load-uncovered, ready-tells, for-is, wants-tells, tried, tried-waits, none-uncovered, some-present}
+use Rattle.rules.proofs.QueuesKept.{wantedBy, asks-line, other-lines, free-load-good, oldest-good, tried-good, load-joins, store-joins, answered-leaves, commits, marks, checkpoint-joins, oldest-leaves, asks}
+use Rattle.rules.proofs.InForce.{in-force, stands-formed}
 
 -- ---- the lines after a list of uses
 
@@ -110,7 +114,17 @@ module _ (q : Queues) (b : Hierarchy) (wf : wellFormed q b ≡ true) where
 
   abort-formed : (n : ℕ) → passes (callChecks (abort n) q b) ≡ true → Leaves (abortRule n q b)
   unfolding abortRule
-  abort-formed n e = let c = abort-checked q b n e in squash-formed n q b (c .0) (c .1) wf
+  abort-formed n e = let c = abort-checked q b n e in
+      squash-formed (forgetAbove n) n q b (c .0) (c .1)
+      (checkpoints-are _ _ _ (above-formed (q .committed) (q .last) n (q .checkpoints) (omega (arith, c .0)) (checkpoints-tell _ _ _ (p .marks)))) wf
+
+  checkpoint-formed : (x : ℕ) → passes (callChecks (checkpoint x) q b) ≡ true → Leaves (checkpointRule x q b)
+  unfolding checkpointRule
+  checkpoint-formed x e = let c = checkpoint-checked q b x e in checkpoint-joins q b p x (c .0) (c .1)
+
+  restore-formed : (x : ℕ) → passes (callChecks (restore x) q b) ≡ true → Leaves (restoreRule x q b)
+  unfolding restoreRule
+  restore-formed x e = stands-formed x (numberOf x (q .checkpoints)) (world q b) (in-force x q b wf (restore-checked q b x e))
 
   -- the oldest store, if it is ready, is a good access
   ready-access : storeReady q ≡ true → passes (accessChecks b (oldestStore q .address) (oldestStore q .width)) ≡ true
@@ -184,6 +198,8 @@ module _ (q : Queues) (b : Hierarchy) (wf : wellFormed q b ≡ true) where
   rule-formed reply e = reply-formed e
   rule-formed flush e = flush-formed
   rule-formed (show a) e = unfold showRule in wf
+  rule-formed (checkpoint x) e = checkpoint-formed x e
+  rule-formed (restore x) e = restore-formed x e
 
 -- ---- a call, and a run
 
@@ -210,6 +226,10 @@ pub start-leaves : (f : Figures) (cache memory : List ℕ) → startAnswer f cac
 unfolding startWorld
 start-leaves f cache memory e = rw (start-allowed f cache memory e)
 
+start-checkpoints : checkpointsFormed 0 0 (replicate 8 noCheckpoint) ≡ true
+unfolding checkpointsFormed every any freeLast climbing freeCheckpointZero placedAt nameFits namesDistinct ranksFrom
+start-checkpoints = refl
+
 pub start-formed : (f : Figures) (cache memory : List ℕ) → StartFormed f cache memory
 start-formed f cache memory e =
     rw (start-leaves f cache memory e)
@@ -226,6 +246,7 @@ start-formed f cache memory e =
       loads-good = refl;
       apart = refl;
       wanted = refl;
+      marks = start-checkpoints;
     })))
 
 -- ---- neither 1 nor 10
@@ -245,6 +266,8 @@ own-numbers idle q b = refl
 own-numbers reply q b = refl
 own-numbers flush q b = refl
 own-numbers (show a) q b = refl
+own-numbers (checkpoint x) q b = refl
+own-numbers (restore x) q b = refl
 
 pub admitted : (c : Call) (w : World) → Formed w → Admitted c w
 unfolding answer

@@ -1,4 +1,5 @@
 pub mod ByComputing
+pub mod ByComputingCheckpoints
 pub mod Checks
 pub mod Numbers
 pub mod Records
@@ -9,15 +10,21 @@ pub mod LineSteps
 pub mod LineRules
 pub mod LineStart
 pub mod FlatLines
+pub mod Checkpoints
 pub mod QueueView
 pub mod Squash
 pub mod SquashFormed
+pub mod InForce
+pub mod CheckpointRanks
 pub mod Struck
+pub mod Squashed
 pub mod RunLaws
 pub mod Dropped
+pub mod Restored
 pub mod Entries
 pub mod QueuesKept
 pub mod Kept
+pub mod CheckpointClaims
 pub mod Stored
 pub mod Waits
 pub mod FlatCalls

@@ -279,9 +279,9 @@ module _ (b : Hierarchy) where
     unfolding isCleanAt
     undirty-tells e = not-true _ e
 
-    marks-tell : fourMarksAt b k ≡ true → tag .dirty ≤ 15
+    checkpoints-tell : fourMarksAt b k ≡ true → tag .dirty ≤ 15
     unfolding fourMarksAt
-    marks-tell e = leb-true (tag .dirty) 15 e
+    checkpoints-tell e = leb-true (tag .dirty) 15 e
 
 pub good-tells : (b : Hierarchy) → linesFormed b ≡ true → Good b
 good-tells b e =
@@ -308,7 +308,7 @@ good-tells b e =
           ];
       four-marks = λ k.
           elim (decLt k (slots b)) [
-            | yes h ↦ marks-tell b k (at-slot b (fourMarksAt b) (c .four-marks) k h)
+            | yes h ↦ checkpoints-tell b k (at-slot b (fourMarksAt b) (c .four-marks) k h)
             | no h ↦ rw (past k (omega arith)) no-tag-few
           ];
     }

@@ -13,7 +13,7 @@ use Rattle.rules.specs.declared.Figures.{Figures}
 use Rattle.rules.specs.declared.LoadEntry.{LoadEntry}
 use Rattle.rules.specs.Shape.{Queues, Hierarchy, World, noLoad}
 use Rattle.rules.specs.Forward.{loadValue}
-use Rattle.rules.specs.Calls.{Call, Outcome, load, store, retry, commit, abort, idle, reply, flush, show, isAccepted, passes, callChecks, rule, nextNumber, waitingAt, loadRule, storeRule, answerLoad, retryWith, retryRule, commitRule, squash, abortRule, canDrain, canRequestLoad, canRequestStore, idleRule, replyRule, flushRule, showRule}
+use Rattle.rules.specs.Calls.{Call, Outcome, load, store, retry, commit, abort, idle, reply, flush, show, checkpoint, restore, isAccepted, passes, callChecks, rule, nextNumber, waitingAt, loadRule, storeRule, answerLoad, retryWith, retryRule, commitRule, squash, abortRule, checkpointRule, restoreRule, canDrain, canRequestLoad, canRequestStore, idleRule, replyRule, flushRule, showRule}
 use Rattle.rules.specs.Runs.{started, unstarted, startAllowed, startWorld, refusal, answer, next}
 use Rattle.rules.specs.Numbers.{numberAfter, FirstNumber, NextNumber}
 use Rattle.rules.proofs.Checks.{refusal-by, outcome-by}
@@ -32,8 +32,8 @@ module _ (q : Queues) (b : Hierarchy) where
   retry-same i l none = refl
   retry-same i l (some v) = either Same (leb i (q .committed)) (λ e. refl) (λ e. refl)
 
-  pub rule-number : (c : Call) → passes (callChecks c q b) ≡ true → nextNumber (rule c q b .queues) ≡ numberAfter c (nextNumber q)
-  unfolding loadRule storeRule retryRule commitRule abortRule squash idleRule replyRule flushRule showRule every
+  pub rule-number : (c : Call) → passes (callChecks c q b) ≡ true → nextNumber (rule c q b .queues) ≡ numberAfter c (rule c q b .answer) (nextNumber q)
+  unfolding loadRule storeRule retryRule commitRule abortRule squash checkpointRule restoreRule idleRule replyRule flushRule showRule every
   rule-number (load a w) p = refl
   rule-number (store a w v) p = refl
   rule-number (retry i) p =
@@ -51,14 +51,16 @@ module _ (q : Queues) (b : Hierarchy) where
   rule-number reply p = refl
   rule-number flush p = refl
   rule-number (show a) p = refl
+  rule-number (checkpoint x) p = refl
+  rule-number (restore x) p = refl
 
 -- the empty part is no refusal, and changes no number
-refusal-number : (c : Call) (k : ℕ) (q : Queues) → isAccepted (refusal c k) ≡ true → nextNumber q ≡ numberAfter c (nextNumber q)
-refusal-number c k q = refusal-by (λ c r. isAccepted r ≡ true → nextNumber q ≡ numberAfter c (nextNumber q)) (λ c k e. absurd (false≢true e)) (λ a e. refl) c k
+refusal-number : (c : Call) (k : ℕ) (q : Queues) → isAccepted (refusal c k) ≡ true → nextNumber q ≡ numberAfter c (refusal c k) (nextNumber q)
+refusal-number c k q = refusal-by (λ c r. isAccepted r ≡ true → nextNumber q ≡ numberAfter c r (nextNumber q)) (λ c k e. absurd (false≢true e)) (λ a e. refl) c k
 
 pub next-number : (c : Call) (w : World) → NextNumber c w
 unfolding answer next
 next-number c w =
     outcome-by c (w .queues) (w .hierarchy)
-    (λ o. isAccepted (o .answer) ≡ true → nextNumber (o .queues) ≡ numberAfter c (nextNumber (w .queues)))
+    (λ o. isAccepted (o .answer) ≡ true → nextNumber (o .queues) ≡ numberAfter c (o .answer) (nextNumber (w .queues)))
     (λ k e. refusal-number c k (w .queues) e) (λ fit wf p e. rule-number (w .queues) (w .hierarchy) c p)

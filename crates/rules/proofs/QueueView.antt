@@ -14,7 +14,7 @@ use Rattle.rules.specs.declared.StoreEntry.{StoreEntry}
 use Rattle.rules.specs.declared.LoadEntry.{LoadEntry}
 use Rattle.rules.specs.declared.Request.{Request}
 use Rattle.rules.specs.Shape.{Queues, Hierarchy, noStore, noLoad, isFreeStore, isFreeLoad, topNumber, fits}
-use Rattle.rules.specs.WellFormed.{freeStoreZero, freeLoadZero, queueLengths, freeZero, freePlacesLast, lastFits, committedUpToLast, numbersRise, numbersUpToLast, numbersApart, accessesPass, committedWait, waitingUncovered, alone, storePasses, loadPasses, committedWaitAt, waitingUncoveredAt, requestAbsent, requestInside, requestWanted, linesFormed, queuesFormed, wellFormed}
+use Rattle.rules.specs.WellFormed.{freeStoreZero, freeLoadZero, queueLengths, freeZero, freePlacesLast, lastFits, committedUpToLast, numbersRise, numbersUpToLast, numbersApart, accessesPass, committedWait, waitingUncovered, alone, storePasses, loadPasses, committedWaitAt, waitingUncoveredAt, requestAbsent, requestInside, requestWanted, linesFormed, queuesFormed, wellFormed, checkpointsFormed}
 
 -- ---- the view
 
@@ -44,6 +44,7 @@ pub record Parts (q : Queues) (b : Hierarchy) : Type 0 where
   pub loads-good : every (goodLoad b (q .last) (q .committed) (q .stores)) (q .loads) ≡ true
   pub apart : every (alone (q .loads)) (q .stores) ≡ true
   pub wanted : goodRequest (q .request) q b ≡ true
+  pub marks : checkpointsFormed (q .committed) (q .last) (q .checkpoints) ≡ true
 
 -- ---- three tests at once, and each of them
 
@@ -153,7 +154,8 @@ pub parts : (q : Queues) (b : Hierarchy) → wellFormed q b ≡ true → Parts q
 unfolding wellFormed queuesFormed every goodRequest
 parts q b e =
     let e₁₀ = and-right (fits b) _ e in
-    let e₀ = and-right (linesFormed b) _ e₁₀ in
+    let e₁₁ = and-right (linesFormed b) _ e₁₀ in
+    let e₀ = and-left (queuesFormed q b) _ e₁₁ in
     let e₁ = and-right (queueLengths q) _ e₀ in
     let f = and-right (freeZero q) _ e₁ in
     let e₂ = and-right (freePlacesLast q) _ f in
@@ -194,6 +196,7 @@ parts q b e =
       wanted =
           and-both (requestAbsent (q .request) b) _ (and-left _ _ r)
           (and-both (requestInside (q .request) b) (requestWanted (q .request) q (b .figures .policy)) (and-left _ _ r₁) (and-left _ _ r₂));
+      marks = and-right (queuesFormed q b) _ e₁₁;
     }
 
 pub whole : (q : Queues) (b : Hierarchy) → Parts q b → wellFormed q b ≡ true
@@ -204,6 +207,7 @@ whole q b p =
     let w = and-right (requestAbsent (q .request) b) _ (p .wanted) in
     and-both _ _ (p .fit)
     (and-both _ _ (p .lines)
+    (and-both (queuesFormed q b) _
     (and-both _ _ (and-both _ _ (eq-eqb _ 16 (p .store-places)) (eq-eqb _ 8 (p .load-places)))
     (and-both _ _ (and-both _ _ (ss freeStoreZero (store-zero b (q .last))) (ls freeLoadZero (load-zero b (q .last) (q .committed) (q .stores))))
     (and-both _ _ (and-both _ _ (rising-last _ 0 (q .stores) (p .stores-rise)) (rising-last _ 0 (q .loads) (p .loads-rise)))
@@ -217,4 +221,5 @@ whole q b p =
     (and-both _ _ (ls (waitingUncoveredAt (q .stores)) (load-exposed b (q .last) (q .committed) (q .stores)))
     (and-both (requestAbsent (q .request) b) _ (and-left (requestAbsent (q .request) b) (requestInside (q .request) b && requestWanted (q .request) q (b .figures .policy)) (p .wanted))
     (and-both (requestInside (q .request) b) _ (and-left (requestInside (q .request) b) _ w)
-    (and-both (requestWanted (q .request) q (b .figures .policy)) true (and-right (requestInside (q .request) b) _ w) refl)))))))))))))))
+    (and-both (requestWanted (q .request) q (b .figures .policy)) true (and-right (requestInside (q .request) b) _ w) refl))))))))))))))
+    (p .marks)))

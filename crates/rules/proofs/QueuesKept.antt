@@ -15,16 +15,19 @@ use Rattle.lists.proofs.Lengths.{length-changed, length-placed, length-shifted,
 use Rattle.lists.proofs.Selected.{head-placed}
 use Rattle.rules.specs.declared.StoreEntry.{StoreEntry}
 use Rattle.rules.specs.declared.LoadEntry.{LoadEntry}
+use Rattle.rules.specs.declared.Checkpoint.{Checkpoint}
 use Rattle.rules.specs.declared.Request.{Request}
 use Rattle.rules.specs.declared.Request.the-variants.{Free, Line}
 use Rattle.rules.specs.Shape.{Queues, Hierarchy, topNumber, noStore, noLoad, isFreeStore, isFreeLoad, lineInMemory, lineOf, writesThrough}
 use Rattle.rules.specs.Lines.{present}
 use Rattle.rules.specs.Forward.{olderCovers}
+use Rattle.rules.specs.Checkpoints.{inUse, nameAllowed, addCheckpoint, forgetUpTo}
 use Rattle.rules.specs.Calls.{retry, passes, callChecks, waitingAt, nextNumber, withLoads, withRequest, answered, answeredBy, waitsBelow, oldestStore, storeReady}
-use Rattle.rules.specs.WellFormed.{freeStoreZero, freeLoadZero, storePasses, loadPasses, committedWaitAt, waitingUncoveredAt, alone, requestAbsent, requestInside, storeWants, requestWanted, waitsFor, wellFormed}
+use Rattle.rules.specs.WellFormed.{freeStoreZero, freeLoadZero, storePasses, loadPasses, committedWaitAt, waitingUncoveredAt, alone, requestAbsent, requestInside, storeWants, requestWanted, waitsFor, wellFormed, checkpointsFormed}
 use Rattle.rules.proofs.LineFacts.{Good, good-is}
 use Rattle.rules.proofs.LineRules.{Shaped, shaped-fits}
 use Rattle.rules.proofs.QueueView.{Parts, parts, whole, goodStore, goodLoad, goodRequest, store-low, load-low, load-given, load-passes, good-load}
+use Rattle.rules.proofs.Checkpoints.{checkpoints-tell, checkpoints-are, checkpoints-later, upto-formed, set-formed}
 use Rattle.rules.proofs.Entries.{Ready, store-later, load-later, waiting-map, not-covers, ready-tells, ready-is, not-below, answered-below, free-below, for-tells, for-is, free-for, retry-checked, at-tells, tried, tried-waits, still-waits, waits-not-answered, alone-map, free-apart}
 
 -- ---- the request
@@ -84,6 +87,7 @@ other-lines q b c wf s g h =
           (q .loads) (p .loads-good);
       apart = p .apart;
       wanted = request-map (q .request) q q b c (s .size) h (λ l a w. rw (s .figures) w) (p .wanted);
+      marks = p .marks;
     })
 
 -- ---- the queues' part of each rule
@@ -110,12 +114,16 @@ module _ (q : Queues) (b : Hierarchy) (p : Parts q b) where
   stores-low : every (λ s. leb (s .number) (q .last)) (q .stores) ≡ true
   stores-low = every-imp _ _ (λ s h. le-leb (s .number) (q .last) (store-low b (q .last) s h)) (q .stores) (p .stores-good)
 
+  -- the checkpoints, when a number is given
+  later-marks : checkpointsFormed (q .committed) (nextNumber q) (q .checkpoints) ≡ true
+  later-marks = checkpoints-are _ _ _ (checkpoints-later (q .committed) (q .last) (nextNumber q) (q .checkpoints) (omega arith) (checkpoints-tell _ _ _ (p .marks)))
+
   -- a load joins
   pub load-joins :
       q .last < topNumber → (e : LoadEntry) → e .number ≡ nextNumber q → goodLoad b (nextNumber q) (q .committed) (q .stores) e ≡ true
-      → wellFormed (record { last = nextNumber q; committed = q .committed; request = q .request; stores = q .stores; loads = placed isFreeLoad e (q .loads) }) b ≡ true
+      → wellFormed (record { last = nextNumber q; committed = q .committed; request = q .request; stores = q .stores; loads = placed isFreeLoad e (q .loads); checkpoints = q .checkpoints }) b ≡ true
   load-joins room e n g =
-      let q′ : Queues = record { last = nextNumber q; committed = q .committed; request = q .request; stores = q .stores; loads = placed isFreeLoad e (q .loads) } in
+      let q′ : Queues = record { last = nextNumber q; committed = q .committed; request = q .request; stores = q .stores; loads = placed isFreeLoad e (q .loads); checkpoints = q .checkpoints } in
       whole q′ b (record {
         fit = p .fit;
         lines = p .lines;
@@ -147,15 +155,16 @@ module _ (q : Queues) (b : Hierarchy) (p : Parts q b) where
               refl,
             )))
             (p .wanted);
+        marks = later-marks;
       })
 
   -- a store joins
   pub store-joins :
       q .last < topNumber → (e : StoreEntry) → e .number ≡ nextNumber q → goodStore b (nextNumber q) e ≡ true
-      → wellFormed (record { last = nextNumber q; committed = q .committed; request = q .request; stores = placed isFreeStore e (q .stores); loads = q .loads }) b ≡ true
+      → wellFormed (record { last = nextNumber q; committed = q .committed; request = q .request; stores = placed isFreeStore e (q .stores); loads = q .loads; checkpoints = q .checkpoints }) b ≡ true
   unfolding alone
   store-joins room e n g =
-      let q′ : Queues = record { last = nextNumber q; committed = q .committed; request = q .request; stores = placed isFreeStore e (q .stores); loads = q .loads } in
+      let q′ : Queues = record { last = nextNumber q; committed = q .committed; request = q .request; stores = placed isFreeStore e (q .stores); loads = q .loads; checkpoints = q .checkpoints } in
       whole q′ b (record {
         fit = p .fit;
         lines = p .lines;
@@ -182,15 +191,16 @@ module _ (q : Queues) (b : Hierarchy) (p : Parts q b) where
             let same : oldestStore q′ ≡ oldestStore q = head-placed isFreeStore e noStore (q .stores) (r .held) in
             (record { held = rw same (r .held); low = rw same (r .low); first = rw same (r .first) }, same)))
             (p .wanted);
+        marks = later-marks;
       })
 
   -- some loads leave the list, none that a requested line is wanted by: h rises to k, and the loads that stay allow it
   loads-leave :
-      (k : ℕ) → q .committed ≤ k → k ≤ q .last → (t : LoadEntry → Bool) → ((l : LoadEntry) → t l ≡ false → committedWaitAt (q .committed) l ≡ true → committedWaitAt k l ≡ true)
+      (cs : List Checkpoint) (k : ℕ) → checkpointsFormed k (q .last) cs ≡ true → q .committed ≤ k → k ≤ q .last → (t : LoadEntry → Bool) → ((l : LoadEntry) → t l ≡ false → committedWaitAt (q .committed) l ≡ true → committedWaitAt k l ≡ true)
       → ((l : ℕ) → present b l ≡ false → any (waitsFor k l) (q .loads) ≡ true → any (waitsFor k l) (without t noLoad (q .loads)) ≡ true)
-      → wellFormed (record { last = q .last; committed = k; request = q .request; stores = q .stores; loads = without t noLoad (q .loads) }) b ≡ true
-  loads-leave k from to t w keep =
-      let q′ : Queues = record { last = q .last; committed = k; request = q .request; stores = q .stores; loads = without t noLoad (q .loads) } in
+      → wellFormed (record { last = q .last; committed = k; request = q .request; stores = q .stores; loads = without t noLoad (q .loads); checkpoints = cs }) b ≡ true
+  loads-leave cs k marked from to t w keep =
+      let q′ : Queues = record { last = q .last; committed = k; request = q .request; stores = q .stores; loads = without t noLoad (q .loads); checkpoints = cs } in
       whole q′ b (record {
         fit = p .fit;
         lines = p .lines;
@@ -220,6 +230,7 @@ module _ (q : Queues) (b : Hierarchy) (p : Parts q b) where
               refl,
             )))
             (p .wanted);
+        marks = marked;
       })
     where
       later : (l : ℕ) (x : LoadEntry) → waitsFor (q .committed) l x ≡ true → waitsFor k l x ≡ true
@@ -234,7 +245,7 @@ module _ (q : Queues) (b : Hierarchy) (p : Parts q b) where
   answered-leaves i e there =
       let o = tried-waits i q b e in
       let positive : 0 < i = omega (arith, o .numbered, eqb-false (tried i q .number) 0 (o .held)) in
-      loads-leave (q .committed) (omega arith) (p .order) (waitingAt i) (λ l f w. w)
+      loads-leave (q .checkpoints) (q .committed) (p .marks) (omega arith) (p .order) (waitingAt i) (λ l f w. w)
       (λ l a. any-without-one (λ l. l .number) noLoad refl (waitsFor (q .committed) l) (waitingAt i) i positive (λ x t. at-tells i x t .numbered) 0 (q .loads) (p .loads-rise)
       (retry-checked q b i e)
       (cases (waitsFor (q .committed) l (tried i q))
@@ -243,9 +254,10 @@ module _ (q : Queues) (b : Hierarchy) (p : Parts q b) where
   -- the committed number rises, and answered loads leave
   pub commits :
       (k : ℕ) → q .committed ≤ k → k ≤ q .last
-      → wellFormed (record { last = q .last; committed = k; request = q .request; stores = q .stores; loads = without (answeredBy k) noLoad (q .loads) }) b ≡ true
+      → wellFormed (record { last = q .last; committed = k; request = q .request; stores = q .stores; loads = without (answeredBy k) noLoad (q .loads); checkpoints = forgetUpTo k (q .checkpoints) }) b ≡ true
   commits k from to =
-      loads-leave k from to (answeredBy k) (λ l e w. still-waits k l e)
+      loads-leave (forgetUpTo k (q .checkpoints)) k
+      (checkpoints-are _ _ _ (upto-formed (q .committed) (q .last) k (q .checkpoints) (checkpoints-tell _ _ _ (p .marks)))) from to (answeredBy k) (λ l e w. still-waits k l e)
       (λ l a. any-without (waitsFor k l) (answeredBy k) noLoad (λ x u. waits-not-answered k x (for-tells k l x u .waits)) (q .loads))
 
   -- answered and not committed: the waiting load of number i is marked
@@ -288,15 +300,16 @@ module _ (q : Queues) (b : Hierarchy) (p : Parts q b) where
               refl,
             )))
             (p .wanted);
+        marks = p .marks;
       })
 
   -- the oldest store leaves; its line is present, or it is written through
   pub oldest-leaves :
       (writesThrough b || present b (lineOf (oldestStore q .address))) ≡ true
-      → wellFormed (record { last = q .last; committed = q .committed; request = q .request; stores = shifted noStore (q .stores); loads = q .loads }) b ≡ true
+      → wellFormed (record { last = q .last; committed = q .committed; request = q .request; stores = shifted noStore (q .stores); loads = q .loads; checkpoints = q .checkpoints }) b ≡ true
   unfolding alone olderCovers
   oldest-leaves there =
-      let q′ : Queues = record { last = q .last; committed = q .committed; request = q .request; stores = shifted noStore (q .stores); loads = q .loads } in
+      let q′ : Queues = record { last = q .last; committed = q .committed; request = q .request; stores = shifted noStore (q .stores); loads = q .loads; checkpoints = q .checkpoints } in
       whole q′ b (record {
         fit = p .fit;
         lines = p .lines;
@@ -321,6 +334,7 @@ module _ (q : Queues) (b : Hierarchy) (p : Parts q b) where
             let here = or-then (writesThrough b) _ there (not-true _ (and-left _ _ s)) in
             wrong (subst (λ (k : ℕ). present b k ≡ true) (eqb-true (lineOf (oldestStore q .address)) l (and-right (storeReady q) _ r)) here) a))
             (p .wanted);
+        marks = p .marks;
       })
 
   -- another request
@@ -339,4 +353,27 @@ module _ (q : Queues) (b : Hierarchy) (p : Parts q b) where
         loads-good = p .loads-good;
         apart = p .apart;
         wanted = g;
+        marks = p .marks;
+      })
+
+  -- a mark is set
+  pub checkpoint-joins :
+      (x : ℕ) → nameAllowed x ≡ true → inUse x (q .checkpoints) ≡ false
+      → wellFormed (record { last = q .last; committed = q .committed; request = q .request; stores = q .stores; loads = q .loads; checkpoints = addCheckpoint x (nextNumber q) (q .checkpoints) }) b ≡ true
+  checkpoint-joins x allowed unused =
+      let q′ : Queues = record { last = q .last; committed = q .committed; request = q .request; stores = q .stores; loads = q .loads; checkpoints = addCheckpoint x (nextNumber q) (q .checkpoints) } in
+      whole q′ b (record {
+        fit = p .fit;
+        lines = p .lines;
+        store-places = p .store-places;
+        load-places = p .load-places;
+        last-fits = p .last-fits;
+        order = p .order;
+        stores-rise = p .stores-rise;
+        loads-rise = p .loads-rise;
+        stores-good = p .stores-good;
+        loads-good = p .loads-good;
+        apart = p .apart;
+        wanted = request-map (q .request) q q′ b b refl (λ l r a. a) (λ l a w. unfold storeReady in w) (p .wanted);
+        marks = checkpoints-are _ _ _ (set-formed x (q .committed) (q .last) (q .checkpoints) (p .order) allowed unused (checkpoints-tell _ _ _ (p .marks)));
       })

@@ -1,8 +1,8 @@
 -- Runs: parts of a run, selections of its calls, and a simulation of a run by the run of some of its calls.
 use Prim.Native.Nat.{ℕ, zero, suc}
-use mathlib.Core.Path.{_≡_, refl, sym, _∙_, ap, ap₂}
+use mathlib.Core.Path.{_≡_, refl, sym, _∙_, ap, ap₂, subst}
 use mathlib.Core.Bool.{Bool, true, false, not}
-use mathlib.Core.List.{List, [], _∷_, _++_, map}
+use mathlib.Core.List.{List, [], _∷_, _++_, map, append-nil}
 use native.Mathlib.Omega.{arith}
 use lib.ListN.{length, replicate, length-replicate, length-map}
 use Rattle.lists.specs.Padded.{select}
@@ -69,8 +69,13 @@ module _ (strike : Call → Bool) where
     pub end-agrees : after (select (left cs) cs) (squashed w) ≡ squashed (after cs w)
 
   module _ (squashed : World → World) where
+    -- no call
+    pub agree-none : {w : World} → Agree squashed [] w
+    unfolding after answers select
+    agree-none = record { answers-agree = refl; end-agrees = refl }
+
     -- a struck call in front
-    agree-struck : (c : Call) (cs : List Call) (w : World) → strike c ≡ true → squashed (next c w) ≡ squashed w → Agree squashed cs (next c w) → Agree squashed (c ∷ cs) w
+    pub agree-struck : (c : Call) (cs : List Call) (w : World) → strike c ≡ true → squashed (next c w) ≡ squashed w → Agree squashed cs (next c w) → Agree squashed (c ∷ cs) w
     unfolding after answers select
     agree-struck c cs w s e a = record {
       answers-agree = rw s (rw e at (a .answers-agree));
@@ -92,18 +97,28 @@ module _ (strike : Call → Bool) where
         (hides : (c : Call) (cs : List Call) (w : World) → Live (c ∷ cs) w → strike c ≡ true → squashed (next c w) ≡ squashed w)
         (same : (c : Call) (cs : List Call) (w : World) → Live (c ∷ cs) w → strike c ≡ false → (answer c (squashed w) ≡ answer c w) × (next c (squashed w) ≡ squashed (next c w)))
       where
-        pub agree : (cs : List Call) (w : World) → Live cs w → Agree squashed cs w
+        -- then calls that agree
+        pub agree-then : (ds cs : List Call) (w : World) → Live cs w → Agree squashed ds (after cs w) → Agree squashed (cs ++ ds) w
         unfolding after answers select
-        agree [] w l = record { answers-agree = refl; end-agrees = refl }
-        agree (c ∷ cs) w l =
-            let rest : Agree squashed cs (next c w) = agree cs (next c w) (later c cs w l) in
-            cases (strike c) (λ s. agree-struck c cs w s (hides c cs w l s) rest)
-            (λ s. agree-left c cs w s (same c cs w l s .0) (same c cs w l s .1) rest)
+        agree-then ds [] w l a = a
+        agree-then ds (c ∷ cs) w l a =
+            let rest : Agree squashed (cs ++ ds) (next c w) = agree-then ds cs (next c w) (later c cs w l) a in
+            cases (strike c) (λ s. agree-struck c (cs ++ ds) w s (hides c cs w l s) rest)
+            (λ s. agree-left c (cs ++ ds) w s (same c cs w l s .0) (same c cs w l s .1) rest)
+
+        pub agree : (cs : List Call) (w : World) → Live cs w → Agree squashed cs w
+        agree cs w l =
+            subst (λ (ds : List Call). Agree squashed ds w) (append-nil cs)
+            (agree-then [] cs w l agree-none)
 
   -- the remaining calls of a stretch, alone
   pub record Alone (cs : List Call) (w : World) : Type 0 where
     pub alike : select (left cs) (answers cs w) ≡ answers (select (left cs) cs) w
     pub arrives : after (select (left cs) cs) w ≡ after cs w
+
+  -- where squashing changes neither end
+  pub alone : (squashed : World → World) (cs : List Call) (w : World) → squashed w ≡ w → squashed (after cs w) ≡ after cs w → Agree squashed cs w → Alone cs w
+  alone squashed cs w before behind a = record { alike = rw before at (a .answers-agree); arrives = rw (before, behind) at (a .end-agrees) }
 
   -- a stretch within a run
   pub within : (pre stretch post : List Call) (w : World) → Alone stretch (after pre w) → NoTrace strike pre stretch post w

@@ -19,7 +19,7 @@ use Rattle.rules.specs.declared.LoadEntry.{LoadEntry}
 use Rattle.rules.specs.Shape.{Queues, Hierarchy, World, lineBytes, lineWords, noTag, requestedLine, lineOf, setOf, slots, tagAt, writesThrough}
 use Rattle.rules.specs.Lines.{slotOf, present, useSlot, useLine, wordOf, isDirtyWord, dirtyWord, marked, cleaned, putStore, writeStore, writeBackSlot, writeBackAll, victim, install, fillLine}
 use Rattle.rules.specs.Forward.{loadValue}
-use Rattle.rules.specs.Calls.{Call, Answer, Outcome, load, store, retry, commit, abort, idle, reply, flush, show, refused, stored, value, waits, committed, kept, drained, requested, idled, filled, flushed, shown, nextNumber, loadAnswer, loadRule, storeRule, answerLoad, retryWith, retryRule, answeredBy, useEach, commitRule, abortRule, oldestStore, storeReady, canDrain, canRequestLoad, canRequestStore, idleRule, replyRule, flushRule, showRule, rule}
+use Rattle.rules.specs.Calls.{Call, Answer, Outcome, load, store, retry, commit, abort, idle, reply, flush, show, checkpoint, restore, refused, stored, value, waits, committed, kept, drained, requested, idled, filled, flushed, shown, checkpointed, nextNumber, loadAnswer, loadRule, storeRule, answerLoad, retryWith, retryRule, answeredBy, useEach, commitRule, abortRule, checkpointRule, restoreRule, oldestStore, storeReady, canDrain, canRequestLoad, canRequestStore, idleRule, replyRule, flushRule, showRule, rule}
 use Rattle.rules.specs.WellFormed.{wellFormed}
 use Rattle.rules.specs.Runs.{outcome, answer, next}
 use Rattle.rules.specs.Words.{MarksExact, Unmarked, MarkedOnly}
@@ -143,6 +143,7 @@ Told b c idled = Unit
 Told b c (filled a) = tagAt (c .tags) (victim b (lineOf a)) .dirty ≡ 0
 Told b c (flushed k) = Unit
 Told b c (shown p bs) = Unit
+Told b c (checkpointed n) = Unit
 
 -- an outcome is no drain and marks no word, or it drains the oldest store
 data Marking (q : Queues) (b : Hierarchy) (o : Outcome) : Type 0 where
@@ -172,7 +173,7 @@ module _ (q : Queues) (b : Hierarchy) (wf : wellFormed q b ≡ true) where
       (λ e. either (Marking q b) (canRequestStore q b) (λ e. quiet tt (λ k n d. d)) (λ e. quiet tt (λ k n d. d))))
 
   rule-marking : (c : Call) → Marking q b (rule c q b)
-  unfolding loadRule storeRule retryRule commitRule abortRule replyRule flushRule showRule
+  unfolding loadRule storeRule retryRule commitRule abortRule replyRule flushRule showRule checkpointRule restoreRule
   rule-marking (load a w) = quiet (load-quiet (nextNumber q) (loadValue (nextNumber q) a w (q .stores) b)) (λ k n d. d)
   rule-marking (store a w v) = quiet tt (λ k n d. d)
   rule-marking (retry i) = retry-marking i (tried i q) (loadValue i (tried i q .address) (tried i q .width) (q .stores) b)
@@ -183,6 +184,8 @@ module _ (q : Queues) (b : Hierarchy) (wf : wellFormed q b ≡ true) where
   rule-marking flush = quiet tt (all-none b)
   rule-marking (show a) =
       quiet (either (Told b b) (ltb a (b .size) && present b (lineOf a)) (λ e. tt) (λ e. tt)) (λ k n d. d)
+  rule-marking (checkpoint x) = quiet tt (λ k n d. d)
+  rule-marking (restore x) = quiet tt (λ k n d. d)
 
 -- 02, card 2: "Write-back draining marks the word written."
 pub marks-exact : (c : Call) (w : World) → MarksExact c w

@@ -8,11 +8,13 @@ use lib.ListN.{getD, take, drop}
 use Rattle.lists.specs.Padded.{any, every, first, filter, without, shifted, placed, changed}
 use Rattle.rules.specs.declared.StoreEntry.{StoreEntry}
 use Rattle.rules.specs.declared.LoadEntry.{LoadEntry}
+use Rattle.rules.specs.declared.Checkpoint.{Checkpoint}
 use Rattle.rules.specs.declared.Request.{Request}
 use Rattle.rules.specs.declared.Request.the-variants.{Free, Line}
 use Rattle.rules.specs.Shape.{Queues, Hierarchy, lineBytes, topNumber, noStore, noLoad, isFreeStore, isFreeLoad, isFree, requestedLine, lineOf, writesThrough}
 use Rattle.rules.specs.Lines.{present, placeOf, useLine, writeStore, writeBackAll, dirtyWords, fillLine}
 use Rattle.rules.specs.Forward.{loadValue}
+use Rattle.rules.specs.Checkpoints.{inUse, numberOf, nameAllowed, addCheckpoint, forgetAbove, forgetUpTo, forgetFrom}
 
 -- ---- calls and answers
 
@@ -32,6 +34,9 @@ pub data Call : Type 0 where
   flush : Call
   -- 01: show line, by an address
   show : ℕ → Call
+  -- 02, card 3: set a mark, return to it; its name
+  checkpoint : ℕ → Call
+  restore : ℕ → Call
 
 -- Each answer with 01's numbers.
 pub data Answer : Type 0 where
@@ -45,7 +50,7 @@ pub data Answer : Type 0 where
   waits : ℕ → Answer
   -- the h now in force
   committed : ℕ → Answer
-  -- the last now in force
+  -- the last now in force (also of a return: "returning answers as the abort does")
   kept : ℕ → Answer
   -- idle (a): the operation number
   drained : ℕ → Answer
@@ -59,6 +64,8 @@ pub data Answer : Type 0 where
   flushed : ℕ → Answer
   -- where in the cache the part begins, and its bytes
   shown : ℕ → List ℕ → Answer
+  -- the number that the mark remembers
+  checkpointed : ℕ → Answer
 
 -- "A call is accepted when its answer is no refusal."
 abbrev pub isAccepted : Answer → Bool
@@ -74,6 +81,7 @@ isAccepted idled = true
 isAccepted (filled a) = true
 isAccepted (flushed k) = true
 isAccepted (shown p bs) = true
+isAccepted (checkpointed n) = true
 
 -- what a call leaves, with its answer
 pub record Outcome : Type 0 where
@@ -140,8 +148,10 @@ earlyChecks idle b = []
 earlyChecks reply b = []
 earlyChecks flush b = []
 earlyChecks (show a) b = []
+earlyChecks (checkpoint x) b = []
+earlyChecks (restore x) b = []
 
--- the refusals of each call that follow 1 and 10, in order: 2, 3, 4, 5, 13, then 11 or 12; the others alone
+-- the refusals of each call that follow 1 and 10, in order: 2, 3, 4, 5, 13, then 11 or 12; 19, 20, 21; the others alone
 abbrev pub callChecks : Call → Queues → Hierarchy → List Check
 -- 12: "load: 8 are listed"
 callChecks (load a w) q b = accessChecks b a w ++ (numberCheck q ∷ check 12 (not (any isFreeLoad (q .loads))) ∷ [])
@@ -160,6 +170,10 @@ callChecks reply q b = check 17 (isFree (q .request)) ∷ []
 -- 18: "flush: a committed store is held"
 callChecks flush q b = check 18 (any (committedStore (q .committed)) (q .stores)) ∷ []
 callChecks (show a) q b = []
+-- 02, card 3. 19: "name outside 1 to 8"; 20: "set, name in use"; 21: "return, name not in use, or set when last is 4294967295"
+callChecks (checkpoint x) q b =
+    check 19 (not (nameAllowed x)) ∷ check 20 (inUse x (q .checkpoints)) ∷ check 21 (eqb (q .last) topNumber) ∷ []
+callChecks (restore x) q b = check 19 (not (nameAllowed x)) ∷ check 21 (not (inUse x (q .checkpoints))) ∷ []
 
 -- ---- store
 
@@ -177,6 +191,7 @@ storeRule a w v q b = record {
     request = q .request;
     stores = placed isFreeStore (record { number = nextNumber q; address = a; width = w; value = v }) (q .stores);
     loads = q .loads;
+    checkpoints = q .checkpoints;
   };
   hierarchy = b;
 }
@@ -205,6 +220,7 @@ loadRule a w q b =
         stores = q .stores;
         loads =
             placed isFreeLoad (record { number = nextNumber q; address = a; width = w; waiting = isNone v }) (q .loads);
+        checkpoints = q .checkpoints;
       };
       hierarchy = b;
     }
@@ -213,7 +229,7 @@ loadRule a w q b =
 
 abbrev pub withLoads : List LoadEntry → Queues → Queues
 withLoads ls q =
-    record { last = q .last; committed = q .committed; request = q .request; stores = q .stores; loads = ls }
+    record { last = q .last; committed = q .committed; request = q .request; stores = q .stores; loads = ls; checkpoints = q .checkpoints }
 
 -- the load, marked answered
 abbrev pub answered : LoadEntry → LoadEntry
@@ -262,6 +278,7 @@ commitRule k q b = record {
     request = q .request;
     stores = q .stores;
     loads = without (answeredBy k) noLoad (q .loads);
+    checkpoints = forgetUpTo k (q .checkpoints);
   };
   hierarchy = useEach (filter (answeredBy k) (q .loads)) b;
 }
@@ -276,23 +293,47 @@ abbrev pub youngLoad : ℕ → LoadEntry → Bool
 youngLoad n l = leb n (l .number)
 
 -- "removes every store and load numbered n or more and sets last to n − 1": numbers rise along a queue, so what is removed is its end
-unfoldable pub squash : ℕ → Queues → Queues
-squash n q = record {
+-- (an abort and a return differ in the marks that they forget)
+unfoldable pub squash : (List Checkpoint → List Checkpoint) → ℕ → Queues → Queues
+squash forget n q = record {
   last = n - 1;
   committed = q .committed;
   request = q .request;
   stores = changed (youngStore n) (λ s. noStore) (q .stores);
   loads = changed (youngLoad n) (λ l. noLoad) (q .loads);
+  checkpoints = forget (q .checkpoints);
 }
 
 unfoldable pub abortRule : ℕ → Queues → Hierarchy → Outcome
-abortRule n q b = record { answer = kept (n - 1); queues = squash n q; hierarchy = b }
+abortRule n q b = record { answer = kept (n - 1); queues = squash (forgetAbove n) n q; hierarchy = b }
+
+-- ---- set a mark, and return to it
+
+-- 02, card 3: it "remembers the next operation number"; "Setting answers that number"
+unfoldable pub checkpointRule : ℕ → Queues → Hierarchy → Outcome
+checkpointRule x q b = record {
+  answer = checkpointed (nextNumber q);
+  queues = record {
+    last = q .last;
+    committed = q .committed;
+    request = q .request;
+    stores = q .stores;
+    loads = q .loads;
+    checkpoints = addCheckpoint x (nextNumber q) (q .checkpoints);
+  };
+  hierarchy = b;
+}
+
+-- "Returning to it does what an abort at that number does, and forgets that mark and all set later."
+unfoldable pub restoreRule : ℕ → Queues → Hierarchy → Outcome
+restoreRule x q b =
+    let n = numberOf x (q .checkpoints) in record { answer = kept (n - 1); queues = squash (forgetFrom x) n q; hierarchy = b }
 
 -- ---- idle
 
 abbrev pub withRequest : Request → Queues → Queues
 withRequest r q =
-    record { last = q .last; committed = q .committed; request = r; stores = q .stores; loads = q .loads }
+    record { last = q .last; committed = q .committed; request = r; stores = q .stores; loads = q .loads; checkpoints = q .checkpoints }
 
 -- the oldest held store; the free entry where none is held
 abbrev pub oldestStore : Queues → StoreEntry
@@ -322,6 +363,7 @@ drainOldest q b = record {
     request = q .request;
     stores = shifted noStore (q .stores);
     loads = q .loads;
+    checkpoints = q .checkpoints;
   };
   hierarchy = writeStore (oldestStore q) b;
 }
@@ -405,3 +447,5 @@ rule idle q b = idleRule q b
 rule reply q b = replyRule q b
 rule flush q b = flushRule q b
 rule (show a) q b = showRule a q b
+rule (checkpoint x) q b = checkpointRule x q b
+rule (restore x) q b = restoreRule x q b

@@ -7,8 +7,9 @@ use Rattle.rules.specs.Shape.{Hierarchy, World}
 use Rattle.rules.specs.Calls.{Call}
 use Rattle.rules.specs.Refusals.{RefusedKeeps, RefusedExactly}
 use Rattle.rules.specs.RefusalTable.{AsStarted, AsGiven, GivenUnder, startRows, inputRows, stateRows, clauseRows, orderRows}
-use Rattle.rules.specs.Numbers.{FirstNumber, NextNumber}
-use Rattle.rules.specs.Dropped.{DroppedStretch, DroppedAfterStart}
+use Rattle.rules.specs.Numbers.{FirstNumber, NextNumber, ReturnNumber}
+use Rattle.rules.specs.Dropped.{DroppedStretch, DroppedAfterStart, RestoredStretch, RestoredAfterStart}
+use Rattle.rules.specs.CheckpointClaims.{SetsExactly, ReturnsExactly, AbortsExactly, CommitsExactly, CheckpointsStay, CheckpointsRanked}
 use Rattle.rules.specs.Kept.{StartFormed, NextKept, RunKept, AdmittedAfterStart}
 use Rattle.rules.specs.Values.{AfterStart, FromState, ValuesRight, LoadWaits, RetryWaits, InquiriesRight, FlushCounts, FlushesRight, FlatCall, FlatAfter}
 use Rattle.rules.specs.Words.{MarksExact, Unmarked, MarkedOnly}
@@ -32,12 +33,28 @@ pub record RefusalTableHolds : Type 0 where
 -- the next operation number
 abbrev pub NumbersGiven : Type 0
 NumbersGiven =
-    ((f : Figures) (cache memory : List ℕ) → FirstNumber f cache memory) × ((c : Call) (w : World) → NextNumber c w)
+    ((f : Figures) (cache memory : List ℕ) → FirstNumber f cache memory)
+    × ((c : Call) (w : World) → NextNumber c w)
+    × ((x : ℕ) (w : World) → ReturnNumber x w)
 
 -- demand 3, for every run from any world on, and for every run after a start
 abbrev pub DroppedStretches : Type 0
 DroppedStretches =
     ((w : World) → DroppedStretch w) × ((f : Figures) (cache memory : List ℕ) → DroppedAfterStart f cache memory)
+
+-- 02, card 3: the same of every stretch from the setting of a mark to the accepted return to it
+abbrev pub RestoredStretches : Type 0
+RestoredStretches =
+    ((w : World) → RestoredStretch w) × ((f : Figures) (cache memory : List ℕ) → RestoredAfterStart f cache memory)
+
+-- 02, card 3: which marks every call leaves, with their names, numbers and ranks; and what else a setting and a return do
+pub record CheckpointsAreExact : Type 0 where
+  pub by-set : (x : ℕ) (w : World) → SetsExactly x w
+  pub by-return : (x : ℕ) (w : World) → ReturnsExactly x w
+  pub by-abort : (n : ℕ) (w : World) → AbortsExactly n w
+  pub by-commit : (h : ℕ) (w : World) → CommitsExactly h w
+  pub by-others : (c : Call) (w : World) → CheckpointsStay c w
+  pub by-rank : (c : Call) (w : World) → CheckpointsRanked c w
 
 -- kept well formed, by a start, a call and a run; and no call of a run after a start is refused with 1 or 10
 pub record KeptWellFormed : Type 0 where

@@ -1,24 +1,25 @@
 -- To unfold `computed` is to unfold every definition of the rules: for runs and states that the checker computes.
-use Rattle.lists.specs.Padded.{any, every, ascending, freeLast, rising, increasing, first, final, filter, total, select, without, shifted, placed, changed}
+use Rattle.lists.specs.Padded.{any, every, ascending, climbing, freeLast, rising, increasing, first, final, filter, total, select, without, shifted, placed, cut, changed}
 use Rattle.lists.specs.Counted.{firstFrom, allFrom, someFrom, countFrom, greatestFrom, stepsFrom, eachFrom}
 use Rattle.lists.specs.Bytes.{byteOf, overlaid, put, valueAt, addByte, gather}
 use Rattle.rules.specs.Shape.{setsAllowed, lineOf, figuresAllowed, fits}
 use Rattle.rules.specs.Lines.{holdsLine, slotOf, present, placeOf, cachedByte, agedAt, useSlot, useLine, isDirtyWord, withMark, markCount, dirtyAt, writtenThroughAt, storedMemory, putStore, writeStore, writtenBackAt, writeBackSlot, writeBackAll, dirtyWords, victim, copiedAt, install, fillLine}
 use Rattle.rules.specs.Forward.{olderCovers, loadByte, loadValue, someUncovered}
-use Rattle.rules.specs.Calls.{guarded, committedStore, waitingAt, storeRule, loadRule, answerLoad, retryWith, retryRule, answeredBy, useEach, commitRule, squash, abortRule, waitsBelow, storeReady, wantsLine, idleRule, replyRule, flushRule, showRule}
-use Rattle.rules.specs.WellFormed.{zeroTag, freeStoreZero, freeLoadZero, ageGood, setAged, linesInsideAt, linesInSetAt, linesOnceAt, onlyValidDirtyAt, invalidZeroAt, invalidBytesAt, cleanEqualAt, isCleanAt, fourMarksAt, alone, storePasses, loadPasses, committedWaitAt, waitingUncoveredAt, requestAbsent, requestInside, waitsFor, requestWanted, linesFormed, queuesFormed, wellFormed}
+use Rattle.rules.specs.Checkpoints.{addCheckpoint, forgetAbove, forgetUpTo, forgetFrom}
+use Rattle.rules.specs.Calls.{guarded, committedStore, waitingAt, storeRule, loadRule, answerLoad, retryWith, retryRule, answeredBy, useEach, commitRule, squash, abortRule, checkpointRule, restoreRule, waitsBelow, storeReady, wantsLine, idleRule, replyRule, flushRule, showRule}
+use Rattle.rules.specs.WellFormed.{zeroTag, freeStoreZero, freeLoadZero, ageGood, setAged, linesInsideAt, linesInSetAt, linesOnceAt, onlyValidDirtyAt, invalidZeroAt, invalidBytesAt, cleanEqualAt, isCleanAt, fourMarksAt, alone, storePasses, loadPasses, committedWaitAt, waitingUncoveredAt, requestAbsent, requestInside, waitsFor, requestWanted, freeCheckpointZero, placedAt, nameFits, namesDistinct, ranksFrom, linesFormed, queuesFormed, checkpointsFormed, wellFormed}
 use Rattle.rules.specs.Runs.{startTags, started, startAllowed, unstarted, startAnswer, startWorld, outcome, answer, next, answers, after}
 use Rattle.rules.specs.Flat.{flatByte, applied, appliedAll, added, noted, history}
 
 unfoldable pub computed : Unit {0}
-unfolding any every ascending freeLast rising increasing first final filter total select without shifted placed changed firstFrom
+unfolding any every ascending climbing freeLast rising increasing first final filter total select without shifted placed cut changed firstFrom
     allFrom someFrom countFrom greatestFrom stepsFrom eachFrom byteOf overlaid put valueAt addByte gather setsAllowed lineOf
     figuresAllowed fits holdsLine slotOf present placeOf cachedByte agedAt useSlot useLine isDirtyWord withMark markCount dirtyAt writtenThroughAt storedMemory putStore writeStore
     writtenBackAt writeBackSlot writeBackAll dirtyWords victim copiedAt install fillLine olderCovers loadByte loadValue someUncovered
     guarded committedStore waitingAt storeRule loadRule answerLoad retryWith retryRule answeredBy useEach commitRule squash
-    abortRule waitsBelow storeReady wantsLine idleRule replyRule flushRule showRule zeroTag freeStoreZero freeLoadZero
+    abortRule checkpointRule restoreRule addCheckpoint forgetAbove forgetUpTo forgetFrom waitsBelow storeReady wantsLine idleRule replyRule flushRule showRule zeroTag freeStoreZero freeLoadZero
     ageGood setAged linesInsideAt linesInSetAt linesOnceAt onlyValidDirtyAt invalidZeroAt invalidBytesAt cleanEqualAt isCleanAt fourMarksAt
-    alone storePasses loadPasses committedWaitAt waitingUncoveredAt requestAbsent requestInside waitsFor requestWanted linesFormed
-    queuesFormed wellFormed startTags started startAllowed unstarted startAnswer startWorld outcome answer next answers
+    alone storePasses loadPasses committedWaitAt waitingUncoveredAt requestAbsent requestInside waitsFor requestWanted freeCheckpointZero placedAt nameFits namesDistinct ranksFrom linesFormed
+    queuesFormed checkpointsFormed wellFormed startTags started startAllowed unstarted startAnswer startWorld outcome answer next answers
     after flatByte applied appliedAll added noted history
 computed = tt

@@ -1,14 +1,14 @@
 -- The dropped stretch, what is struck from it, and demand 3.
 use Prim.Native.Nat.{ℕ}
 use mathlib.Core.Path.{_≡_}
-use mathlib.Core.Bool.{Bool, true, false, not}
+use mathlib.Core.Bool.{Bool, true, false, not, _||_}
 use mathlib.Core.List.{List, [], _∷_, _++_, map}
-use lib.Dec.{T, leb, ltb}
+use lib.Dec.{T, leb, ltb, eqb}
 use lib.ListN.{length, replicate}
-use Rattle.lists.specs.Padded.{select}
+use Rattle.lists.specs.Padded.{every, select}
 use Rattle.rules.specs.declared.Figures.{Figures}
 use Rattle.rules.specs.Shape.{World}
-use Rattle.rules.specs.Calls.{Call, load, store, retry, commit, abort, idle, reply, flush, show, isAccepted, nextNumber}
+use Rattle.rules.specs.Calls.{Call, load, store, retry, commit, abort, idle, reply, flush, show, checkpoint, restore, checkpointed, isAccepted, nextNumber}
 use Rattle.rules.specs.Runs.{answer, next, answers, after, startWorld, startAnswer, ready}
 
 -- ---- a dropped stretch
@@ -24,11 +24,31 @@ abortsBelow n idle = false
 abortsBelow n reply = false
 abortsBelow n flush = false
 abortsBelow n (show a) = false
+abortsBelow n (checkpoint x) = false
+abortsBelow n (restore x) = false
 
--- "no accepted abort in it names less than n": of the calls, made from w on
+-- no call that passes the test is accepted: of the calls, made from w on
+abbrev pub NoneAccepted : (Call → Bool) → List Call → World → Type 0
+NoneAccepted test [] w = Unit {0}
+NoneAccepted test (c ∷ cs) w = (T (test c) → T (isAccepted (answer c w)) → ⊥) × NoneAccepted test cs (next c w)
+
+-- "no accepted abort in it names less than n"
 abbrev pub NoAbortBelow : ℕ → List Call → World → Type 0
-NoAbortBelow n [] w = Unit {0}
-NoAbortBelow n (c ∷ cs) w = (T (abortsBelow n c) → T (isAccepted (answer c w)) → ⊥) × NoAbortBelow n cs (next c w)
+NoAbortBelow n cs w = NoneAccepted (abortsBelow n) cs w
+
+-- 02, card 3: "set and return calls"
+abbrev pub isCheckpointCall : Call → Bool
+isCheckpointCall (load a w) = false
+isCheckpointCall (store a w v) = false
+isCheckpointCall (retry i) = false
+isCheckpointCall (commit k) = false
+isCheckpointCall (abort m) = false
+isCheckpointCall idle = false
+isCheckpointCall reply = false
+isCheckpointCall flush = false
+isCheckpointCall (show a) = false
+isCheckpointCall (checkpoint x) = true
+isCheckpointCall (restore x) = true
 
 -- the stretch, made from w on, is dropped for n
 pub record Dropped (n : ℕ) (stretch : List Call) (w : World) : Type 0 where
@@ -40,6 +60,33 @@ pub record Dropped (n : ℕ) (stretch : List Call) (w : World) : Type 0 where
   pub accepted : T (isAccepted (answer (abort n) (after body w)))
   -- "and no accepted abort in it names less than n"
   pub above : NoAbortBelow n stretch w
+  -- 02, card 3: "A plain stretch keeps its property if no set or return call, accepted or refused, is inside it."
+  pub quiet : every (λ c. not (isCheckpointCall c)) stretch ≡ true
+
+-- the call sets the mark of name x
+abbrev pub setsCheckpoint : ℕ → Call → Bool
+setsCheckpoint x (load a w) = false
+setsCheckpoint x (store a w v) = false
+setsCheckpoint x (retry i) = false
+setsCheckpoint x (commit k) = false
+setsCheckpoint x (abort m) = false
+setsCheckpoint x idle = false
+setsCheckpoint x reply = false
+setsCheckpoint x flush = false
+setsCheckpoint x (show a) = false
+setsCheckpoint x (checkpoint y) = eqb y x
+setsCheckpoint x (restore y) = false
+
+-- 02, card 3: "A stretch from setting a mark to the accepted return to it", made from w on; the mark has name x and remembers n
+pub record Restored (x n : ℕ) (stretch : List Call) (w : World) : Type 0 where
+  pub body : List Call
+  pub shape : stretch ≡ checkpoint x ∷ (body ++ restore x ∷ [])
+  -- "setting a mark": it is accepted, and answers the number that the mark remembers
+  pub sets : answer (checkpoint x) w ≡ checkpointed n
+  -- "the accepted return"
+  pub returns : T (isAccepted (answer (restore x) (after body (next (checkpoint x) w))))
+  -- "to it": to that setting, so that no other setting of the name is accepted in between
+  pub set-once : NoneAccepted (setsCheckpoint x) body (next (checkpoint x) w)
 
 -- ---- what is struck
 
@@ -55,6 +102,13 @@ struck n idle = false
 struck n reply = false
 struck n flush = false
 struck n (show a) = false
+-- (a plain stretch has none of them; in a mark stretch they are struck too, below)
+struck n (checkpoint x) = false
+struck n (restore x) = false
+
+-- 02, card 3: "when its set and return calls, refused ones included, are struck too"
+abbrev pub struckToo : ℕ → Call → Bool
+struckToo n c = struck n c || isCheckpointCall c
 
 -- "All other calls of the run remain, before the stretch, in it and after it, with the same arguments and in the same order.":
 -- which calls of pre ++ stretch ++ post remain, when those of the stretch that pass a test are struck
@@ -84,3 +138,12 @@ DroppedStretch w =
 abbrev pub DroppedAfterStart : Figures → List ℕ → List ℕ → Type 0
 DroppedAfterStart f cache memory =
     startAnswer f cache memory ≡ ready → DroppedStretch (startWorld f cache memory)
+
+-- 02, card 3: every run from w on, and every stretch in it from the setting of a mark to the accepted return to it
+abbrev pub RestoredStretch : World → Type 0
+RestoredStretch w =
+    (x n : ℕ) (pre stretch post : List Call) → Restored x n stretch (after pre w) → NoTrace (struckToo n) pre stretch post w
+
+abbrev pub RestoredAfterStart : Figures → List ℕ → List ℕ → Type 0
+RestoredAfterStart f cache memory =
+    startAnswer f cache memory ≡ ready → RestoredStretch (startWorld f cache memory)

@@ -14,7 +14,7 @@ use Rattle.rules.specs.declared.Request.{Request}
 use Rattle.rules.specs.declared.Request.the-variants.{Free, Line}
 use Rattle.rules.specs.declared.WritePolicy.{WritePolicy}
 use Rattle.rules.specs.declared.WritePolicy.the-variants.{WriteBack, WriteThrough}
-use Rattle.rules.specs.Shape.{World, Hierarchy, world, geometry, noStore, noLoad, tagAt, lineOf, setOf}
+use Rattle.rules.specs.Shape.{World, Hierarchy, world, geometry, noStore, noLoad, noCheckpoint, tagAt, lineOf, setOf}
 use Rattle.rules.specs.Lines.{slotOf, useLine, writeStore, victim, fillLine}
 use Rattle.rules.specs.Calls.{Call, Answer, load, store, retry, commit, abort, idle, reply, flush, show, refused, stored, value, waits, committed, kept, drained, requested, idled, filled}
 use Rattle.rules.specs.Runs.{emptyQueues, started, startWorld, answer, next, answers, after}
@@ -55,6 +55,7 @@ twoOfFour = record {
     request = Free;
     stores = held 1 ∷ held 2 ∷ held 3 ∷ held 4 ∷ replicate 12 noStore;
     loads = replicate 8 noLoad;
+    checkpoints = replicate 8 noCheckpoint;
   };
   hierarchy = fresh 1 1 32 .hierarchy;
 }
@@ -72,6 +73,7 @@ twoPresent = record {
     request = Free;
     stores = replicate 16 noStore;
     loads = record { number = 3; address = 32; width = 1; waiting = true } ∷ replicate 7 noLoad;
+    checkpoints = replicate 8 noCheckpoint;
   };
   hierarchy = useLine 1 twoFilled;
 }
@@ -85,6 +87,7 @@ dirtyRequested = record {
     request = Line 1;
     stores = replicate 16 noStore;
     loads = record { number = 2; address = 16; width = 1; waiting = true } ∷ replicate 7 noLoad;
+    checkpoints = replicate 8 noCheckpoint;
   };
   hierarchy = writeStore (held 7) (fillLine 0 (fresh 1 1 48 .hierarchy));
 }
@@ -169,24 +172,38 @@ script =
 pub record Stretch : Type 0 where
   pub from : World
   pub before : List Call
-  -- the stretch is the body and then an abort naming n
-  pub n : ℕ
+  -- what opens the stretch (of a plain one nothing, of a mark stretch the setting), its body, and its last call
+  pub opens : List Call
   pub body : List Call
+  pub ends : Call
+  -- which of its calls are struck
+  pub strikes : Call → Bool
   pub later : List Call
 
+-- 01's: the body and then an abort naming n
+abbrev pub plain : World → List Call → ℕ → List Call → List Call → Stretch
+plain w before n body later =
+    record { from = w; before = before; opens = []; body = body; ends = abort n; strikes = struck n; later = later }
+
+abbrev pub stretchOf : Stretch → List Call
+stretchOf s = s .opens ++ (s .body ++ s .ends ∷ [])
+
 abbrev pub whole : Stretch → List Call
-whole s = s .before ++ ((s .body ++ abort (s .n) ∷ []) ++ s .later)
+whole s = s .before ++ (stretchOf s ++ s .later)
 
 -- which of its calls remain
 abbrev pub stays : Stretch → List Bool
-stays s = remaining (struck (s .n)) (s .before) (s .body ++ abort (s .n) ∷ []) (s .later)
+stays s = remaining (s .strikes) (s .before) (stretchOf s) (s .later)
 
 -- the answers of the remaining calls in the whole run, and in the struck run; what each run leaves
 abbrev pub seenAnswers : Stretch → List Answer
 seenAnswers s = select (stays s) (answers (whole s) (s .from))
 
+abbrev pub struckCalls : Stretch → List Call
+struckCalls s = select (stays s) (whole s)
+
 abbrev pub struckAnswers : Stretch → List Answer
-struckAnswers s = answers (select (stays s) (whole s)) (s .from)
+struckAnswers s = answers (struckCalls s) (s .from)
 
 -- what a run leaves, in numbers: last, h, the first places of the queues, the ages of the first two slots, the first byte of memory
 abbrev pub numbersOf : World → List ℕ
@@ -206,43 +223,27 @@ abbrev pub seenEnd : Stretch → List ℕ
 seenEnd s = numbersOf (after (whole s) (s .from))
 
 abbrev pub struckEnd : Stretch → List ℕ
-struckEnd s = numbersOf (after (select (stays s) (whole s)) (s .from))
+struckEnd s = numbersOf (after (struckCalls s) (s .from))
 
 -- Line 0 is dirty, and line 1 is requested for the committed load 2. Then a load that waits, a held store, a refused call, and a
 -- reply that evicts the dirty line.
 unfoldable pub evicting : Stretch
-evicting = record {
-  from = dirtyRequested;
-  before = idle ∷ [];
-  n = 3;
-  body = load 32 1 ∷ store 4 1 9 ∷ load 1 3 ∷ reply ∷ [];
-  later = show 16 ∷ [];
-}
+evicting =
+    plain dirtyRequested (idle ∷ []) 3 (load 32 1 ∷ store 4 1 9 ∷ load 1 3 ∷ reply ∷ []) (show 16 ∷ [])
 
 -- Lines 0 and 1 are present, line 1 used last; load 3 waits. Then a load of line 0, a store to it, an idle call, a store that
 -- covers what load 3 waits for, and an inquiry about load 3.
 unfoldable pub inquiring : Stretch
-inquiring = record {
-  from = twoPresent;
-  before = [];
-  n = 4;
-  body = load 0 1 ∷ store 0 1 9 ∷ idle ∷ store 32 1 5 ∷ retry 3 ∷ commit 9 ∷ [];
-  later = show 0 ∷ [];
-}
+inquiring =
+    plain twoPresent [] 4 (load 0 1 ∷ store 0 1 9 ∷ idle ∷ store 32 1 5 ∷ retry 3 ∷ commit 9 ∷ []) (show 0 ∷ [])
 
 -- A load of an absent line, and an idle call.
 unfoldable pub waitingOnly : Stretch
-waitingOnly = record { from = fresh 1 1 48; before = []; n = 1; body = load 32 1 ∷ idle ∷ []; later = idle ∷ [] }
+waitingOnly = plain (fresh 1 1 48) [] 1 (load 32 1 ∷ idle ∷ []) (idle ∷ [])
 
 -- A store to a present line, and an idle call.
 unfoldable pub draining : Stretch
-draining = record {
-  from = world emptyQueues twoFilled;
-  before = [];
-  n = 1;
-  body = store 16 1 9 ∷ idle ∷ [];
-  later = show 16 ∷ [];
-}
+draining = plain (world emptyQueues twoFilled) [] 1 (store 16 1 9 ∷ idle ∷ []) (show 16 ∷ [])
 
 -- ---- runs beside flat memory
 
@@ -323,6 +324,7 @@ storeMisses p = record {
     request = Free;
     stores = record { number = 1; address = 22; width = 2; value = 2311 } ∷ replicate 15 noStore;
     loads = replicate 8 noLoad;
+    checkpoints = replicate 8 noCheckpoint;
   };
   hierarchy = started (geometry p 1 2) twoLines .hierarchy;
 }
@@ -378,6 +380,7 @@ storeToRequested p = record {
     request = Line 0;
     stores = record { number = 1; address = 0; width = 1; value = 9 } ∷ replicate 15 noStore;
     loads = record { number = 2; address = 1; width = 1; waiting = true } ∷ replicate 7 noLoad;
+    checkpoints = replicate 8 noCheckpoint;
   };
   hierarchy = started (geometry p 1 1) twoLines .hierarchy;
 }
@@ -388,13 +391,9 @@ storedLine = 9 ∷ 2 ∷ 3 ∷ 4 ∷ 5 ∷ 6 ∷ 7 ∷ 8 ∷ 9 ∷ 10 ∷ 11 ∷
 
 -- With write-through: a load and a store are dropped, while the committed store is drained to its absent line.
 unfoldable pub drainingThrough : Stretch
-drainingThrough = record {
-  from = storeMisses WriteThrough;
-  before = [];
-  n = 2;
-  body = load 0 1 ∷ store 22 1 3 ∷ idle ∷ idle ∷ reply ∷ [];
-  later = load 22 1 ∷ commit 2 ∷ idle ∷ reply ∷ show 16 ∷ [];
-}
+drainingThrough =
+    plain (storeMisses WriteThrough) [] 2 (load 0 1 ∷ store 22 1 3 ∷ idle ∷ idle ∷ reply ∷ [])
+    (load 22 1 ∷ commit 2 ∷ idle ∷ reply ∷ show 16 ∷ [])
 
 -- ---- dirty words (02, card 2)
 

@@ -11,7 +11,7 @@ use Rattle.rules.specs.declared.StoreEntry.{StoreEntry}
 use Rattle.rules.specs.declared.LoadEntry.{LoadEntry}
 use Rattle.rules.specs.Shape.{Hierarchy, World, lineBytes, noLoad, isFreeStore, lineOf}
 use Rattle.rules.specs.Lines.{present, placeOf}
-use Rattle.rules.specs.Calls.{Call, Answer, load, store, retry, commit, abort, idle, reply, flush, show, refused, stored, value, waits, committed, kept, drained, requested, idled, filled, flushed, shown, isAccepted}
+use Rattle.rules.specs.Calls.{Call, Answer, load, store, retry, commit, abort, idle, reply, flush, show, checkpoint, restore, refused, stored, value, waits, committed, kept, drained, requested, idled, filled, flushed, shown, checkpointed, isAccepted}
 use Rattle.rules.specs.Runs.{answers}
 
 -- ---- flat memory of a given state
@@ -50,7 +50,7 @@ flatWithHeld w = appliedAll (heldStores w) (flatOf (w .hierarchy))
 -- ---- the history of a run, from its calls and answers alone
 
 pub record History : Type 0 where
-  -- the accepted stores that no accepted abort has dropped, in number order
+  -- the accepted stores that no accepted abort or return has dropped, in number order
   pub stores : List StoreEntry
   -- the accepted loads, the latest first: number, address and width
   pub loads : List LoadEntry
@@ -60,20 +60,21 @@ pub record History : Type 0 where
 abbrev pub noHistory : History
 noHistory = record { stores = []; loads = []; committed = 0 }
 
--- the operation number that an answer names
+-- the operation number that an answer names, and of an abort or a return the last one kept; 0 where there is none that is asked for
 abbrev pub numberIn : Answer → ℕ
 numberIn (refused k) = 0
 numberIn (stored i) = i
 numberIn (value i v) = i
 numberIn (waits i) = i
 numberIn (committed k) = 0
-numberIn (kept k) = 0
+numberIn (kept k) = k
 numberIn (drained i) = i
 numberIn (requested a) = 0
 numberIn idled = 0
 numberIn (filled a) = 0
 numberIn (flushed k) = 0
 numberIn (shown p bs) = 0
+numberIn (checkpointed n) = n
 
 -- a store numbered below i; a store numbered h or less
 abbrev pub below : ℕ → StoreEntry → Bool
@@ -101,6 +102,10 @@ added idle r h = h
 added reply r h = h
 added flush r h = h
 added (show a) r h = h
+added (checkpoint x) r h = h
+-- 02, card 3: as an abort at the mark's number, which is one above the number kept
+added (restore x) r h =
+    record { stores = filter (below (numberIn r + 1)) (h .stores); loads = h .loads; committed = h .committed }
 
 unfoldable pub noted : Call → Answer → History → History
 noted c r h = cond (isAccepted r) (added c r h) h
@@ -122,7 +127,7 @@ loadOf i h = first (λ l. eqb (l .number) i) noLoad (h .loads)
 -- ---- flat memory after a start
 
 -- "Flat memory after a start is memory as the start found it, changed only by the stores named, each applied whole in number order."
--- At operation i the stores named are the older ones that are not aborted;
+-- At operation i the stores named are the older ones that no abort or return has dropped;
 abbrev pub flatBefore : ℕ → History → List ℕ → List ℕ
 flatBefore i h found = appliedAll (filter (below i) (h .stores)) found
 

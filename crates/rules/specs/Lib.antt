@@ -1,6 +1,7 @@
 pub mod Shape
 pub mod Lines
 pub mod Forward
+pub mod Checkpoints
 pub mod Calls
 pub mod WellFormed
 pub mod Runs
@@ -11,8 +12,10 @@ pub mod Kept
 pub mod Flat
 pub mod Values
 pub mod Words
+pub mod CheckpointClaims
 pub mod Computed
 pub mod Examples
 pub mod States
+pub mod CheckpointExamples
 pub mod RefusalTable
 pub mod Claims

@@ -1,5 +1,5 @@
--- The table of refusals: for each number of 01's two tables states and calls that give it, beside neighbours that do not, on both
--- sides of each bound; and for each call which refusal comes first where several apply. (6 is the script player's.)
+-- The table of refusals: for each number of 01's two tables, and of 02's cards that have landed, states and calls that give it, beside
+-- neighbours that do not, on both sides of each bound; and for each call which refusal comes first where several apply. (6 is the script player's.)
 -- A row is a state, a call and what the call answers there; under either write policy, unless said otherwise.
 use Prim.Native.Nat.{ℕ, _+_, _-_}
 use mathlib.Core.Path.{_≡_}
@@ -9,15 +9,16 @@ use lib.ListN.{replicate}
 use Rattle.lists.specs.Counted.{eachFrom}
 use Rattle.rules.specs.declared.StoreEntry.{StoreEntry}
 use Rattle.rules.specs.declared.LoadEntry.{LoadEntry}
+use Rattle.rules.specs.declared.Checkpoint.{Checkpoint}
 use Rattle.rules.specs.declared.Request.{Request}
 use Rattle.rules.specs.declared.Request.the-variants.{Free, Line}
 use Rattle.rules.specs.declared.WritePolicy.{WritePolicy}
 use Rattle.rules.specs.declared.WritePolicy.the-variants.{WriteBack, WriteThrough}
-use Rattle.rules.specs.Shape.{Queues, World, world, topNumber, geometry, noStore, noLoad, noTag}
-use Rattle.rules.specs.Calls.{Call, Answer, load, store, retry, commit, abort, idle, reply, flush, show, refused, stored, waits, committed, kept, drained, idled, filled, flushed, shown, emptyPart}
+use Rattle.rules.specs.Shape.{Queues, World, world, topNumber, geometry, noStore, noLoad, noCheckpoint, noTag}
+use Rattle.rules.specs.Calls.{Call, Answer, load, store, retry, commit, abort, idle, reply, flush, show, checkpoint, restore, refused, stored, waits, committed, kept, drained, idled, filled, flushed, shown, checkpointed, emptyPart}
 use Rattle.rules.specs.Runs.{StartAnswer, ready, startRefused, emptyQueues, startAnswer, answer}
 use Rattle.rules.specs.Examples.{fresh}
-use Rattle.rules.specs.States.{tag, heldAt, waitingLoad, answeredLoad, queues, richQueues, richLines, cleanLines, requestedByStore, broken}
+use Rattle.rules.specs.States.{tag, heldAt, waitingLoad, answeredLoad, checkpointOf, queuesWith, queues, richQueues, richLines, cleanLines, requestedByStore, broken}
 
 pub record Row : Type 0 where
   pub at : World
@@ -62,6 +63,18 @@ mixed =
 -- the committed load 1 waits for line 0, and this is in the register
 abbrev pub requesting : Request → World
 requesting r = over (queues 1 1 r (stores 0) (loads 1))
+
+-- last, and the marks in force (02, card 3), in places; h is 0
+abbrev pub withMarks : ℕ → List Checkpoint → World
+withMarks last cs = over (queuesWith cs last 0 Free (stores 0) (loads 0))
+
+-- mark 2 is in force at 3
+abbrev pub oneMark : ℕ → World
+oneMark last = withMarks last (checkpointOf 2 3 1 ∷ replicate 7 noCheckpoint)
+
+-- every name is in use, at 3
+abbrev pub everyName : World
+everyName = withMarks 4 (eachFrom (λ k c. checkpointOf (k + 1) 3 (k + 1)) 0 (replicate 8 noCheckpoint))
 
 -- line 0 is present, store 1 is held, last is 1 and the register is free; with this h, and so many bytes of cache lent
 abbrev pub storing : ℕ → ℕ → World
@@ -196,6 +209,27 @@ stateRows =
     ∷ row (holdingStores 2 0 2) flush (flushed 0)
     ∷ row (holdingStores 2 1 2) flush (refused 18)
     ∷ row (holdingStores 2 2 0) flush (flushed 0)
+    -- 02, card 3. 19: "name outside 1 to 8"
+    ∷ row (oneMark 4) (checkpoint 0) (refused 19)
+    ∷ row (oneMark 4) (checkpoint 1) (checkpointed 5)
+    ∷ row (oneMark 4) (checkpoint 8) (checkpointed 5)
+    ∷ row (oneMark 4) (checkpoint 9) (refused 19)
+    ∷ row (oneMark 4) (restore 0) (refused 19)
+    ∷ row (oneMark 4) (restore 9) (refused 19)
+    -- 20: "set, name in use"
+    ∷ row (oneMark 4) (checkpoint 2) (refused 20)
+    ∷ row (oneMark 4) (checkpoint 3) (checkpointed 5)
+    ∷ row everyName (checkpoint 1) (refused 20)
+    ∷ row everyName (checkpoint 8) (refused 20)
+    -- 21: "return, name not in use,
+    ∷ row (oneMark 4) (restore 2) (kept 2)
+    ∷ row (oneMark 4) (restore 3) (refused 21)
+    ∷ row empty (restore 2) (refused 21)
+    ∷ row everyName (restore 8) (kept 2)
+    -- or set when last is 4294967295"; a return is not refused for that
+    ∷ row (oneMark 4294967294) (checkpoint 1) (checkpointed 4294967295)
+    ∷ row (oneMark 4294967295) (checkpoint 1) (refused 21)
+    ∷ row (oneMark 4294967295) (restore 2) (kept 2)
     ∷ []
 
 -- 10 for each clause of well-formed. Not for the rich state, which keeps all of them; nor with no line dirty, under either write policy;
@@ -235,6 +269,8 @@ orderRows =
     ∷ row unfitting idle (refused 1)
     ∷ row unfitting reply (refused 1)
     ∷ row unfitting flush (refused 1)
+    ∷ row unfitting (checkpoint 0) (refused 1)
+    ∷ row unfitting (restore 0) (refused 1)
     -- "It gives an empty part when .. check 1 or 10 fails. It is the sole call that names no refusal."
     ∷ row unfitting (show 0) emptyPart
     -- 10 is next
@@ -246,6 +282,8 @@ orderRows =
     ∷ row unformed idle (refused 10)
     ∷ row unformed reply (refused 10)
     ∷ row unformed flush (refused 10)
+    ∷ row unformed (checkpoint 0) (refused 10)
+    ∷ row unformed (restore 0) (refused 10)
     ∷ row unformed (show 0) emptyPart
     -- "the others follow 10"
     ∷ row sound (load 1 3) (refused 2)
@@ -256,6 +294,8 @@ orderRows =
     ∷ row sound idle (drained 1)
     ∷ row sound reply (refused 17)
     ∷ row sound flush (refused 18)
+    ∷ row sound (checkpoint 0) (refused 19)
+    ∷ row sound (restore 0) (refused 19)
     ∷ row sound (show 0) (shown 0 (replicate 16 0))
     -- "when the line is absent, the address is outside memory"
     ∷ row sound (show 15) (shown 0 (replicate 16 0))
@@ -272,6 +312,12 @@ orderRows =
     ∷ row usedUp (store 32 2 65536) (refused 4)
     ∷ row usedUp (store 30 2 65536) (refused 5)
     ∷ row usedUp (store 30 2 65535) (refused 13)
+    -- 02, card 3: "Refusals follow 10, in rising order." set: 19, 20, 21; return: 19, 21
+    ∷ row (oneMark topNumber) (checkpoint 9) (refused 19)
+    ∷ row (oneMark topNumber) (checkpoint 2) (refused 20)
+    ∷ row (oneMark topNumber) (checkpoint 3) (refused 21)
+    ∷ row (oneMark topNumber) (restore 9) (refused 19)
+    ∷ row (oneMark topNumber) (restore 3) (refused 21)
     ∷ []
 
 -- ---- "Start reads no earlier state, so 1 alone can refuse it."

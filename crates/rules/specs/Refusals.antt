@@ -1,5 +1,5 @@
 -- Claims about refusals: a refused call changes nothing, and each refusal is given under its stated condition and under no other.
--- The refusals themselves are `accessChecks` to `callChecks` in Calls (2 to 18), `fitCheck` (1) and `formedCheck` (10) in Runs.
+-- The refusals themselves are `accessChecks` to `callChecks` in Calls (2 to 21), `fitCheck` (1) and `formedCheck` (10) in Runs.
 use Prim.Native.Nat.{ℕ}
 use mathlib.Core.Path.{_≡_}
 use mathlib.Core.Bool.{true, false}

@@ -8,8 +8,8 @@ use Rattle.lists.specs.Counted.{eachFrom}
 use Rattle.rules.specs.declared.Figures.{Figures}
 use Rattle.rules.specs.declared.Tag.{Tag}
 use Rattle.rules.specs.declared.Request.the-variants.{Free}
-use Rattle.rules.specs.Shape.{Queues, Hierarchy, World, world, lineBytes, tableSize, storePlaces, loadPlaces, noStore, noLoad, noTag, withAge, noFigures, figuresAllowed, fits}
-use Rattle.rules.specs.Calls.{Call, Answer, Outcome, Check, load, store, retry, commit, abort, idle, reply, flush, show, refused, check, guarded, earlyChecks, callChecks, unchanged, emptyPart, rule}
+use Rattle.rules.specs.Shape.{Queues, Hierarchy, World, world, lineBytes, tableSize, storePlaces, loadPlaces, checkpointPlaces, noStore, noLoad, noCheckpoint, noTag, withAge, noFigures, figuresAllowed, fits}
+use Rattle.rules.specs.Calls.{Call, Answer, Outcome, Check, load, store, retry, commit, abort, idle, reply, flush, show, checkpoint, restore, refused, check, guarded, earlyChecks, callChecks, unchanged, emptyPart, rule}
 use Rattle.rules.specs.WellFormed.{wellFormed}
 
 -- ---- start
@@ -27,6 +27,7 @@ emptyQueues = record {
   request = Free;
   stores = replicate storePlaces noStore;
   loads = replicate loadPlaces noLoad;
+  checkpoints = replicate checkpointPlaces noCheckpoint;
 }
 
 -- "Start zeroes the cache bytes, gives way w age w, invalidates every record and leaves memory as found."
@@ -102,6 +103,8 @@ namesRefusal idle = true
 namesRefusal reply = true
 namesRefusal flush = true
 namesRefusal (show a) = false
+namesRefusal (checkpoint x) = true
+namesRefusal (restore x) = true
 
 -- what a refusal answers: show line "is the sole call that names no refusal"
 abbrev pub refusal : Call → ℕ → Answer

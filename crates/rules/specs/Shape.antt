@@ -1,6 +1,7 @@
--- The shape of the store: lines, sets, ways and slots; the tag records, the two queues and the miss register; the figures that are allowed.
--- The state with its cache and memory is two records here. `Queues`: last, h, the miss register and both queues. `Hierarchy`:
--- figures, memory length, tag records, cache and memory. An abort changes the first only.
+-- The shape of the store: lines, sets, ways and slots; the tag records, the two queues, the checkpoints and the miss register; the figures that
+-- are allowed.
+-- The state with its cache and memory is two records here. `Queues`: last, h, the miss register, both queues and the checkpoints.
+-- `Hierarchy`: figures, memory length, tag records, cache and memory. An abort changes the first only.
 -- `q` is a Queues and `b` a Hierarchy throughout.
 use Prim.Native.Nat.{ℕ, _*_, _/_, _%_}
 use mathlib.Core.Bool.{Bool, true, false, _&&_, _||_}
@@ -13,6 +14,7 @@ use Rattle.rules.specs.declared.WritePolicy.the-variants.{WriteBack, Wri
 use Rattle.rules.specs.declared.Tag.{Tag}
 use Rattle.rules.specs.declared.StoreEntry.{StoreEntry}
 use Rattle.rules.specs.declared.LoadEntry.{LoadEntry}
+use Rattle.rules.specs.declared.Checkpoint.{Checkpoint}
 use Rattle.rules.specs.declared.Request.{Request}
 use Rattle.rules.specs.declared.Request.the-variants.{Free, Line}
 
@@ -43,6 +45,13 @@ storePlaces = 16
 
 abbrev pub loadPlaces : ℕ
 loadPlaces = 8
+
+-- 02, card 3: "A mark has a name 1 to 8"; names are distinct, so there are at most so many marks
+abbrev pub checkpointNames : ℕ
+checkpointNames = 8
+
+abbrev pub checkpointPlaces : ℕ
+checkpointPlaces = checkpointNames
 
 -- "Addresses, values and operation numbers have 32 bits, unsigned."
 abbrev pub topNumber : ℕ
@@ -81,6 +90,8 @@ pub record Queues : Type 0 where
   pub stores : List StoreEntry
   -- the load queue (01: the list of loads), in places
   pub loads : List LoadEntry
+  -- the checkpoints (02, card 3: the marks in force), in places, in order of setting
+  pub checkpoints : List Checkpoint
 
 pub record Hierarchy : Type 0 where
   -- sets, ways and the write policy
@@ -124,6 +135,9 @@ noStore = record { number = 0; address = 0; width = 0; value = 0 }
 abbrev pub noLoad : LoadEntry
 noLoad = record { number = 0; address = 0; width = 0; waiting = false }
 
+abbrev pub noCheckpoint : Checkpoint
+noCheckpoint = record { name = 0; number = 0; rank = 0 }
+
 -- "unused records are all zero"
 abbrev pub noTag : Tag
 noTag = record { valid = false; dirty = 0; line = 0; age = 0 }
@@ -134,6 +148,9 @@ isFreeStore s = eqb (s .number) 0
 
 abbrev pub isFreeLoad : LoadEntry → Bool
 isFreeLoad l = eqb (l .number) 0
+
+abbrev pub isFreeCheckpoint : Checkpoint → Bool
+isFreeCheckpoint c = eqb (c .number) 0
 
 -- "The request register is either free or names one line."
 abbrev pub isFree : Request → Bool

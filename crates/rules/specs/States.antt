@@ -1,5 +1,4 @@
--- States that show what well-formed asks: rich ones that keep every clause, and for each clause one that breaks it, two for clean
--- words, for the marks and for the last.
+-- States that show what well-formed asks: rich ones that keep every clause, and for each clause one or two that break it.
 use Prim.Native.Nat.{ℕ, _+_}
 use mathlib.Core.Bool.{Bool, true, false, cond, _&&_}
 use mathlib.Core.List.{List, [], _∷_, _++_}
@@ -9,12 +8,13 @@ use Rattle.lists.specs.Counted.{eachFrom}
 use Rattle.rules.specs.declared.Tag.{Tag}
 use Rattle.rules.specs.declared.StoreEntry.{StoreEntry}
 use Rattle.rules.specs.declared.LoadEntry.{LoadEntry}
+use Rattle.rules.specs.declared.Checkpoint.{Checkpoint}
 use Rattle.rules.specs.declared.Request.{Request}
 use Rattle.rules.specs.declared.Request.the-variants.{Line}
 use Rattle.rules.specs.declared.WritePolicy.{WritePolicy}
 use Rattle.rules.specs.declared.WritePolicy.the-variants.{WriteBack, WriteThrough}
-use Rattle.rules.specs.Shape.{Queues, Hierarchy, World, geometry, noStore, noLoad, noTag}
-use Rattle.rules.specs.WellFormed.{lineClauses, queueClauses}
+use Rattle.rules.specs.Shape.{Queues, Hierarchy, World, geometry, noStore, noLoad, noCheckpoint, noTag}
+use Rattle.rules.specs.WellFormed.{lineClauses, queueClauses, checkpointClauses}
 
 -- ---- building a state
 
@@ -43,8 +43,22 @@ linesBy p tags cache = record {
 abbrev lines : List Tag → List ℕ → Hierarchy
 lines tags cache = linesBy WriteBack tags cache
 
+-- a mark (02, card 3) of name x, which remembers n and has rank r
+abbrev pub checkpointOf : ℕ → ℕ → ℕ → Checkpoint
+checkpointOf x n r = record { name = x; number = n; rank = r }
+
+-- last, h, the register, the stores, the loads and the marks
+abbrev pub queuesWith : List Checkpoint → ℕ → ℕ → Request → List StoreEntry → List LoadEntry → Queues
+queuesWith cs last h r ss ls =
+    record { last = last; committed = h; request = r; stores = ss; loads = ls; checkpoints = cs }
+
+-- no mark is in force
 abbrev pub queues : ℕ → ℕ → Request → List StoreEntry → List LoadEntry → Queues
-queues last h r ss ls = record { last = last; committed = h; request = r; stores = ss; loads = ls }
+queues = queuesWith (replicate 8 noCheckpoint)
+
+-- four marks, in order of setting: the first right above h, two at one number, the last at last + 1
+unfoldable pub richCheckpoints : List Checkpoint
+richCheckpoints = checkpointOf 3 5 1 ∷ checkpointOf 1 7 2 ∷ checkpointOf 8 7 3 ∷ checkpointOf 2 8 4 ∷ replicate 4 noCheckpoint
 
 -- ---- the rich state
 
@@ -76,7 +90,7 @@ abbrev pub richLines : Hierarchy
 richLines = lines richTags richCache
 
 abbrev pub richQueues : Queues
-richQueues = queues 7 4 (Line 4) richStores richLoads
+richQueues = queuesWith richCheckpoints 7 4 (Line 4) richStores richLoads
 
 -- the same lines with none dirty, as write-through has them: the way of line 2 is invalid
 unfoldable pub cleanTags : List Tag
@@ -94,17 +108,23 @@ cleanLines p = linesBy p cleanTags cleanCache
 abbrev pub requestedByStore : Queues
 requestedByStore = queues 7 4 (Line 3) richStores richLoads
 
--- ---- a state for each clause; for clean words and for the marks two, and for the last clause under each write policy
+-- ---- a state for each clause, and two for some
 
 -- its clauses, those of the lines first
 abbrev pub clauses : World → List Bool
-clauses w = lineClauses (w .hierarchy) ++ queueClauses (w .queues) (w .hierarchy)
+clauses w =
+    lineClauses (w .hierarchy)
+    ++ (queueClauses (w .queues) (w .hierarchy)
+    ++ checkpointClauses (w .queues .committed) (w .queues .last) (w .queues .checkpoints))
 
 abbrev withLines : Hierarchy → World
 withLines b = record { queues = richQueues; hierarchy = b }
 
 abbrev withQueues : Queues → World
 withQueues q = record { queues = q; hierarchy = richLines }
+
+abbrev withCheckpoints : List Checkpoint → World
+withCheckpoints cs = withQueues (queuesWith cs 7 4 (Line 4) richStores richLoads)
 
 -- slot k has another record
 abbrev slotHas : ℕ → Tag → World
@@ -171,14 +191,36 @@ broken =
     ∷ withQueues (queues 7 4 (Line 5) richStores richLoads)
     -- with write-through, a requested line that only the oldest store wants
     ∷ record { queues = requestedByStore; hierarchy = cleanLines WriteThrough }
+    -- a place too many
+    ∷ withCheckpoints (richCheckpoints ++ noCheckpoint ∷ [])
+    -- a free place with a name, and one with a rank
+    ∷ withCheckpoints (set richCheckpoints 5 (checkpointOf 4 0 0))
+    ∷ withCheckpoints (set richCheckpoints 4 (checkpointOf 0 0 5))
+    -- a free place before a mark
+    ∷ withCheckpoints (checkpointOf 3 5 1 ∷ noCheckpoint ∷ checkpointOf 1 7 3 ∷ replicate 5 noCheckpoint)
+    -- a mark at h, a mark above last + 1
+    ∷ withCheckpoints (set richCheckpoints 0 (checkpointOf 3 4 1))
+    ∷ withCheckpoints (set richCheckpoints 3 (checkpointOf 2 9 4))
+    -- a number that falls
+    ∷ withCheckpoints (set richCheckpoints 1 (checkpointOf 1 8 2))
+    -- a mark of name 0, and of name 9
+    ∷ withCheckpoints (set richCheckpoints 3 (checkpointOf 0 8 4))
+    ∷ withCheckpoints (set richCheckpoints 3 (checkpointOf 9 8 4))
+    -- a name twice
+    ∷ withCheckpoints (set richCheckpoints 3 (checkpointOf 3 8 4))
+    -- a rank left out, and ranks from 0
+    ∷ withCheckpoints (set richCheckpoints 3 (checkpointOf 2 8 5))
+    ∷ withCheckpoints (checkpointOf 3 5 0 ∷ checkpointOf 1 7 1 ∷ replicate 6 noCheckpoint)
     ∷ []
 
 -- all of the clauses but number i
 abbrev pub allBut : ℕ → List Bool
-allBut i = set (replicate 26 true) i false
+allBut i = set (replicate 34 true) i false
 
 unfoldable pub brokenClauses : List (List Bool)
 brokenClauses =
     allBut 0 ∷ allBut 1 ∷ allBut 2 ∷ allBut 3 ∷ allBut 4 ∷ allBut 5 ∷ allBut 6 ∷ allBut 7 ∷ allBut 8 ∷ allBut 9 ∷ allBut 9
     ∷ allBut 10 ∷ allBut 11 ∷ allBut 11 ∷ allBut 12 ∷ allBut 13 ∷ allBut 14 ∷ allBut 15 ∷ allBut 16 ∷ allBut 17 ∷ allBut 18
-    ∷ allBut 19 ∷ allBut 20 ∷ allBut 21 ∷ allBut 22 ∷ allBut 23 ∷ set (allBut 24) 25 false ∷ allBut 25 ∷ allBut 25 ∷ []
+    ∷ allBut 19 ∷ allBut 20 ∷ allBut 21 ∷ allBut 22 ∷ allBut 23 ∷ set (allBut 24) 25 false ∷ allBut 25 ∷ allBut 25 ∷ allBut 26
+    ∷ allBut 27 ∷ allBut 27 ∷ allBut 28 ∷ allBut 29 ∷ allBut 29 ∷ allBut 30 ∷ allBut 31 ∷ allBut 31 ∷ allBut 32 ∷ allBut 33
+    ∷ allBut 33 ∷ []

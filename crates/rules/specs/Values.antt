@@ -12,7 +12,8 @@ use Rattle.rules.specs.declared.LoadEntry.{LoadEntry}
 use Rattle.rules.specs.Shape.{Hierarchy, World, lineWords, noLoad, slots, tagAt}
 use Rattle.rules.specs.Lines.{dirtyWord, dirtyWords}
 use Rattle.rules.specs.Forward.{lacking}
-use Rattle.rules.specs.Calls.{Call, Answer, load, store, retry, commit, abort, idle, reply, flush, show, value, waits, flushed, isAccepted, waitingAt, nextNumber}
+use Rattle.rules.specs.Checkpoints.{numberOf}
+use Rattle.rules.specs.Calls.{Call, Answer, load, store, retry, commit, abort, idle, reply, flush, show, checkpoint, restore, value, waits, flushed, isAccepted, waitingAt, nextNumber}
 use Rattle.rules.specs.Runs.{answer, next, after, startWorld, startAnswer, ready}
 use Rattle.rules.specs.Kept.{Formed, EachCall}
 use Rattle.rules.specs.Flat.{History, noHistory, historyOf, loadOf, below, flatOf, applied, appliedAll, heldStores, flatWithHeld, flatBefore, flatCommitted}
@@ -49,13 +50,15 @@ AsksFor idle i l = ⊥
 AsksFor reply i l = ⊥
 AsksFor flush i l = ⊥
 AsksFor (show a) i l = ⊥
+AsksFor (checkpoint x) i l = ⊥
+AsksFor (restore x) i l = ⊥
 
 -- the value v that a call answers as operation i, when h is the history up to the call and with it
 pub record RightValue (found : List ℕ) (h : History) (c : Call) (i v : ℕ) : Type 0 where
   -- it is asked of the latest accepted load numbered i
   pub numbered : loadOf i h .number ≡ i
   pub asked : AsksFor c i (loadOf i h)
-  -- it is what flat memory holds there, after the stores numbered below i that are not aborted by then,
+  -- it is what flat memory holds there, after the stores numbered below i that no abort or return has dropped by then,
   pub holds : v ≡ valueAt (flatBefore i h found) (loadOf i h .address) (loadOf i h .width)
   -- which stand in number order
   pub ordered : increasing (λ s. s .number) 0 (h .stores) ≡ true
@@ -143,15 +146,20 @@ FlatNext (commit k) w = flatWithHeld (next (commit k) w) ≡ flatWithHeld w
 -- an abort drops the held stores numbered n or more,
 FlatNext (abort n) w =
     (flatOf (next (abort n) w .hierarchy) ≡ flatOf (w .hierarchy)) × (heldStores (next (abort n) w) ≡ filter (below n) (heldStores w))
+-- a return (02, card 3) those from the number on that its mark remembers,
+FlatNext (restore x) w =
+    (flatOf (next (restore x) w .hierarchy) ≡ flatOf (w .hierarchy))
+    × (heldStores (next (restore x) w) ≡ filter (below (numberOf x (w .queues .checkpoints))) (heldStores w))
 -- and every other call leaves it as it was
 FlatNext idle w = flatWithHeld (next idle w) ≡ flatWithHeld w
 FlatNext reply w = flatWithHeld (next reply w) ≡ flatWithHeld w
 FlatNext flush w = flatWithHeld (next flush w) ≡ flatWithHeld w
 FlatNext (show a) w = flatWithHeld (next (show a) w) ≡ flatWithHeld w
+FlatNext (checkpoint x) w = flatWithHeld (next (checkpoint x) w) ≡ flatWithHeld w
 
 abbrev pub FlatCall : Call → World → Type 0
 FlatCall c w = isAccepted (answer c w) ≡ true → FlatNext c w
 
--- after a run it is what was found with every store of the run that is not aborted applied
+-- after a run it is what was found with every store of the run applied that no abort or return has dropped
 abbrev pub FlatAfter : Claim
 FlatAfter found h w run = flatWithHeld (after run w) ≡ appliedAll (historyOf h run w .stores) found

@@ -1,20 +1,22 @@
 -- Well-formed: one named clause for each part of 01's paragraph, in its order, and of what 02 adds.
-use Prim.Native.Nat.{ℕ, _+_, _*_, _-_}
+use Prim.Native.Nat.{ℕ, suc, _+_, _*_, _-_}
 use mathlib.Core.Bool.{Bool, true, not, _&&_, _||_}
 use mathlib.Core.List.{List, [], _∷_}
 use lib.Dec.{ltb, leb, eqb}
 use lib.ListN.{length, getD, drop}
-use Rattle.lists.specs.Padded.{any, every, freeLast, ascending}
+use Rattle.lists.specs.Padded.{any, every, freeLast, ascending, climbing}
 use Rattle.lists.specs.Counted.{allFrom}
 use Rattle.rules.specs.declared.Tag.{Tag}
 use Rattle.rules.specs.declared.StoreEntry.{StoreEntry}
 use Rattle.rules.specs.declared.LoadEntry.{LoadEntry}
+use Rattle.rules.specs.declared.Checkpoint.{Checkpoint}
 use Rattle.rules.specs.declared.WritePolicy.{WritePolicy}
 use Rattle.rules.specs.declared.Request.{Request}
 use Rattle.rules.specs.declared.Request.the-variants.{Free, Line}
-use Rattle.rules.specs.Shape.{Queues, Hierarchy, lineBytes, allMarks, tableSize, storePlaces, loadPlaces, topNumber, isFreeStore, isFreeLoad, slots, setStart, firstSlot, tagAt, lineOf, lineInMemory, isThrough, writesThrough, fits}
+use Rattle.rules.specs.Shape.{Queues, Hierarchy, lineBytes, allMarks, tableSize, storePlaces, loadPlaces, checkpointPlaces, topNumber, isFreeStore, isFreeLoad, isFreeCheckpoint, slots, setStart, firstSlot, tagAt, lineOf, lineInMemory, isThrough, writesThrough, fits}
 use Rattle.rules.specs.Lines.{holdsLine, present, slotPlace, dirtyAt, isDirty}
 use Rattle.rules.specs.Forward.{someUncovered}
+use Rattle.rules.specs.Checkpoints.{inUse, nameAllowed}
 use Rattle.rules.specs.Calls.{passes, accessChecks, valueCheck, oldestStore, storeReady}
 
 -- ---- "its fields keep the shapes above"
@@ -216,6 +218,52 @@ requestWanted Free q p = true
 requestWanted (Line l) q p =
     any (waitsFor (q .committed) l) (q .loads) || (not (isThrough p) && storeWants q l)
 
+-- ---- 02, card 3: "In a well-formed state marks lie above h, at most at last + 1, never fall in order of setting, and have distinct names
+-- and ranks 1, 2 and so on.", with the shape of their list: `cs` is the list of checkpoints
+
+-- 8 places
+abbrev pub checkpointLength : List Checkpoint → Bool
+checkpointLength cs = eqb (length cs) checkpointPlaces
+
+unfoldable pub freeCheckpointZero : Checkpoint → Bool
+freeCheckpointZero c = not (isFreeCheckpoint c) || (eqb (c .name) 0 && eqb (c .rank) 0)
+
+-- free places are zero
+abbrev pub checkpointsZero : List Checkpoint → Bool
+checkpointsZero cs = every freeCheckpointZero cs
+
+-- free places stand after the marks
+abbrev pub checkpointsLast : List Checkpoint → Bool
+checkpointsLast cs = freeLast (λ c. c .number) cs
+
+-- "marks lie above h, at most at last + 1"
+unfoldable pub placedAt : ℕ → ℕ → Checkpoint → Bool
+placedAt h last c = isFreeCheckpoint c || (ltb h (c .number) && leb (c .number) (last + 1))
+
+abbrev pub checkpointsPlaced : ℕ → ℕ → List Checkpoint → Bool
+checkpointsPlaced h last cs = every (placedAt h last) cs
+
+-- "never fall in order of setting"
+abbrev pub checkpointsNeverFall : List Checkpoint → Bool
+checkpointsNeverFall cs = climbing (λ c. c .number) 0 cs
+
+-- "A mark has a name 1 to 8"
+unfoldable pub nameFits : Checkpoint → Bool
+nameFits c = isFreeCheckpoint c || nameAllowed (c .name)
+
+abbrev pub namesFit : List Checkpoint → Bool
+namesFit cs = every nameFits cs
+
+-- "and have distinct names": no later mark has the name of an earlier one
+unfoldable pub namesDistinct : List Checkpoint → Bool
+namesDistinct [] = true
+namesDistinct (c ∷ cs) = (isFreeCheckpoint c || not (inUse (c .name) cs)) && namesDistinct cs
+
+-- "and ranks 1, 2 and so on": of the marks from place i on, counted from 0
+unfoldable pub ranksFrom : ℕ → List Checkpoint → Bool
+ranksFrom i [] = true
+ranksFrom i (c ∷ cs) = (isFreeCheckpoint c || eqb (c .rank) (suc i)) && ranksFrom (suc i) cs
+
 -- ---- all of them
 
 -- the clauses of the hierarchy
@@ -254,12 +302,29 @@ queueClauses q b =
     ∷ requestWanted (q .request) q (b .figures .policy)
     ∷ []
 
+-- the clauses of the checkpoints, with h and last
+abbrev pub checkpointClauses : ℕ → ℕ → List Checkpoint → List Bool
+checkpointClauses h last cs =
+    checkpointLength cs
+    ∷ checkpointsZero cs
+    ∷ checkpointsLast cs
+    ∷ checkpointsPlaced h last cs
+    ∷ checkpointsNeverFall cs
+    ∷ namesFit cs
+    ∷ namesDistinct cs
+    ∷ ranksFrom 0 cs
+    ∷ []
+
 unfoldable pub linesFormed : Hierarchy → Bool
 linesFormed b = every (λ t. t) (lineClauses b)
 
 unfoldable pub queuesFormed : Queues → Hierarchy → Bool
 queuesFormed q b = every (λ t. t) (queueClauses q b)
 
+unfoldable pub checkpointsFormed : ℕ → ℕ → List Checkpoint → Bool
+checkpointsFormed h last cs = every (λ t. t) (checkpointClauses h last cs)
+
 -- "A state is well formed when: .."
 unfoldable pub wellFormed : Queues → Hierarchy → Bool
-wellFormed q b = fits b && (linesFormed b && queuesFormed q b)
+wellFormed q b =
+    fits b && (linesFormed b && (queuesFormed q b && checkpointsFormed (q .committed) (q .last) (q .checkpoints)))

@@ -1,7 +1,7 @@
-// The declared types of the load/store model: figures, a tag record, an entry of each queue, and the miss register; and the numbers
-// that every crate names. The rules over them stand in specs/, and what is claimed of the rules is promised here by functions that do
-// nothing.
-ghost use Rattle.rules.specs.Claims.{RefusedCallsKeep, RefusalsExact, RefusalTableHolds, NumbersGiven, DroppedStretches, KeptWellFormed, ValuesAreRight, WaitsAreExact, FlushesAreExact, FlatMemoryIsKept, WordsAreExact};
+// The declared types of the load/store model: figures, a tag record, an entry of each queue, a checkpoint, and the miss register; and
+// the numbers that every crate names. The rules over them stand in specs/, and what is claimed of the rules is promised here by
+// functions that do nothing.
+ghost use Rattle.rules.specs.Claims.{RefusedCallsKeep, RefusalsExact, RefusalTableHolds, NumbersGiven, DroppedStretches, RestoredStretches, CheckpointsAreExact, KeptWellFormed, ValuesAreRight, WaitsAreExact, FlushesAreExact, FlatMemoryIsKept, WordsAreExact};
 
 // The figures of a store that a start chooses. (02, card 1: "A start may choose this profile.")
 pub struct Figures {
@@ -39,6 +39,15 @@ pub struct LoadEntry {
     pub address: u32,
     pub width: u32,
     pub waiting: bool,
+}
+
+// A checkpoint (02, card 3: a branch mark): its name, the next operation number when it was set, and its rank by order of setting, from 1.
+// A free place is all zero. (It is laid out as in C, without padding: the image of a state has it as it is.)
+#[repr(C)]
+pub struct Checkpoint {
+    pub name: u32,
+    pub number: u32,
+    pub rank: u32,
 }
 
 // The miss register (01: the request register): free, or the line that it names.
@@ -84,10 +93,15 @@ pub const STORE_PLACES: usize = 16;
 
 pub const LOAD_PLACES: usize = 8;
 
+// 02, card 3: "A mark has a name 1 to 8": the greatest name, and a place for each.
+pub const CHECKPOINT_NAMES: u32 = 8;
+
+pub const CHECKPOINT_PLACES: usize = 8;
+
 // The last operation number of 32 bits.
 pub const TOP_NUMBER: u32 = 4294967295;
 
-// ---- refusals, by 01's numbers
+// ---- refusals, by the papers' numbers
 
 // sets, ways, memory or cache length is not allowed, or a lent length disagrees with the state
 pub const BAD_FIGURES: u32 = 1;
@@ -119,6 +133,12 @@ pub const BAD_ABORT: u32 = 16;
 pub const NOTHING_REQUESTED: u32 = 17;
 // flush: a committed store is held
 pub const COMMITTED_STORE_HELD: u32 = 18;
+// 02, card 3: name outside 1 to 8
+pub const BAD_NAME: u32 = 19;
+// set, name in use
+pub const NAME_IN_USE: u32 = 20;
+// return, name not in use, or set when last is 4294967295
+pub const CHECKPOINT_UNAVAILABLE: u32 = 21;
 
 // ---- free places, unused records: "all zero"
 
@@ -134,6 +154,12 @@ pub const NO_LOAD: LoadEntry = LoadEntry {
     address: 0,
     width: 0,
     waiting: false,
+};
+
+pub const NO_CHECKPOINT: Checkpoint = Checkpoint {
+    name: 0,
+    number: 0,
+    rank: 0,
 };
 
 pub const NO_TAG: Tag = Tag {
@@ -167,7 +193,8 @@ pub fn refusal_table()
     ensures { λ r. ⌜ RefusalTableHolds ⌝ }
 {}
 
-// The next operation number is 1 after a start, rises by 1 with each accepted load or store, and becomes n with an accepted abort n.
+// The next operation number is 1 after a start, rises by 1 with each accepted load or store, and becomes n with an accepted abort n
+// or return to a mark that remembers n.
 pub fn numbers_given()
     ensures { λ r. ⌜ NumbersGiven ⌝ }
 {}
@@ -175,6 +202,18 @@ pub fn numbers_given()
 // Demand 3: a dropped stretch leaves no trace.
 pub fn dropped_stretches()
     ensures { λ r. ⌜ DroppedStretches ⌝ }
+{}
+
+// 02, card 3: a stretch from setting a mark to the accepted return to it leaves no trace, when its set and return calls are struck too.
+pub fn restored_stretches()
+    ensures { λ r. ⌜ RestoredStretches ⌝ }
+{}
+
+// 02, card 3: a setting adds a mark with the next operation number and the next rank; a return does what the abort at its number does,
+// and forgets it and all set later; an abort n forgets the marks above n; a commit those at or below h, and lowers the ranks of the
+// others by their number. No other call touches a mark, and one function ranks them after each change.
+pub fn checkpoints_exact()
+    ensures { λ r. ⌜ CheckpointsAreExact ⌝ }
 {}
 
 // An accepted start leaves a well-formed state, and every call on a well-formed state leaves one; so no call of a run after a start
@@ -198,7 +237,7 @@ pub fn flush_exact()
     ensures { λ r. ⌜ FlushesAreExact ⌝ }
 {}
 
-// Demand 2: flat memory of a state changes by accepted stores and aborts alone.
+// Demand 2: flat memory of a state changes by accepted stores, aborts and returns alone.
 pub fn flat_memory_kept()
     ensures { λ r. ⌜ FlatMemoryIsKept ⌝ }
 {}

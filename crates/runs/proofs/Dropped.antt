@@ -1,27 +1,33 @@
 -- Demand 3 for runs of the code: a run of the code is a run of the rules, and a machine is known by its world.
 use Prim.Native.Nat.{ℕ, _<_}
 use mathlib.Core.Path.{_≡_, refl, sym, _∙_, ap, ap₂, subst}
-use mathlib.Core.Bool.{Bool, true, false}
+use mathlib.Core.Bool.{Bool, true, false, not}
 use mathlib.Core.List.{List, [], _∷_, _++_, map}
 use lib.Dec.{T, ltb→lt}
-use Rattle.lists.specs.Padded.{select}
+use borrow.Author.Tests.{eqb-true}
+use Rattle.lists.specs.Padded.{every, select}
 use Rattle.lists.proofs.Cond.{truth}
 use Rattle.rules.specs.Shape.{World}
 use Rattle.rules.specs.Calls as rules
 use Rattle.rules.specs.Calls.{isAccepted}
-use Rattle.rules.specs.Runs.{answer, after, answers, started}
-use Rattle.rules.specs.Dropped.{Dropped, abortsBelow, NoAbortBelow, NoTrace, struck}
+use Rattle.rules.specs.Runs.{answer, next, after, answers, started}
+use Rattle.rules.specs.Dropped.{Dropped, Restored, abortsBelow, isCheckpointCall, setsCheckpoint, NoneAccepted, NoTrace, struck, struckToo}
 use Rattle.rules.proofs.Dropped.{dropped-stretch}
+use Rattle.rules.proofs.Restored.{restored-stretch}
 use Rattle.rules.proofs.Kept.{start-leaves}
-use Rattle.model.specs.State.{callOf}
+use Rattle.model.specs.State.{callOf, answerOf}
 use Rattle.model.specs.declared.Call.{Call}
-use Rattle.model.specs.declared.Call.the-variants.{Load, Store, Retry, Commit, Abort, Idle, Reply, Flush, Show}
+use Rattle.model.specs.declared.Call.the-variants.{Load, Store, Retry, Commit, Abort, Idle, Reply, Flush, Show, Checkpoint, Restore}
 use Rattle.model.specs.declared.Answer.{Answer}
 use Rattle.runs.specs.Machines.{Machine, Made, RunFrom, StartMade, AcceptedStart, worldAt, left, end, callMade, acceptedCall, callsOf, answersOf, startLeft, EachMade}
-use Rattle.runs.specs.Dropped.{DroppedFor, remainingOf, gaveAll, NoTraceFrom, DroppedOfCode}
-use Rattle.runs.proofs.Machines.{machine-of, answerAs, Follows, follows, ends, answers-are, calls-append, run-first, run-rest, Reached, reached, start-ready}
+use Rattle.runs.specs.Dropped.{DroppedFor, RestoredTo, remainingOf, gaveAll, NoTraceOf, LeavesNoTrace, DroppedOfCode, RestoredOfCode}
+use Rattle.runs.proofs.Machines.{machine-of, answerAs, Follows, follows, follows-as, ends, answers-are, calls-append, run-first, run-rest, Reached, reached, start-ready}
 
 -- ---- a stretch of the code that is dropped is dropped in the rules
+
+-- what holds of each call of a stretch holds of each after the first
+later-made : (c : Made) (cs : List Made) (P : List Made → Made → Type 0) → EachMade (c ∷ cs) P → EachMade cs (λ before. P (c ∷ before))
+later-made c cs P h before d later e = h (c ∷ before) d later (ap (λ (l : List Made). c ∷ l) e)
 
 -- an abort naming less than n
 record AbortBelow (n : ℕ) (j : Call) : Type 0 where
@@ -39,24 +45,42 @@ abort-below n Idle t = absurd t
 abort-below n Reply t = absurd t
 abort-below n Flush t = absurd t
 abort-below n (Show a) t = absurd t
+abort-below n (Checkpoint x) t = absurd t
+abort-below n (Restore x) t = absurd t
 
--- no accepted abort of the stretch names less than n
-abbrev NoneBelow : ℕ → List Made → Type 0
-NoneBelow n stretch = EachMade stretch (λ before c. (k : ℕ) → c .call ≡ Abort k → acceptedCall c ≡ true → k < n → ⊥)
-
-none-below : (n : ℕ) (m : Machine) (stretch : List Made) → RunFrom m stretch → NoneBelow n stretch → NoAbortBelow n (callsOf stretch) (worldAt m)
-none-below n m [] r a = tt
-none-below n m (c ∷ cs) r a = (
-  λ b t. here (abort-below n (c .call) b) t,
-  subst (NoAbortBelow n (callsOf cs)) (f .leaves)
-      (none-below n (left c) cs (r .1) (λ before d later e. a (c ∷ before) d later (ap (λ (l : List Made). c ∷ l) e))),
+-- no call of a stretch that passes the test is accepted
+none-accepted :
+    (test : rules.Call → Bool) (m : Machine) (stretch : List Made) → RunFrom m stretch
+    → EachMade stretch (λ before c. T (test (callMade c)) → acceptedCall c ≡ true → ⊥) → NoneAccepted test (callsOf stretch) (worldAt m)
+none-accepted test m [] r a = tt
+none-accepted test m (c ∷ cs) r a = (
+  λ b t. a [] c cs refl b (ap isAccepted (f .answers) ∙ truth _ t),
+  subst (NoneAccepted test (callsOf cs)) (f .leaves) (none-accepted test (left c) cs (r .1) (later-made c cs _ a)),
 )
   where
     f : Follows (callMade c) m c
     f = follows m c (r .0)
 
-    here : AbortBelow n (c .call) → T (isAccepted (answer (callMade c) (worldAt m))) → ⊥
-    here b t = a [] c cs refl (b .names) (b .call-is) (ap isAccepted (f .answers) ∙ truth _ t) (b .less)
+-- no set or return call is in it
+silent : (j : Call) → ((x : ℕ) → (j ≡ Checkpoint x → ⊥) × (j ≡ Restore x → ⊥)) → isCheckpointCall (callOf j) ≡ false
+silent (Load a w) h = refl
+silent (Store a w v) h = refl
+silent (Retry i) h = refl
+silent (Commit k) h = refl
+silent (Abort n) h = refl
+silent Idle h = refl
+silent Reply h = refl
+silent Flush h = refl
+silent (Show a) h = refl
+silent (Checkpoint x) h = absurd (h x .0 refl)
+silent (Restore x) h = absurd (h x .1 refl)
+
+all-silent :
+    (stretch : List Made) → EachMade stretch (λ before c. (x : ℕ) → (c .call ≡ Checkpoint x → ⊥) × (c .call ≡ Restore x → ⊥))
+    → every (λ c. not (isCheckpointCall c)) (callsOf stretch) ≡ true
+unfolding every
+all-silent [] h = refl
+all-silent (c ∷ cs) h = rw (silent (c .call) (h [] c cs refl)) (all-silent cs (later-made c cs _ h))
 
 dropped-as : (n : ℕ) (m : Machine) (stretch : List Made) → RunFrom m stretch → DroppedFor n m stretch → Dropped n (callsOf stretch) (worldAt m)
 dropped-as n m stretch r d = record {
@@ -65,7 +89,10 @@ dropped-as n m stretch r d = record {
   ends = ap callsOf (d .ends) ∙ calls-append (d .body) (d .final ∷ []) ∙ ap (λ (k : rules.Call). callsOf (d .body) ++ k ∷ []) aborts-n;
   accepted =
       subst T (sym (d .passes) ∙ ap isAccepted (at .answers-there) ∙ ap (λ (k : rules.Call). isAccepted (answer k (after (callsOf (d .body)) (worldAt m)))) aborts-n) tt;
-  above = none-below n m stretch r (d .above);
+  above =
+      none-accepted (abortsBelow n) m stretch r
+      (λ before c later e b. let k = abort-below n (c .call) b in λ t. d .above before c later e (k .names) (k .call-is) t (k .less));
+  quiet = all-silent stretch (d .quiet);
 }
   where
     at : Reached m (d .body) (d .final)
@@ -73,6 +100,60 @@ dropped-as n m stretch r d = record {
 
     aborts-n : callMade (d .final) ≡ rules.abort n
     aborts-n = ap callOf (d .aborts)
+
+-- ---- a stretch of the code to the return to a mark is one in the rules
+
+set-again : (x : ℕ) (j : Call) → T (setsCheckpoint x (callOf j)) → j ≡ Checkpoint x
+set-again x (Load a w) t = absurd t
+set-again x (Store a w v) t = absurd t
+set-again x (Retry i) t = absurd t
+set-again x (Commit k) t = absurd t
+set-again x (Abort n) t = absurd t
+set-again x Idle t = absurd t
+set-again x Reply t = absurd t
+set-again x Flush t = absurd t
+set-again x (Show a) t = absurd t
+set-again x (Checkpoint y) t = ap Checkpoint (eqb-true y x (truth _ t))
+set-again x (Restore y) t = absurd t
+
+module _ (x n : ℕ) (m : Machine) (stretch : List Made) (r : RunFrom m stretch) (d : RestoredTo x n m stretch) where
+  set-is : callMade (d .first) ≡ rules.checkpoint x
+  set-is = ap callOf (d .sets)
+
+  return-is : callMade (d .final) ≡ rules.restore x
+  return-is = ap callOf (d .returns)
+
+  -- the stretch, as it was made
+  made : RunFrom m (d .first ∷ (d .body ++ d .final ∷ []))
+  made = subst (RunFrom m) (d .shape) r
+
+  f : Follows (rules.checkpoint x) m (d .first)
+  f = follows-as m (d .first) (follows m (d .first) (made .0)) (Checkpoint x) (d .sets)
+
+  at : Reached m (d .first ∷ d .body) (d .final)
+  at = reached m stretch r (d .first ∷ d .body) (d .final) [] (d .shape)
+
+  -- the world after the setting
+  set-left : worldAt (left (d .first)) ≡ next (rules.checkpoint x) (worldAt m)
+  set-left = f .leaves
+
+  restored-as : Restored x n (callsOf stretch) (worldAt m)
+  unfolding after
+  restored-as = record {
+    body = callsOf (d .body);
+    shape =
+        ap callsOf (d .shape)
+        ∙ ap₂ (λ (k : rules.Call) (l : List rules.Call). k ∷ l) set-is
+        (calls-append (d .body) (d .final ∷ []) ∙ ap (λ (k : rules.Call). callsOf (d .body) ++ k ∷ []) return-is);
+    sets = sym (f .answers) ∙ ap (λ (a : Answer). answerOf a (d .first .cache)) (d .remembers);
+    returns =
+        subst T (sym (d .accepted) ∙ ap isAccepted (at .answers-there)
+        ∙ ap₂ (λ (k j : rules.Call). isAccepted (answer j (after (callsOf (d .body)) (next k (worldAt m))))) set-is return-is) tt;
+    set-once =
+        subst (NoneAccepted (setsCheckpoint x) (callsOf (d .body))) set-left
+        (none-accepted (setsCheckpoint x) (left (d .first)) (d .body) (run-first (left (d .first)) (d .body) (d .final ∷ []) (made .1))
+        (λ before c later e b. d .set-once before c later e (set-again x (c .call) b)));
+  }
 
 -- ---- no trace
 
@@ -91,54 +172,58 @@ select-map f (k ∷ ks) [] = refl
 select-map f (true ∷ ks) (x ∷ xs) = ap (λ l. f x ∷ l) (select-map f ks xs)
 select-map f (false ∷ ks) (x ∷ xs) = select-map f ks xs
 
-pub dropped-from : (m : Machine) → NoTraceFrom m m
-dropped-from m n pre stretch post rest run d other e =
-    record {
-      same-answers =
-          ap (select marks) (gave-are m whole run) ∙ select-map answerAs marks (answersOf whole)
-          ∙ ap (map answerAs) same ∙ sym (gave-are m rest other);
-      same-parts = same;
-      same-end = machine-of (end m whole) (end m rest) (whole-ends ∙ no-trace .same-end ∙ sym rest-ends);
-    }
-  where
-    whole : List Made
-    whole = pre ++ (stretch ++ post)
+-- a stretch of the code that is one in the rules, where it leaves no trace
+module _ (Stretch : Machine → List Made → Type 0) (strike : rules.Call → Bool) (Ruled : List rules.Call → World → Type 0)
+    (judged : (m : Machine) (stretch : List Made) → RunFrom m stretch → Stretch m stretch → Ruled (callsOf stretch) (worldAt m))
+    (ruled : (w : World) (pre stretch post : List rules.Call) → Ruled stretch (after pre w) → NoTrace strike pre stretch post w) where
+  no-trace-from : (m : Machine) → NoTraceOf Stretch strike m m
+  no-trace-from m pre stretch post rest run d other e =
+      record {
+        same-answers =
+            ap (select remains) (gave-are m whole run) ∙ select-map answerAs remains (answersOf whole)
+            ∙ ap (map answerAs) same ∙ sym (gave-are m rest other);
+        same-parts = same;
+        same-end = machine-of (end m whole) (end m rest) (whole-ends ∙ no-trace .same-end ∙ sym rest-ends);
+      }
+    where
+      whole : List Made
+      whole = pre ++ (stretch ++ post)
 
-    w : World
-    w = worldAt m
+      w : World
+      w = worldAt m
 
-    marks : List Bool
-    marks = remainingOf n pre stretch post
+      remains : List Bool
+      remains = remainingOf strike pre stretch post
 
-    calls : List rules.Call
-    calls = callsOf pre ++ (callsOf stretch ++ callsOf post)
+      calls : List rules.Call
+      calls = callsOf pre ++ (callsOf stretch ++ callsOf post)
 
-    parted : callsOf whole ≡ calls
-    parted = calls-append pre (stretch ++ post) ∙ ap (λ (l : List rules.Call). callsOf pre ++ l) (calls-append stretch post)
+      parted : callsOf whole ≡ calls
+      parted = calls-append pre (stretch ++ post) ∙ ap (λ (l : List rules.Call). callsOf pre ++ l) (calls-append stretch post)
 
-    chosen : callsOf rest ≡ select marks calls
-    chosen = e ∙ ap (select marks) parted
+      chosen : callsOf rest ≡ select remains calls
+      chosen = e ∙ ap (select remains) parted
 
-    no-trace : NoTrace (struck n) (callsOf pre) (callsOf stretch) (callsOf post) w
-    no-trace =
-        dropped-stretch w n (callsOf pre) (callsOf stretch) (callsOf post)
-        (subst (Dropped n (callsOf stretch)) (ends m pre (run-first m pre (stretch ++ post) run))
-        (dropped-as n (end m pre) stretch (run-first (end m pre) stretch post (run-rest m pre (stretch ++ post) run)) d))
+      no-trace : NoTrace strike (callsOf pre) (callsOf stretch) (callsOf post) w
+      no-trace =
+          ruled w (callsOf pre) (callsOf stretch) (callsOf post)
+          (subst (Ruled (callsOf stretch)) (ends m pre (run-first m pre (stretch ++ post) run))
+          (judged (end m pre) stretch (run-first (end m pre) stretch post (run-rest m pre (stretch ++ post) run)) d))
 
-    whole-ends : worldAt (end m whole) ≡ after calls w
-    whole-ends = ends m whole run ∙ ap (λ (cs : List rules.Call). after cs w) parted
+      whole-ends : worldAt (end m whole) ≡ after calls w
+      whole-ends = ends m whole run ∙ ap (λ (cs : List rules.Call). after cs w) parted
 
-    rest-ends : worldAt (end m rest) ≡ after (select marks calls) w
-    rest-ends = ends m rest other ∙ ap (λ (cs : List rules.Call). after cs w) chosen
+      rest-ends : worldAt (end m rest) ≡ after (select remains calls) w
+      rest-ends = ends m rest other ∙ ap (λ (cs : List rules.Call). after cs w) chosen
 
-    whole-answers : answersOf whole ≡ answers calls w
-    whole-answers = answers-are m whole run ∙ ap (λ (cs : List rules.Call). answers cs w) parted
+      whole-answers : answersOf whole ≡ answers calls w
+      whole-answers = answers-are m whole run ∙ ap (λ (cs : List rules.Call). answers cs w) parted
 
-    rest-answers : answersOf rest ≡ answers (select marks calls) w
-    rest-answers = answers-are m rest other ∙ ap (λ (cs : List rules.Call). answers cs w) chosen
+      rest-answers : answersOf rest ≡ answers (select remains calls) w
+      rest-answers = answers-are m rest other ∙ ap (λ (cs : List rules.Call). answers cs w) chosen
 
-    same : select marks (answersOf whole) ≡ answersOf rest
-    same = ap (select marks) whole-answers ∙ no-trace .same-answers ∙ sym rest-answers
+      same : select remains (answersOf whole) ≡ answersOf rest
+      same = ap (select remains) whole-answers ∙ no-trace .same-answers ∙ sym rest-answers
 
 -- ---- after a start
 
@@ -149,8 +234,19 @@ started-at s a = a .promised .1 ∙ start-leaves (s .figures) (s .found) (s .mem
 same-start : (s t : StartMade) → AcceptedStart s → AcceptedStart t → s .figures ≡ t .figures → s .memory ≡ t .memory → startLeft s ≡ startLeft t
 same-start s t a b f e = machine-of (startLeft s) (startLeft t) (started-at s a ∙ ap₂ started f e ∙ sym (started-at t b))
 
+module _ (Stretch : Machine → List Made → Type 0) (strike : rules.Call → Bool) where
+  no-trace-left : ((m : Machine) → NoTraceOf Stretch strike m m) → LeavesNoTrace Stretch strike
+  no-trace-left h = record {
+    from-any = h;
+    after-start = λ s t a b f e. subst (NoTraceOf Stretch strike (startLeft s)) (same-start s t a b f e) (h (startLeft s));
+  }
+
 pub dropped-of-code : DroppedOfCode
-dropped-of-code = record {
-  from-any = dropped-from;
-  after-start = λ s t a b f e. subst (NoTraceFrom (startLeft s)) (same-start s t a b f e) (dropped-from (startLeft s));
-}
+dropped-of-code n =
+    no-trace-left (DroppedFor n) (struck n)
+    (no-trace-from (DroppedFor n) (struck n) (Dropped n) (dropped-as n) (λ w. dropped-stretch w n))
+
+pub restored-of-code : RestoredOfCode
+restored-of-code x n =
+    no-trace-left (RestoredTo x n) (struckToo n)
+    (no-trace-from (RestoredTo x n) (struckToo n) (Restored x n) (restored-as x n) (λ w. restored-stretch w x n))

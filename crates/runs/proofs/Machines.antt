@@ -16,7 +16,7 @@ use Rattle.model.specs.State.{bytesFrom, outcomeOf, answerOf, callOf}
 use Rattle.model.specs.Starts.{startAnswerOf}
 use Rattle.model.specs.declared.Call as code
 use Rattle.model.specs.declared.Answer as codes
-use Rattle.model.specs.declared.Answer.the-variants.{Refused, Stored, Value, Waits, Committed, Kept, Drained, Requested, Idled, Filled, Flushed, Shown}
+use Rattle.model.specs.declared.Answer.the-variants.{Refused, Stored, Value, Waits, Committed, Kept, Drained, Requested, Idled, Filled, Flushed, Shown, Checkpointed}
 use Rattle.runs.specs.Machines.{Machine, Made, StartMade, AcceptedStart, worldAt, left, AsPromised, callMade, answerGiven, RunFrom, end, callsOf, answersOf, historyBy, EachMade, EveryCall, startLeft, RunClaim, RunsAfterStart, RunsFromState}
 
 -- ---- a machine and its world
@@ -32,6 +32,7 @@ machineAt w = record {
     request = w .queues .request;
     stores = w .queues .stores;
     loads = w .queues .loads;
+    checkpoints = w .queues .checkpoints;
     tags = w .hierarchy .tags;
   };
   cache = w .hierarchy .cache;
@@ -58,6 +59,7 @@ answerAs rules.idled = Idled
 answerAs (rules.filled a) = Filled a
 answerAs (rules.flushed k) = Flushed k
 answerAs (rules.shown p bs) = Shown p (length bs)
+answerAs (rules.checkpointed n) = Checkpointed n
 
 length-bytes : (p n : ℕ) (cache : List ℕ) → length (bytesFrom p n cache) ≡ n
 unfolding bytesFrom
@@ -77,6 +79,7 @@ answer-back Idled cache = refl
 answer-back (Filled a) cache = refl
 answer-back (Flushed k) cache = refl
 answer-back (Shown p n) cache = ap (Shown p) (sym (length-bytes p n cache))
+answer-back (Checkpointed n) cache = refl
 
 -- ---- one call
 

@@ -18,7 +18,7 @@ use Rattle.rules.proofs.Flush.{flush-counts, flushes-after-start, flushes-from-
 use Rattle.rules.proofs.FlatCalls.{flat-call}
 use Rattle.model.specs.State.{answerOf, callOf}
 use Rattle.model.specs.declared.Call.{Call}
-use Rattle.model.specs.declared.Call.the-variants.{Load, Store, Retry, Commit, Abort, Idle, Reply, Flush, Show}
+use Rattle.model.specs.declared.Call.the-variants.{Load, Store, Retry, Commit, Abort, Idle, Reply, Flush, Show, Checkpoint, Restore}
 use Rattle.model.specs.declared.Answer as code
 use Rattle.runs.specs.Machines.{Machine, Made, worldAt, left, callMade, callsOf}
 use Rattle.runs.specs.Values.{EachValueRight, GivesWaits, LoadGivesWaits, RetryGivesWaits, EachInquiryRight, FlushMade, EachFlushRight, FlatMoves, FlatMoved, FlatAtEnd, ValuesOfCode, WaitsOfCode, FlushesOfCode, FlatMemoryOfCode}
@@ -140,6 +140,8 @@ flat-moves Idle m d e f = ap flatWithHeld e ∙ f
 flat-moves Reply m d e f = ap flatWithHeld e ∙ f
 flat-moves Flush m d e f = ap flatWithHeld e ∙ f
 flat-moves (Show a) m d e f = ap flatWithHeld e ∙ f
+flat-moves (Checkpoint x) m d e f = ap flatWithHeld e ∙ f
+flat-moves (Restore x) m d e f = (ap (λ (w : World). flatOf (w .hierarchy)) e ∙ f .0, ap heldStores e ∙ f .1)
 
 flat-given : (m : Machine) (c : Made) → Follows (callMade c) m c → FlatMoved m c
 flat-given m c f t =

@@ -6,17 +6,18 @@ use mathlib.Core.List.{List, [], _∷_, _++_}
 use Rattle.lists.specs.Padded.{filter}
 use Rattle.rules.specs.Shape.{tagAt}
 use Rattle.rules.specs.Lines.{dirtyWords}
+use Rattle.rules.specs.Checkpoints.{numberOf}
 use Rattle.rules.specs.Flat.{below, flatOf, applied, appliedAll, heldStores, flatWithHeld, flatCommitted}
 use Rattle.rules.specs.Values.{RightValue, lacksByte, waitingLoad, InquiryAbout, dirtyInUse}
 use Rattle.model.specs.declared.Call.{Call}
-use Rattle.model.specs.declared.Call.the-variants.{Load, Store, Retry, Commit, Abort, Idle, Reply, Flush, Show}
+use Rattle.model.specs.declared.Call.the-variants.{Load, Store, Retry, Commit, Abort, Idle, Reply, Flush, Show, Checkpoint, Restore}
 use Rattle.model.specs.declared.Answer.the-variants.{Value, Waits, Flushed}
 use Rattle.runs.specs.Machines.{Machine, Made, worldAt, numberAt, left, end, callMade, acceptedCall, historyBy, EachMade, EveryCall, RunClaim, RunsAfterStart, RunsFromState}
 
 -- ---- every value is right, at its time
 
 -- a value v that the code answers as operation i is what flat memory holds at the bytes of load i: memory as found with the stores
--- applied that the run made before operation i and did not abort
+-- applied that the run made before operation i and dropped by no abort or return
 abbrev pub EachValueRight : RunClaim
 EachValueRight found h m run =
     EachMade run (λ before c. (i v : ℕ) → c .gave .answer ≡ Value i v → RightValue found (historyBy h (before ++ c ∷ [])) (callMade c) i v)
@@ -90,6 +91,11 @@ pub record FlushesOfCode : Type 0 where
 abbrev pub flatAt : Machine → List ℕ
 flatAt m = flatWithHeld (worldAt m)
 
+-- the held stores numbered n or more are dropped, and flat memory below them stays
+abbrev pub DropsFrom : ℕ → Machine → Machine → Type 0
+DropsFrom n m d =
+    (flatOf (worldAt d .hierarchy) ≡ flatOf (worldAt m .hierarchy)) × (heldStores (worldAt d) ≡ filter (below n) (heldStores (worldAt m)))
+
 -- what an accepted call on m that leaves d does to it: a store gains itself,
 abbrev pub FlatMoves : Call → Machine → Machine → Type 0
 FlatMoves (Load a n) m d = flatAt d ≡ flatAt m
@@ -98,18 +104,20 @@ FlatMoves (Store a n v) m d =
 FlatMoves (Retry i) m d = flatAt d ≡ flatAt m
 FlatMoves (Commit k) m d = flatAt d ≡ flatAt m
 -- an abort drops the held stores numbered n or more,
-FlatMoves (Abort n) m d =
-    (flatOf (worldAt d .hierarchy) ≡ flatOf (worldAt m .hierarchy)) × (heldStores (worldAt d) ≡ filter (below n) (heldStores (worldAt m)))
+FlatMoves (Abort n) m d = DropsFrom n m d
+-- a return (02, card 3) those from the number on that its mark remembers,
+FlatMoves (Restore x) m d = DropsFrom (numberOf x (worldAt m .queues .checkpoints)) m d
 -- and every other call leaves it as it was
 FlatMoves Idle m d = flatAt d ≡ flatAt m
 FlatMoves Reply m d = flatAt d ≡ flatAt m
 FlatMoves Flush m d = flatAt d ≡ flatAt m
 FlatMoves (Show a) m d = flatAt d ≡ flatAt m
+FlatMoves (Checkpoint x) m d = flatAt d ≡ flatAt m
 
 abbrev pub FlatMoved : Machine → Made → Type 0
 FlatMoved m c = acceptedCall c ≡ true → FlatMoves (c .call) m (left c)
 
--- after a run it is memory as found with every store of the run applied that is not aborted
+-- after a run it is memory as found with every store of the run applied that no abort or return has dropped
 abbrev pub FlatAtEnd : RunClaim
 FlatAtEnd found h m run = flatAt (end m run) ≡ appliedAll (historyBy h run .stores) found
 

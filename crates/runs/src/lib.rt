@@ -6,7 +6,7 @@ ghost use Rattle.runs.specs.Values.{ValuesOfCode, WaitsOfCode, FlushesOf
 ghost use Rattle.runs.specs.Kept.{KeptOfCode, AdmittedOfCode};
 ghost use Rattle.runs.specs.Refusals.{RefusalsOfCode, RefusedOfCode};
 ghost use Rattle.runs.specs.Numbers.{NumbersOfCode};
-ghost use Rattle.runs.specs.Dropped.{DroppedOfCode};
+ghost use Rattle.runs.specs.Dropped.{DroppedOfCode, RestoredOfCode};
 use model::Call;
 use model::Started;
 use model::State;
@@ -46,7 +46,7 @@ pub fn flushes_of_code()
     ensures { λ r. ⌜ FlushesOfCode ⌝ }
 {}
 
-// Flat memory changes by accepted stores and aborts alone.
+// Flat memory changes by accepted stores, aborts and returns alone.
 pub fn flat_memory_of_code()
     ensures { λ r. ⌜ FlatMemoryOfCode ⌝ }
 {}
@@ -56,6 +56,11 @@ pub fn flat_memory_of_code()
 // A dropped stretch leaves no trace.
 pub fn dropped_of_code()
     ensures { λ r. ⌜ DroppedOfCode ⌝ }
+{}
+
+// 02, card 3: a stretch from setting a mark to the accepted return to it leaves no trace, when its set and return calls are struck too.
+pub fn restored_of_code()
+    ensures { λ r. ⌜ RestoredOfCode ⌝ }
 {}
 
 // ---- the state, refusals and numbers
@@ -80,7 +85,8 @@ pub fn refused_of_code()
     ensures { λ r. ⌜ RefusedOfCode ⌝ }
 {}
 
-// The next operation number is 1 after a start, rises by 1 with each accepted load or store, and becomes n with an accepted abort n.
+// The next operation number is 1 after a start, rises by 1 with each accepted load or store, and becomes n with an accepted abort n
+// or return to a mark that remembers n.
 pub fn numbers_of_code()
     ensures { λ r. ⌜ NumbersOfCode ⌝ }
 {}

@@ -10,7 +10,7 @@ use Rattle.lists.proofs.Cond.{either}
 use Rattle.rules.specs.Shape.{Queues, Hierarchy, slots, lineOf, noLoad}
 use Rattle.rules.specs.Lines.{present, useSlot, useLine, putStore, writeStore, writeBackSlot, writeBackAll, install, fillLine}
 use Rattle.rules.specs.Forward.{loadValue}
-use Rattle.rules.specs.Calls.{Call, Outcome, load, store, retry, commit, abort, idle, reply, flush, show, loadRule, storeRule, waitingAt, answeredBy, answerLoad, retryWith, retryRule, useEach, commitRule, abortRule, oldestStore, canDrain, canRequestLoad, canRequestStore, idleRule, replyRule, flushRule, showRule, rule}
+use Rattle.rules.specs.Calls.{Call, Outcome, load, store, retry, commit, abort, idle, reply, flush, show, checkpoint, restore, loadRule, storeRule, waitingAt, answeredBy, answerLoad, retryWith, retryRule, useEach, commitRule, abortRule, checkpointRule, restoreRule, oldestStore, canDrain, canRequestLoad, canRequestStore, idleRule, replyRule, flushRule, showRule, rule}
 use Rattle.rules.specs.Runs.{outcome}
 use Rattle.rules.specs.declared.LoadEntry.{LoadEntry}
 use Rattle.rules.specs.declared.StoreEntry.{StoreEntry}
@@ -55,7 +55,7 @@ module _ (q : Queues) (b : Hierarchy) where
   retried i l (some v) = either Keeps (leb i (q .committed)) (λ _. use-line (lineOf (l .address)) b) (λ _. same b)
 
   ruled : (c : Call) → Keeps (rule c q b)
-  unfolding loadRule storeRule retryRule commitRule abortRule idleRule replyRule flushRule showRule useSlot fillLine install writeBackSlot writeBackAll
+  unfolding loadRule storeRule retryRule commitRule abortRule checkpointRule restoreRule idleRule replyRule flushRule showRule useSlot fillLine install writeBackSlot writeBackAll
   ruled (load a w) = same b
   ruled (store a w v) = same b
   ruled (retry i) =
@@ -69,6 +69,8 @@ module _ (q : Queues) (b : Hierarchy) where
   ruled reply = record { figures = refl; size = refl }
   ruled flush = write-backs (slots b) 0 b
   ruled (show a) = same b
+  ruled (checkpoint x) = same b
+  ruled (restore x) = same b
 
   pub figures-kept : (c : Call) → SameFigures b (outcome c q b .hierarchy)
   figures-kept c = outcome-by c q b Keeps (λ k. same b) (λ _ _ _. ruled c)

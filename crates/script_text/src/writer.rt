@@ -101,6 +101,7 @@ fn say(out: &mut [u8], at: usize, a: Answer) -> usize
         Answer::Filled(address) => say_one(out, at, b"filled", address),
         Answer::Flushed(n) => say_one(out, at, b"flushed", n),
         Answer::Shown(_, _) => at,
+        Answer::Checkpointed(_) => at,
     }
 }
 

@@ -8,13 +8,15 @@ pub const LAST: usize = 16;
 pub const COMMITTED: usize = 20;
 pub const REQUESTED: usize = 24;
 pub const REQUESTED_LINE: usize = 28;
-/// The queues and the tag records, one after the other.
+/// The queues, the checkpoints and the tag records, one after the other.
 pub const STORES_AT: usize = 32;
 pub const LOADS_AT: usize = 288;
-pub const TAGS_AT: usize = 416;
+pub const CHECKPOINTS_AT: usize = 416;
+pub const TAGS_AT: usize = 512;
 
-/// Bytes of a place of a queue and of a tag record.
+/// Bytes of a place of a queue, of a checkpoint and of a tag record.
 pub const ENTRY: usize = 16;
+pub const CHECKPOINT: usize = 12;
 pub const TAG: usize = 6;
 
 /// In a place of a queue: behind its number.
@@ -22,6 +24,10 @@ pub const ADDRESS: usize = 4;
 pub const WIDTH: usize = 8;
 pub const VALUE: usize = 12;
 pub const WAITING: usize = 12;
+
+/// In a checkpoint: behind its name.
+pub const NUMBER: usize = 4;
+pub const RANK: usize = 8;
 
 /// In a tag record: behind its valid flag, the dirty marks first.
 pub const DIRTY: usize = 1;

@@ -3,19 +3,21 @@
 #![allow(dead_code)]
 
 pub mod layout;
+pub mod refused;
 
 use compare::check;
 use compare::counts::{Counts, Needed};
 use compare::model::{Machine, Right};
 use compare::random::{self, Rng, Run};
 use compare::types::{
-    Answer, Call, Figures, LoadEntry, Part, Request, Setup, State, StoreEntry, Tag, WritePolicy,
+    Answer, Call, Checkpoint, Figures, LoadEntry, Part, Request, Setup, State, StoreEntry, Tag,
+    WritePolicy,
 };
 use layout::{
-    COMMITTED, ENTRY, LAST, LOADS_AT, PROFILE, REQUESTED, REQUESTED_LINE, TAG, TAGS_AT, UNUSED,
-    WAITING,
+    CHECKPOINTS_AT, COMMITTED, ENTRY, LAST, LOADS_AT, PROFILE, REQUESTED, REQUESTED_LINE, TAG,
+    TAGS_AT, UNUSED, WAITING,
 };
-use nicoisetarn::{Image, Refusal, LINE, LOADS, RECORDS, STORES};
+use nicoisetarn::{Image, Refusal, CHECKPOINTS, LINE, LOADS, RECORDS, STORES};
 
 /// The write policies, by the numbers of their profiles.
 pub const POLICIES: [WritePolicy; 2] = [WritePolicy::WriteBack, WritePolicy::WriteThrough];
@@ -69,7 +71,8 @@ pub fn with_byte(image: &Image, at: usize, byte: u8) -> Image {
 }
 
 /// There is such a profile, every flag is 0 or 1, a free register has no line, unused
-/// bytes are 0. The dirty marks may be any byte: with a fifth one the state is ill-formed.
+/// bytes are 0. The dirty marks may be any byte, and the checkpoints any numbers: some make
+/// an ill-formed state.
 pub fn stands(image: &Image) -> bool {
     let bytes = image.to_bytes();
     let profile = (word(&bytes, PROFILE) as usize) < POLICIES.len();
@@ -77,12 +80,17 @@ pub fn stands(image: &Image) -> bool {
         0 => word(&bytes, REQUESTED_LINE) == 0,
         flag => flag == 1,
     };
-    let mut loads = bytes[LOADS_AT..TAGS_AT].chunks_exact(ENTRY);
+    let mut loads = bytes[LOADS_AT..CHECKPOINTS_AT].chunks_exact(ENTRY);
     let mut tags = bytes[TAGS_AT..].chunks_exact(TAG);
     profile
         && register
         && loads.all(|load| word(load, WAITING) <= 1)
         && tags.all(|tag| tag[0] <= 1 && tag[UNUSED] == 0)
+}
+
+/// The checkpoints of an image in force, as its accessor tells them.
+pub fn in_force(image: &Image) -> impl Iterator<Item = nicoisetarn::Checkpoint> + '_ {
+    image.checkpoints().iter().copied().filter(|mark| mark.name != 0)
 }
 
 /// The tag records of an image by their numbers, as its accessor tells them.
@@ -100,7 +108,7 @@ pub fn library_figures(figures: Figures) -> nicoisetarn::Figures {
 }
 
 /// The figures of an image as those of the model.
-fn figures_of(image: &Image) -> Figures {
+pub fn figures_of(image: &Image) -> Figures {
     let figures = image.figures();
     let policy = match figures.policy {
         nicoisetarn::WritePolicy::WriteBack => WritePolicy::WriteBack,
@@ -132,6 +140,11 @@ pub fn state_of(image: &Image) -> Option<State> {
         width: load.width,
         answered: load.waiting == (load.number == 0),
     });
+    state.checkpoints = image.checkpoints().map(|mark| Checkpoint {
+        name: mark.name,
+        number: mark.number,
+        rank: mark.rank,
+    });
     for (into, (_, tag)) in state.tags.iter_mut().zip(tags(image)) {
         *into = Tag { valid: tag.valid, dirty: tag.dirty, line: tag.line, age: tag.age };
     }
@@ -152,7 +165,9 @@ pub fn image_of(state: &State) -> Image {
         let waiting = load.answered == (load.number == 0);
         [load.number, load.address, load.width, u32::from(waiting)]
     });
-    let words = figures.into_iter().chain(numbers).chain(stores).chain(loads);
+    let checkpoints = state.checkpoints.iter().flat_map(|mark| [mark.name, mark.number, mark.rank]);
+    let queues = stores.chain(loads).chain(checkpoints);
+    let words = figures.into_iter().chain(numbers).chain(queues);
     let mut bytes = [0; Image::SIZE];
     for (into, word) in bytes[..TAGS_AT].chunks_exact_mut(4).zip(words) {
         into.copy_from_slice(&word.to_ne_bytes());
@@ -179,6 +194,8 @@ pub fn call_of(call: Call) -> Option<nicoisetarn::Call> {
         Call::Reply => Ours::Reply,
         Call::Flush => Ours::Flush,
         Call::ShowLine { address } => Ours::ShowLine(address),
+        Call::Checkpoint { name } => Ours::Checkpoint(name),
+        Call::Restore { name } => Ours::Restore(name),
     })
 }
 
@@ -204,20 +221,31 @@ pub fn answer_of(told: Result<nicoisetarn::Answer, Refusal>) -> Answer {
             Answer::Shown(Part { place: place as usize, length: length as usize })
         }
         Ours::Ready => Answer::Ready,
+        Ours::Checkpointed(number) => Answer::Checkpointed(number),
     }
+}
+
+/// One call of the library.
+fn library_call(image: &mut Image, cache: &mut [u8], memory: &mut [u8], call: Call) -> Answer {
+    answer_of(match (call, call_of(call)) {
+        (_, Some(call)) => image.call(cache, memory, call),
+        (Call::Start { figures }, None) => image.restart(library_figures(figures), cache, memory),
+        (_, None) => panic!("{call:?} has no number"),
+    })
+}
+
+/// The library as a machine of `compare`, on states that keep the widths of an image.
+pub fn library_step(state: &mut State, cache: &mut [u8], memory: &mut [u8], call: Call) -> Answer {
+    let mut image = image_of(state);
+    let answer = library_call(&mut image, cache, memory, call);
+    *state = state_of(&image).unwrap();
+    answer
 }
 
 impl Bench {
     /// One call of the library.
     pub fn call(&mut self, call: Call) -> Answer {
-        let Bench { image, cache, memory } = self;
-        answer_of(match (call, call_of(call)) {
-            (_, Some(call)) => image.call(cache, memory, call),
-            (Call::Start { figures }, None) => {
-                image.restart(library_figures(figures), cache, memory)
-            }
-            (_, None) => panic!("{call:?} has no number"),
-        })
+        library_call(&mut self.image, &mut self.cache, &mut self.memory, call)
     }
 
     /// A list of calls, without the starts among them, by the crate's batch.
@@ -287,7 +315,7 @@ impl Beside {
     }
 
     /// Back to a bench with the same lengths.
-    pub fn restore(&mut self, bench: &Bench) {
+    pub fn reset(&mut self, bench: &Bench) {
         self.library.clone_from(bench);
         self.state = state_of(&bench.image);
         self.cache.copy_from_slice(&bench.cache);
@@ -358,6 +386,44 @@ pub fn figures_agree(bench: &Bench) -> bool {
     check::figures_agree(&state, &bench.cache, &bench.memory)
 }
 
+/// An access to the first lines of a memory.
+fn access(memory: u32, rng: &mut Rng) -> Call {
+    let (address, width) =
+        (rng.below(u64::from(memory.min(256))) as u32 & !3, rng.pick(&[1, 2, 4]));
+    match rng.one_in(2) {
+        true => Call::Load { address, width },
+        false => Call::Store { address, width, value: rng.below(256) as u32 },
+    }
+}
+
+/// A run with marks put between its calls: some that its commits and aborts forget, and
+/// stretches from a mark to the return to it. A stretch has accesses of its own and the
+/// run's background work inside, and leaves the numbers that the run goes on with.
+pub fn with_marks(run: Run, rng: &mut Rng) -> Run {
+    let stretch = CHECKPOINTS as u32;
+    let (memory, mut calls, mut inside) = (run.found.len() as u32, Vec::new(), false);
+    for &call in &run.calls {
+        let numbers = matches!(
+            call,
+            Call::Load { .. } | Call::Store { .. } | Call::Commit { .. } | Call::Abort { .. }
+        );
+        if inside && numbers {
+            calls.push(Call::Restore { name: stretch });
+            inside = false;
+        }
+        calls.push(call);
+        if !inside && rng.one_in(16) {
+            calls.push(Call::Checkpoint { name: stretch });
+            calls.extend((0..1 + rng.below(3)).map(|_| access(memory, rng)));
+            inside = true;
+        }
+        if rng.one_in(16) {
+            calls.push(Call::Checkpoint { name: 1 + rng.below(u64::from(stretch) - 1) as u32 });
+        }
+    }
+    Run { calls, ..run }
+}
+
 /// A number that is likely to matter somewhere.
 pub fn odd_number(rng: &mut Rng) -> u32 {
     let any = rng.word() as u32;
@@ -370,7 +436,15 @@ fn near_number(image: &Image, rng: &mut Rng) -> u32 {
     let store = image.stores()[rng.below(STORES as u64) as usize].number;
     let load = image.loads()[rng.below(LOADS as u64) as usize].number;
     let next = last.wrapping_add(1);
-    rng.pick(&[store, load, load, load, last, next, h, h.wrapping_add(1)])
+    let mark = image.checkpoints()[rng.below(4) as usize].number;
+    rng.pick(&[store, load, load, load, mark, last, next, h, h.wrapping_add(1)])
+}
+
+/// A name, often that of a checkpoint of an image.
+fn near_name(image: &Image, rng: &mut Rng) -> u32 {
+    let mark = image.checkpoints()[rng.below(4) as usize].name;
+    let name = 1 + rng.below(CHECKPOINTS as u64) as u32;
+    rng.pick(&[mark, mark, name, name, name, 0, 9])
 }
 
 /// An address about those of an image.
@@ -386,16 +460,15 @@ fn near_address(image: &Image, rng: &mut Rng) -> u32 {
 }
 
 /// One call of each kind, mostly with operands about those of an image.
-pub fn each_call(image: &Image, rng: &mut Rng) -> [Call; 10] {
+pub fn each_call(image: &Image, rng: &mut Rng) -> [Call; 12] {
     let odd_ones = rng.one_in(4);
-    let number = |rng: &mut Rng| match odd_ones {
-        true => odd_number(rng),
-        false => near_number(image, rng),
+    let operand = |near: fn(&Image, &mut Rng) -> u32| {
+        move |rng: &mut Rng| match odd_ones {
+            true => odd_number(rng),
+            false => near(image, rng),
+        }
     };
-    let address = |rng: &mut Rng| match odd_ones {
-        true => odd_number(rng),
-        false => near_address(image, rng),
-    };
+    let (number, address, name) = (operand(near_number), operand(near_address), operand(near_name));
     let odd = odd_number(rng);
     let width = rng.pick(&[1, 1, 2, 4, odd]);
     let value = rng.pick(&[0, 1, 200, odd]);
@@ -412,6 +485,8 @@ pub fn each_call(image: &Image, rng: &mut Rng) -> [Call; 10] {
         Call::Idle,
         Call::Reply,
         Call::Flush,
+        Call::Checkpoint { name: name(rng) },
+        Call::Restore { name: name(rng) },
         Call::Start { figures: Figures::new(sets, ways).with_policy(policy) },
     ]
 }

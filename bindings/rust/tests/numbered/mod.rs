@@ -17,6 +17,10 @@ pub struct Numbers {
 
 /// No call, or no profile of a start, has that number.
 pub const NO_SUCH_CALL: Numbers = Numbers { kind: 255, first: 0, second: 0 };
+/// How many calls have a number, from 0 on.
+pub const CALLS: u32 = 11;
+/// Numbers that no call has.
+pub const NO_CALLS: [u32; 8] = [CALLS, 12, 13, 254, 255, 256, 257, u32::MAX];
 /// Numbers that no profile has.
 pub const NO_PROFILES: [u32; 8] = [2, 3, 4, 255, 256, 257, 1 << 31 | 1, u32::MAX];
 /// A batch was run.
@@ -30,7 +34,7 @@ pub const UNKNOWN: Listed = [255, 0, 0, 0, 0, 0];
 pub const UNTOUCHED: u32 = 0xA5A5_A5A5;
 
 extern "C" {
-    fn nicoisetarn_start_with_in(
+    fn nicoisetarn_start_2048_in(
         image: *mut Image,
         sets: u32,
         ways: u32,
@@ -77,7 +81,7 @@ pub fn start(
     let (cache, memory) = (cache.as_mut_ptr(), memory.as_ptr());
     // SAFETY: three references, all but the memory exclusive, each slice with its own
     // length; the library keeps no pointer, and any bytes are an image.
-    unsafe { nicoisetarn_start_with_in(image, sets, ways, profile, cache, cached, memory, stored) }
+    unsafe { nicoisetarn_start_2048_in(image, sets, ways, profile, cache, cached, memory, stored) }
 }
 
 /// A call by its number.
@@ -143,6 +147,8 @@ pub fn call_of(call: Call) -> Option<Listed> {
         Call::Reply => (6, [0; 3]),
         Call::Flush => (7, [0; 3]),
         Call::ShowLine { address } => (8, [address, 0, 0]),
+        Call::Checkpoint { name } => (9, [name, 0, 0]),
+        Call::Restore { name } => (10, [name, 0, 0]),
     };
     Some([number, x, y, z, 0, 0])
 }
@@ -163,6 +169,7 @@ pub fn answer_of(answer: Answer) -> Listed {
         Answer::Flushed(words) => (10, words, 0),
         Answer::Shown(part) => (11, part.place as u32, part.length as u32),
         Answer::Ready => (12, 0, 0),
+        Answer::Checkpointed(number) => (13, number, 0),
     };
     [kind, first, second, 0, 0, 0]
 }

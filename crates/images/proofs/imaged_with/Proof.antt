@@ -22,7 +22,7 @@ image-loads-requires c κs = search needs
 returns : tie.Need-returns
 unfolding imagedWith
 returns c =
-    let args = c .before .before .before .before .before .before .before .before .args in
+    let args = c .before .before .before .before .before .before .before .before .before .args in
     let profile-of = c .before .before .before .before .profile-of in
     let the-requested = c .before .before .before .requested in
     let line-named = c .before .before .line-named in
@@ -39,6 +39,7 @@ returns c =
       line = line-named .ensures j;
       stores = image-stores .ensures j;
       loads = c .image-loads .ensures j;
+      checkpoints = s .checkpoints;
       tags = args .images;
     }
 

@@ -22,7 +22,7 @@ open-tags-requires c κs = search needs
 returns : tie.Need-returns
 unfolding openedWith openedFirst
 returns c =
-    let args = c .before .before .before .before .before .before .before .before .args in
+    let args = c .before .before .before .before .before .before .before .before .before .args in
     let figures-with = c .before .before .before .before .figures-with in
     let open-request = c .before .before .before .open-request in
     let open-stores = c .before .before .open-stores in
@@ -36,6 +36,7 @@ returns c =
       request = open-request .ensures j;
       stores = open-stores .ensures j;
       loads = open-loads .ensures j;
+      checkpoints = i .checkpoints;
       tags = c .open-tags .ensures j;
     }
 

@@ -1,23 +1,22 @@
--- `State::abort_accepted` meets its contract.
+-- `State::abort_accepted` meets its contract: an abort's change of the checkpoints.
 use borrow.Author.Needs.{needs}
-use Rattle.model.proofs.Accepted.{aborted-state}
+use Rattle.rules.specs.Checkpoints.{forgetAbove}
+use Rattle.rules.specs.Calls.{abortRule}
 use Rattle.model.proofs.State.abort_accepted.Statement.{statement}
 use Rattle.model.proofs.State.abort_accepted.Tie as tie
 
-squash-stores-requires : tie.Need-squash-stores-requires
-squash-stores-requires c κs = search needs
+changed-requires : tie.Need-changed-requires
+changed-requires c κs = search needs
 
-squash-loads-requires : tie.Need-squash-loads-requires
-squash-loads-requires c κs = search needs
-
-sub-last : tie.Need-sub-last
-sub-last c = search needs
+squash-requires : tie.Need-squash-requires
+squash-requires c κs = search needs
 
 returns : tie.Need-returns
-returns c =
-    let squash-stores = c .before .squash-stores in
-    aborted-state _ _ _ _ (squash-stores .ensures) (c .squash-loads .ensures)
+unfolding abortRule
+returns c cache memory =
+    let args = c .before .before .before .args in
+    let left = c .before .changed in
+    c .squash .ensures (forgetAbove (args .n)) cache memory (left .ensures)
 
 pub abort-accepted-spec : {M : Type 1} → statement M
-abort-accepted-spec =
-    tie.close (tie.spec squash-stores-requires squash-loads-requires sub-last returns)
+abort-accepted-spec = tie.close (tie.spec changed-requires squash-requires returns)

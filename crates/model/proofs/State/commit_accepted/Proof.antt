@@ -14,13 +14,17 @@ use-answered-requires c κs = search needs
 remove-answered-requires : tie.Need-remove-answered-requires
 remove-answered-requires c κs = search needs
 
+changed-requires : tie.Need-changed-requires
+changed-requires c κs = search needs
+
 returns : tie.Need-returns
 unfolding commitRule
 returns c =
-    let pre = c .before .before .before .before .before .pre in
-    let use-answered = c .before .use-answered in
-    λ k m. rw (use-answered .ensures ∙ sym (cond-then _ _ (shaped-room _ _ pre)), c .remove-answered .ensures, used-each)
+    let pre = c .before .before .before .before .before .before .before .pre in
+    let use-answered = c .before .before .before .use-answered in
+    let remove-answered = c .before .before .remove-answered in
+    λ k m. rw (use-answered .ensures ∙ sym (cond-then _ _ (shaped-room _ _ pre)), remove-answered .ensures, c .changed .ensures, used-each)
 
 pub commit-accepted-spec : {M : Type 1} → statement M
 commit-accepted-spec =
-    tie.close (tie.spec use-answered-requires remove-answered-requires returns)
+    tie.close (tie.spec use-answered-requires remove-answered-requires changed-requires returns)

@@ -8,15 +8,15 @@ use types.Run.{OneOf, miss}
 use denote.Enum.Declared.{tagOf}
 use Rattle.model.specs.State.{readsOnly}
 use Rattle.model.specs.declared.Call.{Call}
-use Rattle.model.specs.declared.Call.the-variants.{Load, Store, Retry, Commit, Abort, Idle, Reply, Flush, Show}
+use Rattle.model.specs.declared.Call.the-variants.{Load, Store, Retry, Commit, Abort, Idle, Reply, Flush, Show, Checkpoint, Restore}
 use Rattle.model.proofs.Call as call
 use Rattle.model.proofs.Facts.{shaped-self}
 use Rattle.model.proofs.State.read_formed.Statement.{statement}
 use Rattle.model.proofs.State.read_formed.Tie as tie
 
--- the variants of the calls that write: idle, reply and flush
+-- the variants of the others: idle, reply, flush, a setting and a return
 abbrev writing : List ℕ
-writing = 5 ∷ 6 ∷ 7 ∷ []
+writing = 5 ∷ 6 ∷ 7 ∷ 9 ∷ 10 ∷ []
 
 none-reads : (c : Call) → OneOf writing (tagOf call.the-type c) → readsOnly c ≡ true → ⊥
 none-reads (Load a w) h e = absurd (miss writing 0 tt h)
@@ -28,6 +28,8 @@ none-reads Idle h e = false≢true e
 none-reads Reply h e = false≢true e
 none-reads Flush h e = false≢true e
 none-reads (Show a) h e = absurd (miss writing 8 tt h)
+none-reads (Checkpoint x) h e = false≢true e
+none-reads (Restore x) h e = false≢true e
 
 enum-known-call : tie.Need-enum-known-call
 enum-known-call c = search needs

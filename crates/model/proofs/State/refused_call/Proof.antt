@@ -10,14 +10,14 @@ use Rattle.rules.specs.Runs.{refusal}
 use Rattle.lists.specs.Counted.{eachFrom}
 use Rattle.model.specs.State.{callOf, queuesOf, hierarchyOf, bytesFrom}
 use Rattle.model.specs.declared.Call.{Call}
-use Rattle.model.specs.declared.Call.the-variants.{Load, Store, Retry, Commit, Abort, Idle, Reply, Flush, Show}
+use Rattle.model.specs.declared.Call.the-variants.{Load, Store, Retry, Commit, Abort, Idle, Reply, Flush, Show, Checkpoint, Restore}
 use Rattle.model.proofs.Call as call
 use Rattle.model.proofs.State.refused_call.Statement.{statement}
 use Rattle.model.proofs.State.refused_call.Tie as tie
 
--- the variants before show line
+-- the variants beside show line
 abbrev others : List ℕ
-others = 0 ∷ 1 ∷ 2 ∷ 3 ∷ 4 ∷ 5 ∷ 6 ∷ 7 ∷ []
+others = 0 ∷ 1 ∷ 2 ∷ 3 ∷ 4 ∷ 5 ∷ 6 ∷ 7 ∷ 9 ∷ 10 ∷ []
 
 named : (k : ℕ) (c : Call) → OneOf others (tagOf call.the-type c) → refused k ≡ refusal (callOf c) k
 named k (Load a w) h = refl
@@ -29,6 +29,8 @@ named k Idle h = refl
 named k Reply h = refl
 named k Flush h = refl
 named k (Show a) h = absurd (miss others 8 tt h)
+named k (Checkpoint x) h = refl
+named k (Restore x) h = refl
 
 enum-told : tie.Need-enum-told
 enum-told c = search needs

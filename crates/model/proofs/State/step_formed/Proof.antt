@@ -9,7 +9,7 @@ use types.Run.{OneOf, miss}
 use denote.Enum.Declared.{tagOf}
 use Rattle.model.specs.State.{readsOnly}
 use Rattle.model.specs.declared.Call.{Call}
-use Rattle.model.specs.declared.Call.the-variants.{Load, Store, Retry, Commit, Abort, Idle, Reply, Flush, Show}
+use Rattle.model.specs.declared.Call.the-variants.{Load, Store, Retry, Commit, Abort, Idle, Reply, Flush, Show, Checkpoint, Restore}
 use Rattle.model.proofs.Call as call
 use Rattle.model.proofs.Facts.{formed-sound}
 use Rattle.model.proofs.State.step_formed.Statement.{statement}
@@ -29,6 +29,8 @@ all-read Idle h = absurd (miss reading 5 tt h)
 all-read Reply h = absurd (miss reading 6 tt h)
 all-read Flush h = absurd (miss reading 7 tt h)
 all-read (Show a) h = refl
+all-read (Checkpoint x) h = absurd (miss reading 9 tt h)
+all-read (Restore x) h = absurd (miss reading 10 tt h)
 
 enum-told : tie.Need-enum-told
 enum-told c = search needs
@@ -84,6 +86,30 @@ returns-3 c =
     let flush-formed = c .before .before .flush-formed in
     rw (enum-told3 .given .1) (flush-formed .ensures)
 
+enum-known-call : tie.Need-enum-known-call
+enum-known-call c = search needs
+
+checkpoint-formed-requires : tie.Need-checkpoint-formed-requires
+checkpoint-formed-requires c κs = search needs
+
+returns-4 : tie.Need-returns-4
+returns-4 c =
+    let pre = c .before .before .before .before .before .before .pre in
+    let call = c .before .before .call in
+    rw (call .given .1) (c .checkpoint-formed .ensures _ _ pre)
+
+enum-known-call-2 : tie.Need-enum-known-call-2
+enum-known-call-2 c = search needs
+
+restore-formed-requires : tie.Need-restore-formed-requires
+restore-formed-requires c κs = search needs
+
+returns-5 : tie.Need-returns-5
+returns-5 c =
+    let pre = c .before .before .before .before .before .before .pre in
+    let call2 = c .before .before .call2 in
+    rw (call2 .given .1) (c .restore-formed .ensures _ _ pre)
+
 read-formed-requires : tie.Need-read-formed-requires
 read-formed-requires c κs =
     let args = c .before .before .before .before .args in
@@ -93,12 +119,12 @@ read-formed-requires c κs =
 same-length-7 : tie.Need-same-length-7
 same-length-7 c = search needs
 
-returns-4 : tie.Need-returns-4
-returns-4 c =
+returns-6 : tie.Need-returns-6
+returns-6 c =
     let args = c .before .before .before .before .before .args in
     let pre = c .before .before .before .before .before .pre in
     let match = c .before .before .match in
-    c .read-formed .ensures (all-read (args .call) (match .keys4)) _ pre
+    c .read-formed .ensures (all-read (args .call) (match .keys6)) _ pre
 
 pub step-formed-spec : {M : Type 1} → statement M
 step-formed-spec =
@@ -119,6 +145,12 @@ step-formed-spec =
     same-length-5
     same-length-6
     returns-3
+    enum-known-call
+    checkpoint-formed-requires
+    returns-4
+    enum-known-call-2
+    restore-formed-requires
+    returns-5
     read-formed-requires
     same-length-7
-    returns-4)
+    returns-6)

@@ -89,6 +89,12 @@ cast-coded-2 c =
 coded-requires-12 : tie.Need-coded-requires-12
 coded-requires-12 c κs = search needs
 
+enum-known-a-12 : tie.Need-enum-known-a-12
+enum-known-a-12 c = search needs
+
+coded-requires-13 : tie.Need-coded-requires-13
+coded-requires-13 c κs = search needs
+
 returns : tie.Need-returns
 returns c =
     let a = c .before .before .a in
@@ -149,6 +155,11 @@ returns-12 c =
     let a11 = c .before .before .a11 in
     part-image _ _ _ (a11 .given .1) _ (c .coded12 .ensures)
 
+returns-13 : tie.Need-returns-13
+returns-13 c =
+    let a12 = c .before .before .a12 in
+    rw (a12 .given .1) (c .coded13 .ensures)
+
 pub answer-image-spec : {M : Type 1} → statement M
 answer-image-spec =
     tie.close
@@ -179,6 +190,8 @@ answer-image-spec =
     cast-coded
     cast-coded-2
     coded-requires-12
+    enum-known-a-12
+    coded-requires-13
     returns
     returns-2
     returns-3
@@ -190,4 +203,5 @@ answer-image-spec =
     returns-9
     returns-10
     returns-11
-    returns-12)
+    returns-12
+    returns-13)

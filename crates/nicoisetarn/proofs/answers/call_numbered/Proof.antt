@@ -1,7 +1,7 @@
 -- `answers::call_numbered` meets its contract.
 use mathlib.Core.Path.{sym}
 use Rattle.nicoisetarn.specs.Answers.{callNumbered}
-use Rattle.nicoisetarn.proofs.CallNumbers.{none-of-nine}
+use Rattle.nicoisetarn.proofs.CallNumbers.{none-of-theirs}
 use Rattle.nicoisetarn.proofs.answers.call_numbered.Statement.{statement}
 use Rattle.nicoisetarn.proofs.answers.call_numbered.Tie as tie
 
@@ -42,10 +42,20 @@ unfolding callNumbered
 returns-9 c = rw (c .match .keys9)
 
 returns-10 : tie.Need-returns-10
-returns-10 c =
+unfolding callNumbered
+returns-10 c = rw (c .match .keys10)
+
+returns-11 : tie.Need-returns-11
+unfolding callNumbered
+returns-11 c = rw (c .match .keys11)
+
+returns-12 : tie.Need-returns-12
+returns-12 c =
     let rest = c .match .rest in
+    let seven = rest .0 .0 .0 .0 in
+    let three = seven .0 .0 .0 .0 in
     sym
-    (none-of-nine _ _ _ _ (rest .0 .0 .0 .0 .0 .0 .0 .0 .1) (rest .0 .0 .0 .0 .0 .0 .0 .1) (rest .0 .0 .0 .0 .0 .0 .1) (rest .0 .0 .0 .0 .0 .1) (rest .0 .0 .0 .0 .1) (rest .0 .0 .0 .1) (rest .0 .0 .1) (rest .0 .1) (rest .1))
+    (none-of-theirs _ _ _ _ (three .0 .0 .1) (three .0 .1) (three .1) (seven .0 .0 .0 .1) (seven .0 .0 .1) (seven .0 .1) (seven .1) (rest .0 .0 .0 .1) (rest .0 .0 .1) (rest .0 .1) (rest .1))
 
 pub call-numbered-spec : {M : Type 1} → statement M
 call-numbered-spec =
@@ -60,4 +70,6 @@ call-numbered-spec =
     returns-7
     returns-8
     returns-9
-    returns-10)
+    returns-10
+    returns-11
+    returns-12)

@@ -104,6 +104,9 @@ say-one-requires-9 c κs = search needs
 enum-told-2 : tie.Need-enum-told-2
 enum-told-2 c = search needs
 
+enum-told-3 : tie.Need-enum-told-3
+enum-told-3 c = search needs
+
 same-length : tie.Need-same-length
 same-length c = search needs
 
@@ -218,6 +221,10 @@ returns-12 : tie.Need-returns-12
 unfolding answerLine
 returns-12 c = rw (c .enum-told2 .given .1) (wrote-none _ _)
 
+returns-13 : tie.Need-returns-13
+unfolding answerLine
+returns-13 c = rw (c .enum-told3 .given .1) (wrote-none _ _)
+
 pub say-spec : {M : Type 1} → statement M
 say-spec =
     tie.close
@@ -255,6 +262,7 @@ say-spec =
     slice-aggregate-say-one-9
     say-one-requires-9
     enum-told-2
+    enum-told-3
     same-length
     returns
     same-length-2
@@ -277,4 +285,5 @@ say-spec =
     returns-10
     same-length-11
     returns-11
-    returns-12)
+    returns-12
+    returns-13)

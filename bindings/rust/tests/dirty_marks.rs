@@ -4,7 +4,8 @@
 
 mod beside;
 
-use beside::{layout, library_figures, stands, with_byte, with_word, Bench, Beside};
+use beside::refused::{all_refused, answers};
+use beside::{layout, library_figures, with_byte, with_word, Bench};
 use compare::types::{Answer, Call, Figures, Part};
 use nicoisetarn::{Image, Tag, LINE, WORD};
 
@@ -18,7 +19,7 @@ const FIGURES: Figures = Figures::new(1, 2);
 const THROUGH: u32 = 1;
 
 /// A start over 48 bytes, byte a + 1 at a, and then line 0 in record 0 with words 1 and 3
-/// dirty, record 1 invalid, and line 1 requested for load 3.
+/// dirty, record 1 invalid, line 1 requested for load 3, and checkpoint 3.
 fn half_dirty() -> Bench {
     let (mut cache, memory) = (vec![0; 2 * LINE], (1..=48).collect::<Vec<u8>>());
     let image = Image::start(library_figures(FIGURES), &mut cache, &memory).unwrap();
@@ -34,6 +35,7 @@ fn half_dirty() -> Bench {
         Call::Load { address: 16, width: 1 },
         Call::Commit { number: 3 },
         Call::Idle,
+        Call::Checkpoint { name: 3 },
     ];
     assert_eq!(calls.map(|call| bench.call(call))[9], Answer::Requested(16));
     assert_eq!(bench.image.tag(0), Some(Tag { valid: true, dirty: HALF, line: 0, age: 0 }));
@@ -42,7 +44,7 @@ fn half_dirty() -> Bench {
 }
 
 /// A call of each kind, all of which `half_dirty` takes.
-const CALLS: [Call; 9] = [
+const CALLS: [Call; 11] = [
     Call::ShowLine { address: 0 },
     Call::Load { address: 4, width: 4 },
     Call::Store { address: 0, width: 1, value: 9 },
@@ -52,44 +54,15 @@ const CALLS: [Call; 9] = [
     Call::Idle,
     Call::Reply,
     Call::Flush,
+    Call::Checkpoint { name: 8 },
+    Call::Restore { name: 3 },
 ];
-
-/// What every call answers on an image that is refused by 10.
-fn refused(call: &Call) -> Answer {
-    match call {
-        Call::ShowLine { .. } => Answer::Shown(Part::default()),
-        _ => Answer::Refused(10),
-    }
-}
-
-/// The answers to the calls, each from the bench, compared with the model.
-fn answers(bench: &Bench) -> Vec<Answer> {
-    CALLS.iter().map(|call| Beside::new(bench).play(*call).unwrap()).collect()
-}
-
-/// Every call is refused by 10, alone and in a list, and all stays; where a length disagrees
-/// it is 1. The image stands for a state all the same, and a start does not look at it.
-fn all_refused(bench: &Bench, what: &str) {
-    let expected: Vec<Answer> = CALLS.iter().map(refused).collect();
-    assert!(stands(&bench.image), "{what}");
-    assert_eq!(answers(bench), expected, "{what}");
-    let mut after = bench.clone();
-    assert_eq!(after.run(&CALLS), expected, "{what}");
-    for call in CALLS {
-        after.call(call);
-    }
-    assert!(after == *bench, "{what}: something has changed");
-    after.memory.push(0);
-    assert_eq!(after.call(Call::Idle), Answer::Refused(1), "{what}");
-    after.memory.pop();
-    assert_eq!(after.call(Call::Start { figures: FIGURES }), Answer::Ready, "{what}");
-}
 
 /// Every call is accepted, the line is shown, and a flush writes the words marked: so many,
 /// after which memory has the line.
 fn all_taken(bench: &Bench, what: &str) {
     let words = bench.image.tag(0).map_or(0, |tag| tag.dirty.count_ones());
-    let answers = answers(bench);
+    let answers = answers(bench, &CALLS);
     assert!(answers.iter().all(Answer::accepted), "{what}: {answers:?}");
     assert_eq!(answers[0], Answer::Shown(Part { place: 0, length: LINE }), "{what}");
     let mut after = bench.clone();
@@ -110,7 +83,7 @@ fn fifth_marks() {
     let found = half_dirty();
     all_taken(&found, "as found");
     for marks in 16..=u8::MAX {
-        all_refused(&marked(&found, 0, marks), &format!("marks {marks:#b}"));
+        all_refused(&marked(&found, 0, marks), &CALLS, &format!("marks {marks:#b}"));
     }
 }
 
@@ -121,7 +94,8 @@ fn marks_of_records_without_a_line() {
     for record in [1, 2, 3, 255] {
         all_taken(&marked(&found, record, 0), "no mark");
         for marks in 1..=u8::MAX {
-            all_refused(&marked(&found, record, marks), &format!("record {record}, {marks:#b}"));
+            let bench = marked(&found, record, marks);
+            all_refused(&bench, &CALLS, &format!("record {record}, {marks:#b}"));
         }
     }
 }
@@ -152,11 +126,11 @@ fn marks_and_words_that_differ() {
                 [&back, &through].map(|found| differing(&marked(found, 0, marks), words));
             match marks < 16 && words & !marks == 0 {
                 true => all_taken(&back, &what),
-                false => all_refused(&back, &what),
+                false => all_refused(&back, &CALLS, &what),
             }
             match marks == 0 && words == 0 {
                 true => all_taken(&through, &what),
-                false => all_refused(&through, &what),
+                false => all_refused(&through, &CALLS, &what),
             }
         }
     }
@@ -174,7 +148,7 @@ fn bytes_of_a_half_dirty_line() {
         for bench in [cached, stored] {
             match HALF >> (at / WORD) & 1 == 1 {
                 true => all_taken(&bench, &format!("byte {at}")),
-                false => all_refused(&bench, &format!("byte {at}")),
+                false => all_refused(&bench, &CALLS, &format!("byte {at}")),
             }
         }
     }
