@@ -1,8 +1,9 @@
 /*
  * A bench in C: plays the scope paper's worked script by calls and prints what the script player prints for it, then
  * a batch and its answers, then a drain in write-through, then drains to two words of a line and their flush, then marks
- * that are set and returned to. It checks the boundary: words, what the image tells, refused calls, numbers that no call
- * and no profile has, dirty marks, checkpoints, both profiles, show line, and batches.
+ * that are set and returned to, then loads that wait, their line requested or not. It checks the boundary: words, what the
+ * image tells, refused calls, numbers that no call and no profile has, loads that wait, dirty marks, checkpoints, both
+ * profiles, show line, and batches.
  * Exits with 1, and a line on standard error, where a check fails.
  */
 #include "nicoisetarn.h"
@@ -213,14 +214,34 @@ static void play_checkpoints(bench *b) {
     print(nicoisetarn_load(&unit, 4, 1)); /* the old value; the number is given again */
 }
 
+/* ---- loads that wait, printed */
+
+static void play_waits(bench *b) {
+    nicoisetarn_unit unit = lent(b);
+    print(start(b));
+    print(nicoisetarn_load(&unit, 24, 1)); /* line 1 */
+    print(nicoisetarn_load(&unit, 20, 2)); /* line 1 again */
+    print(nicoisetarn_commit(&unit, 1));
+    print(nicoisetarn_retry(&unit, 2));    /* nobody has requested it */
+    print(nicoisetarn_idle(&unit));        /* now it is, for load 1 */
+    print(nicoisetarn_retry(&unit, 2));    /* load 2, uncommitted, says so too */
+    print(nicoisetarn_load(&unit, 4, 1));  /* line 0 */
+    print(nicoisetarn_load(&unit, 28, 4)); /* line 1: said at once */
+    print(nicoisetarn_reply(&unit));
+    print(nicoisetarn_retry(&unit, 4));
+    print(nicoisetarn_retry(&unit, 3)); /* nobody has requested line 0 */
+}
+
 /* ---- words */
 
 /* Each kind and each refusal has words; other numbers have none. */
 static void check_words(void) {
     for (uint32_t kind = 0; kind < 300; kind++) {
-        const int known = kind <= NICOISETARN_KIND_CHECKPOINTED || kind == NICOISETARN_KIND_RAN ||
+        const int known = kind <= NICOISETARN_KIND_WAITS_REQUESTED || kind == NICOISETARN_KIND_RAN ||
                           kind == NICOISETARN_KIND_NO_SUCH_CALL;
+        const int waits = kind == NICOISETARN_KIND_WAITS || kind == NICOISETARN_KIND_WAITS_REQUESTED;
         CHECK((*nicoisetarn_kind_word(kind) != '\0') == known);
+        CHECK(nicoisetarn_waits((nicoisetarn_answer){kind, 1, 0}) == waits);
     }
     for (uint32_t number = 0; number < 300; number++) {
         const int known = (number >= NICOISETARN_REFUSED_FIGURES && number <= NICOISETARN_REFUSED_VALUE) ||
@@ -230,6 +251,7 @@ static void check_words(void) {
     CHECK(strcmp(nicoisetarn_refusal_words(NICOISETARN_REFUSED_FLUSH), "flush: a committed store is held") == 0);
     CHECK(strcmp(nicoisetarn_refusal_words(NICOISETARN_REFUSED_NAME_IN_USE), "set: name in use") == 0);
     CHECK(strcmp(nicoisetarn_kind_word(NICOISETARN_KIND_CHECKPOINTED), "checkpointed") == 0);
+    CHECK(strcmp(nicoisetarn_kind_word(NICOISETARN_KIND_WAITS_REQUESTED), "waits-requested") == 0);
 }
 
 /* ---- what the image tells */
@@ -380,6 +402,44 @@ static void check_no_such_call(void) {
         CHECK(memcmp(&b, &before, sizeof b) == 0);
         memset(&b.image, 0xA5, sizeof b.image);
     }
+}
+
+/* ---- loads that wait */
+
+/* The two words in a profile: before line 1 is requested, while it is, and behind its reply. An inquiry leaves no trace. */
+static void check_waits(uint32_t profile) {
+    bench b, before;
+    nicoisetarn_unit unit = lent(&b);
+    CHECK(same(start_with(&b, profile), NICOISETARN_KIND_READY, 0, 0));
+    CHECK(same(nicoisetarn_load(&unit, 16, 2), NICOISETARN_KIND_WAITS, 1, 0));
+    CHECK(same(nicoisetarn_commit(&unit, 1), NICOISETARN_KIND_COMMITTED, 1, 0));
+    CHECK(same(nicoisetarn_retry(&unit, 1), NICOISETARN_KIND_WAITS, 1, 0));
+    CHECK(same(nicoisetarn_idle(&unit), NICOISETARN_KIND_REQUEST, 16, 0));
+    before = b;
+    CHECK(same(nicoisetarn_retry(&unit, 1), NICOISETARN_KIND_WAITS_REQUESTED, 1, 0));
+    CHECK(memcmp(&b, &before, sizeof b) == 0);
+    CHECK(same(nicoisetarn_load(&unit, 31, 1), NICOISETARN_KIND_WAITS_REQUESTED, 2, 0));
+    CHECK(nicoisetarn_load_at(&b.image, 1).waiting == 1);
+    CHECK(same(nicoisetarn_load(&unit, 15, 1), NICOISETARN_KIND_WAITS, 3, 0));
+    CHECK(same(nicoisetarn_store(&unit, 16, 1, 7), NICOISETARN_KIND_STORED, 4, 0));
+    CHECK(same(nicoisetarn_load(&unit, 16, 1), NICOISETARN_KIND_VALUE, 5, 7)); /* the store has all of it */
+    CHECK(same(nicoisetarn_load(&unit, 16, 2), NICOISETARN_KIND_WAITS_REQUESTED, 6, 0)); /* and here a byte */
+    CHECK(same(nicoisetarn_reply(&unit), NICOISETARN_KIND_FILLED, 16, 0));
+    CHECK(same(nicoisetarn_retry(&unit, 6), NICOISETARN_KIND_VALUE, 6, 7));
+    CHECK(same(nicoisetarn_retry(&unit, 3), NICOISETARN_KIND_WAITS, 3, 0));
+}
+
+/* A line that is requested for a store, in write-back alone. */
+static void check_waits_for_store(void) {
+    bench b;
+    nicoisetarn_unit unit = lent(&b);
+    CHECK(same(start(&b), NICOISETARN_KIND_READY, 0, 0));
+    CHECK(same(nicoisetarn_store(&unit, 0, 1, 7), NICOISETARN_KIND_STORED, 1, 0));
+    CHECK(same(nicoisetarn_commit(&unit, 1), NICOISETARN_KIND_COMMITTED, 1, 0));
+    CHECK(same(nicoisetarn_load(&unit, 1, 1), NICOISETARN_KIND_WAITS, 2, 0));
+    CHECK(same(nicoisetarn_idle(&unit), NICOISETARN_KIND_REQUEST, 0, 0));
+    CHECK(same(nicoisetarn_retry(&unit, 2), NICOISETARN_KIND_WAITS_REQUESTED, 2, 0));
+    CHECK(same(nicoisetarn_load(&unit, 16, 1), NICOISETARN_KIND_WAITS, 3, 0));
 }
 
 /* ---- dirty marks */
@@ -650,6 +710,22 @@ static void check_batch(void) {
     CHECK(memcmp(&b, &single, sizeof b) == 0);
 }
 
+/* The two words of a load that waits. */
+static void check_batch_waits(void) {
+    bench b;
+    nicoisetarn_unit unit = lent(&b);
+    uint32_t calls[3 * NICOISETARN_CALL_STRIDE], answers[3 * NICOISETARN_ANSWER_STRIDE];
+    memset(answers, UNTOUCHED, sizeof answers);
+    nicoisetarn_put_call(calls, 0, NICOISETARN_CALL_RETRY, 1, 0, 0);
+    nicoisetarn_put_call(calls, 1, NICOISETARN_CALL_LOAD, 20, 4, 0);
+    nicoisetarn_put_call(calls, 2, NICOISETARN_CALL_LOAD, 0, 4, 0);
+    make_busy(&b);
+    CHECK(same(nicoisetarn_run(&unit, calls, answers, 3), NICOISETARN_KIND_RAN, 0, 0));
+    check_answer(answers, 0, (nicoisetarn_answer){NICOISETARN_KIND_WAITS_REQUESTED, 1, 0});
+    check_answer(answers, 1, (nicoisetarn_answer){NICOISETARN_KIND_WAITS_REQUESTED, 4, 0});
+    check_answer(answers, 2, (nicoisetarn_answer){NICOISETARN_KIND_WAITS, 5, 0});
+}
+
 /* Lengths that do not fit change nothing, the answers neither; an empty list runs. */
 static void check_batch_lengths(void) {
     const size_t lengths[][2] = {{0, 6}, {6, 0}, {5, 5}, {6, 12}, {7, 7}, {12, 6}, {6, 5}};
@@ -704,12 +780,16 @@ int main(void) {
     play_write_through(&b);
     play_dirty_words(&b);
     play_checkpoints(&b);
+    play_waits(&b);
     check_words();
     check_image();
     check_refusals();
     check_full_queues();
     check_damaged();
     check_no_such_call();
+    check_waits(NICOISETARN_WRITE_BACK);
+    check_waits(NICOISETARN_WRITE_THROUGH);
+    check_waits_for_store();
     check_dirty_marks();
     check_clean_words();
     check_refused_checkpoints();
@@ -721,6 +801,7 @@ int main(void) {
     check_shown();
     check_shown_of_const();
     check_batch();
+    check_batch_waits();
     check_batch_lengths();
     check_batch_refused();
     return 0;

@@ -12,11 +12,13 @@
  *     nicoisetarn_load(&unit, 4, 1);             value, number 2: 7, out of the store queue
  *
  * A load that waits: commit it, idle (request), reply (filled), retry (value). An uncommitted load never asks for
- * its line. An idle call may write an older store first (drained), and there is one request at a time.
+ * its line. An idle call may write an older store first (drained), and there is one request at a time. While its line
+ * is requested, for whichever load or store, a load that waits says "waits-requested" in place of "waits".
  *
  *     nicoisetarn_load(&unit, 20, 1);            waits, number 3: its line is absent
  *     nicoisetarn_commit(&unit, 3);              committed 3
  *     nicoisetarn_idle(&unit);                   request 16, the line's first address
+ *     nicoisetarn_retry(&unit, 3);               waits-requested, number 3: its line is on its way
  *     nicoisetarn_reply(&unit);                  filled 16
  *     nicoisetarn_retry(&unit, 3);               value, number 3: the byte of memory
  *
@@ -141,12 +143,12 @@ NICOISETARN_ASSERT(sizeof(nicoisetarn_answer) == 12, "an answer has 12 bytes");
 NICOISETARN_ASSERT(offsetof(nicoisetarn_answer, first) == 4, "first stands behind kind");
 NICOISETARN_ASSERT(offsetof(nicoisetarn_answer, second) == 8, "second stands behind first");
 
-/* Kinds of answers, with what first and second are. Kinds from 14 to 253 are free for answers to come. */
+/* Kinds of answers, with what first and second are. Kinds from 15 to 253 are free for answers to come. */
 typedef enum nicoisetarn_kind {
     NICOISETARN_KIND_REFUSED = 0,      /* a nicoisetarn_refusal */
     NICOISETARN_KIND_STORED = 1,       /* the store's number */
     NICOISETARN_KIND_VALUE = 2,        /* the load's number, the value */
-    NICOISETARN_KIND_WAITS = 3,        /* the load's number */
+    NICOISETARN_KIND_WAITS = 3,        /* the load's number: it waits, and its line is not requested */
     NICOISETARN_KIND_COMMITTED = 4,    /* the committed number that is in force */
     NICOISETARN_KIND_KEPT = 5,         /* the last number that is in force */
     NICOISETARN_KIND_DRAINED = 6,      /* the number of the store that was written */
@@ -157,6 +159,7 @@ typedef enum nicoisetarn_kind {
     NICOISETARN_KIND_SHOWN = 11,       /* the part's place in the cache, its length: 16, or 0 at place 0 */
     NICOISETARN_KIND_READY = 12,       /* an accepted start */
     NICOISETARN_KIND_CHECKPOINTED = 13, /* the operation number that the mark remembers */
+    NICOISETARN_KIND_WAITS_REQUESTED = 14, /* the load's number: it waits, and its line is requested */
     NICOISETARN_KIND_RAN = 254,        /* nicoisetarn_run_in: each call of the list has its own answer, accepted or refused */
     NICOISETARN_KIND_NO_SUCH_CALL = 255 /* no such call or profile, or a batch of lengths that do not fit: nothing changed */
 } nicoisetarn_kind;
@@ -193,6 +196,7 @@ static inline const char *nicoisetarn_kind_word(uint32_t kind) {
     case NICOISETARN_KIND_STORED: return "stored";
     case NICOISETARN_KIND_VALUE: return "value";
     case NICOISETARN_KIND_WAITS: return "waits";
+    case NICOISETARN_KIND_WAITS_REQUESTED: return "waits-requested";
     case NICOISETARN_KIND_COMMITTED: return "committed";
     case NICOISETARN_KIND_KEPT: return "kept";
     case NICOISETARN_KIND_DRAINED: return "drained";
@@ -207,6 +211,11 @@ static inline const char *nicoisetarn_kind_word(uint32_t kind) {
     case NICOISETARN_KIND_NO_SUCH_CALL: return "no such call";
     default: return "";
     }
+}
+
+/* Not 0: a load waits, by either word. Its number is first. */
+static inline int nicoisetarn_waits(nicoisetarn_answer answer) {
+    return answer.kind == NICOISETARN_KIND_WAITS || answer.kind == NICOISETARN_KIND_WAITS_REQUESTED;
 }
 
 /* When a refusal is given, in the scope paper's words; empty where the library has no refusal of that number. */
@@ -331,7 +340,8 @@ static inline nicoisetarn_answer nicoisetarn_start(nicoisetarn_unit *unit, uint3
 
 /*
  * Load of width bytes: it takes the next number and joins the load queue. Each byte comes from the youngest older
- * held store that covers it, else from the cached line: value, or waits while some byte has neither. It requests
+ * held store that covers it, else from the cached line: value. While some byte has neither the load waits:
+ * waits-requested where the miss register names its line, for whichever load or store, else waits. It requests
  * nothing and changes no age: a load is not yet known to be wanted.
  * Refused by 2 (width), 3 (alignment), 4 (address), 13 (no number left), 12 (8 loads are listed).
  */
@@ -349,8 +359,9 @@ static inline nicoisetarn_answer nicoisetarn_store(nicoisetarn_unit *unit, uint3
 }
 
 /*
- * Retry of a load that waits (the scope paper's inquiry): value, or waits still. Once answered, a committed load
- * leaves the queue and uses its line if that is present; an uncommitted one is marked answered.
+ * Retry of a load that waits (the scope paper's inquiry): value, or waits or waits-requested still, as the miss
+ * register is now. Once answered, a committed load leaves the queue and uses its line if that is present; an
+ * uncommitted one is marked answered.
  * Refused by 14: no waiting load has that number.
  */
 static inline nicoisetarn_answer nicoisetarn_retry(nicoisetarn_unit *unit, uint32_t number) {

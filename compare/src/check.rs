@@ -219,12 +219,19 @@ pub fn listed(state: &State) -> &[LoadEntry] {
     &state.loads[..count]
 }
 
-/// The record that holds a line, looked for in the line's own set.
+/// The committed waiting loads of a line, in number order.
+pub fn wanting(state: &State, line: u32) -> impl Iterator<Item = &LoadEntry> {
+    let wants = |load: &&LoadEntry| !load.answered && load.number <= state.committed;
+    let of_line = move |load: &&LoadEntry| load.address / LINE as u32 == line;
+    listed(state).iter().filter(wants).filter(of_line)
+}
+
+/// The way that holds a line, looked for in the line's own set.
 pub fn find(state: &State, line: u32) -> Option<usize> {
     let set = line & state.figures.sets.wrapping_sub(1); // sets is a power of two
     let base = (set as usize).saturating_mul(state.figures.ways as usize);
-    let ways = state.tags.iter().skip(base).take(state.figures.ways as usize);
-    ways.enumerate().find(|(_, tag)| tag.valid && tag.line == line).map(|(way, _)| base + way)
+    let mut ways = state.tags.iter().skip(base).take(state.figures.ways as usize);
+    ways.position(|tag| tag.valid && tag.line == line)
 }
 
 /// The marks in force, in order of setting: the places that have a name.
@@ -411,9 +418,7 @@ pub fn request_wanted(state: &State, _: &[u8], _: &[u8]) -> bool {
     let Request::Line(line) = state.request else {
         return true;
     };
-    let by_load = listed(state).iter().any(|load| {
-        !load.answered && load.number <= state.committed && load.address / LINE as u32 == line
-    });
+    let by_load = wanting(state, line).next().is_some();
     let by_store = held(state).first().is_some_and(|store| {
         store.number <= state.committed
             && store.address / LINE as u32 == line

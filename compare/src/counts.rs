@@ -13,10 +13,18 @@ pub type Needed = [(&'static str, u64)];
 const OF_ALL: [(&str, u64); 1] = [("run after a start", 3)];
 
 /// What they must meet out of so many of their own.
-const NEEDED: [(&str, u64); 50] = [
+const NEEDED: [(&str, u64); 58] = [
     ("run from a well-formed state", 40),
     ("value", 1),
-    ("wait", 1),
+    ("load waits", 1),
+    ("load waits, its line requested", 2),
+    ("load waits, another line requested", 2),
+    ("inquiry waits", 1),
+    ("inquiry waits, its line requested", 2),
+    ("inquiry waits, another line requested", 3),
+    ("wait beside a request in its set", 5),
+    ("wait for a requested line, a byte in a store", 16),
+    ("value of stores alone, its line requested", 10),
     ("fill", 1),
     ("eviction of a clean line", 2),
     ("drain to a present line", 1),
@@ -67,7 +75,8 @@ const NEEDED: [(&str, u64); 50] = [
 ];
 
 /// What those of write-back must meet besides.
-const OF_BACK: [(&str, u64); 9] = [
+const OF_BACK: [(&str, u64); 10] = [
+    ("wait for a line requested for a store", 5),
     ("eviction of a dirty line", 2),
     ("eviction of one dirty word", 4),
     ("eviction of two or three dirty words", 15),

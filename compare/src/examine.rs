@@ -11,7 +11,9 @@ use crate::random::Run;
 use crate::rules::{self, Source};
 use crate::stretch::{self, Given, Stretch, MARK, PLAIN};
 use crate::traffic::Dirty;
-use crate::types::{Answer, Call, Checkpoint, Request, Snapshot, State, Step, WritePolicy, LINE};
+use crate::types::{
+    Answer, Call, Checkpoint, Request, Snapshot, State, Step, StoreEntry, WritePolicy, LINE,
+};
 
 /// The checks to make.
 #[derive(Clone, Copy, Debug, PartialEq, Eq)]
@@ -47,6 +49,13 @@ impl std::fmt::Display for Failure {
         }
     }
 }
+
+/// The names under which a load that waits is counted, and an inquiry: any, one whose line
+/// is requested, one beside the request of another line.
+const LOAD_WAITS: [&str; 3] =
+    ["load waits", "load waits, its line requested", "load waits, another line requested"];
+const INQUIRY_WAITS: [&str; 3] =
+    ["inquiry waits", "inquiry waits, its line requested", "inquiry waits, another line requested"];
 
 /// A run being examined.
 struct Examiner<'a> {
@@ -95,6 +104,15 @@ fn well_formed(now: Snapshot) -> Result<(), String> {
     match check::refusal(now.state, now.cache, now.memory) {
         Some(no) => Err(format!("the state after the call would be refused by {no}")),
         None => Ok(()),
+    }
+}
+
+/// Address and width of load `number`, which a call makes or asks about.
+fn access_of(before: Snapshot, call: Call, number: u32) -> Option<(u32, u32)> {
+    let mut loads = before.state.loads.iter();
+    match call {
+        Call::Load { address, width } => Some((address, width)),
+        _ => loads.find(|load| load.number == number).map(|load| (load.address, load.width)),
     }
 }
 
@@ -178,7 +196,8 @@ impl Examiner<'_> {
         match answer {
             Answer::Refused(no) => self.count_refusal(before, call, no),
             Answer::Value { number, .. } => self.count_value(before, call, number),
-            Answer::Waits(_) => self.counts.met("wait", true),
+            Answer::Waits(number) => self.count_wait(before, call, number, false),
+            Answer::WaitsRequested(number) => self.count_wait(before, call, number, true),
             Answer::Drained(_) => self.count_drain(before, after),
             Answer::Idle => self.counts.met("idle with nothing to do", true),
             Answer::Filled(_) => self.count_fill(place, before, after),
@@ -267,17 +286,41 @@ impl Examiner<'_> {
         }
     }
 
+    /// Counts what a load or an inquiry that waits met, by its word.
+    fn count_wait(&mut self, before: Snapshot, call: Call, number: u32, requested: bool) {
+        let retried = matches!(call, Call::Retry { .. });
+        let [waits, for_line, beside] = if retried { INQUIRY_WAITS } else { LOAD_WAITS };
+        let (state, sets) = (before.state, self.run.figures.sets);
+        self.counts.met(waits, true);
+        self.counts.met(for_line, requested);
+        self.counts.met(beside, !requested && state.request != Request::Free);
+        let Some((address, width)) = access_of(before, call, number) else {
+            return;
+        };
+        let line = address / LINE as u32;
+        let in_set = |other: u32| sets > 1 && other != line && other % sets == line % sets;
+        let one_set = matches!(state.request, Request::Line(other) if in_set(other));
+        self.counts.met("wait beside a request in its set", one_set);
+        let older = |store: &&StoreEntry| store.number != 0 && store.number < number;
+        let gives = |s: &StoreEntry| (0..width).any(|k| plain::covers(s, u64::from(address + k)));
+        let covered = requested && state.stores.iter().filter(older).any(gives);
+        self.counts.met("wait for a requested line, a byte in a store", covered);
+        let for_store = requested && check::wanting(state, line).next().is_none();
+        self.counts.met("wait for a line requested for a store", for_store);
+    }
+
     /// Counts what a value met.
     fn count_value(&mut self, before: Snapshot, call: Call, number: u32) {
-        let entry = before.state.loads.iter().find(|load| load.number == number);
-        let (access, again) = match call {
-            Call::Load { address, width } => (Some((address, width)), self.used.contains(&number)),
-            _ => (entry.map(|load| (load.address, load.width)), self.again.contains(&number)),
-        };
+        let access = access_of(before, call, number);
         let retried = matches!(call, Call::Retry { .. });
+        let again =
+            if retried { self.again.contains(&number) } else { self.used.contains(&number) };
         let committed = number <= before.state.committed;
         self.counts.met("value", true);
         self.counts.met("value of a number used again", again);
+        let requested = access.map(|(address, _)| Request::Line(address / LINE as u32));
+        let of_stores = requested == Some(before.state.request);
+        self.counts.met("value of stores alone, its line requested", of_stores);
         self.counts.met("inquiry answered, committed", retried && committed);
         self.counts.met("inquiry answered, uncommitted", retried && !committed);
         if before.state.stores[1].number == 0 {
@@ -316,7 +359,7 @@ impl Examiner<'_> {
     fn count_mark_stretch(&mut self, inside: &[Given], stretch: Stretch, evicts: bool) {
         let has = |wanted: fn(&Given) -> bool| inside.iter().any(wanted);
         let waits =
-            has(|one| matches!((one.call, one.answer), (Call::Load { .. }, Answer::Waits(_))));
+            has(|one| matches!(one.call, Call::Load { .. }) && one.answer.waits().is_some());
         let second = inside[1..].iter().any(|one| one.answer == Answer::Checkpointed(stretch.n));
         let refused_set =
             has(|one| matches!(one.call, Call::Checkpoint { .. }) && !one.answer.accepted());

@@ -143,6 +143,49 @@ faults! {
     /// A clean word beside a dirty one counts as well formed, whatever memory holds.
     TakesCleanWord,
 
+    /// A load that waits says "waits-requested" while any line is requested.
+    RequestedByAny,
+    /// It does so while a line of its set is requested.
+    RequestedBySet,
+    /// It does so by the line numbers divided by the sets.
+    RequestedByTag,
+    /// It does so by the low six bits of the line numbers.
+    RequestedByLowBits,
+    /// It does so only at the requested line's first address.
+    RequestedByAddress,
+    /// A request for line 0 counts as none.
+    RequestedNeverZero,
+    /// The two words are exchanged.
+    WaitsExchanged,
+    /// No load that waits says "waits-requested".
+    NeverRequested,
+    /// Only inquiries do.
+    LoadNeverRequested,
+    /// Only load calls do.
+    RetryNeverRequested,
+    /// Only committed loads do.
+    RequestedOfCommitted,
+    /// Only the lowest committed load of the line does.
+    RequestedOfFirst,
+    /// A line that is requested for a store alone counts as not requested.
+    RequestedForLoads,
+    /// A load with a byte in a held store says "waits" though its line is requested.
+    RequestedUnlessCovered,
+    /// A committed load says "waits-requested" whatever is requested.
+    RequestedWhenCommitted,
+    /// A line counts as requested once a committed load wants it.
+    RequestedWhenWanted,
+    /// A line counts as requested once two loads wait for it.
+    RequestedBySecondLoad,
+    /// A line counts as requested while a held store writes to it.
+    RequestedByStore,
+    /// A load of a requested line waits though held stores have all its bytes.
+    RequestedHidesStores,
+    /// A load call that says "waits-requested" leaves its load marked answered.
+    RequestedAnswersLoad,
+    /// "waits-requested" has the requested line's first address.
+    RequestedTellsAddress,
+
     /// Write-through leaves the cached line as it is.
     ThroughLeavesLine,
     /// Write-through leaves memory as it is.
@@ -167,6 +210,8 @@ faults! {
     ThroughTakesDirty,
     /// In write-through the oldest store's line may be requested.
     ThroughWantsForStore,
+    /// In write-through no load says "waits-requested".
+    ThroughNeverRequested,
 
     /// An abort n forgets marks at n too.
     AbortForgetsAtNumber,
@@ -245,7 +290,7 @@ faults! {
 }
 
 /// The faults of write-through alone. Scripts keep to write-back.
-pub const THROUGH: [Fault; 12] = [
+pub const THROUGH: [Fault; 13] = [
     Fault::ThroughLeavesLine,
     Fault::ThroughLeavesMemory,
     Fault::ThroughMarksDirty,
@@ -258,6 +303,7 @@ pub const THROUGH: [Fault; 12] = [
     Fault::ThroughForgotten,
     Fault::ThroughTakesDirty,
     Fault::ThroughWantsForStore,
+    Fault::ThroughNeverRequested,
 ];
 
 /// The faults of marks alone. No script has a letter for them.

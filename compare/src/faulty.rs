@@ -1,22 +1,25 @@
 //! The faulty machines: each is the right one with one step made wrong, and some
 //! do not know the clause of well-formedness that they would else stop at.
-//! `fault` says what each does. `checkpoints` has those that are wrong about marks.
+//! `fault` says what each does. `checkpoints` has those that are wrong about marks,
+//! `waits` those that are wrong about loads that wait.
 
 mod checkpoints;
+mod waits;
 
 use std::ops::Range;
 
 use crate::check::{self, Clause};
 use crate::model::{
     committed_store, leaves, line_bytes, line_of, mark_of, record_bytes, remove_oldest_store,
-    write_back, write_value, Due, Machine, Right,
+    write_back, write_value, Due, Found, Machine, Right,
 };
 use crate::types::{
-    Answer, Call, Figures, Part, Request, State, StoreEntry, Tag, WritePolicy, ALL_DIRTY, LINE,
-    LOADS, STORES, WORD,
+    Answer, Call, Figures, Lookup, Part, Request, State, StoreEntry, Tag, WritePolicy, ALL_DIRTY,
+    LINE, LOADS, STORES, WORD,
 };
 
 pub use checkpoints::*;
+pub use waits::*;
 
 /// Checks 1 and 10 of a machine that does not know one of the clauses.
 fn without(unknown: Clause, state: &State, cache: &[u8], memory: &[u8]) -> Option<u32> {
@@ -48,8 +51,8 @@ impl Machine for LoadAlwaysWaits {
         without(check::waiting_loads_lack_a_byte, state, cache, memory)
     }
 
-    fn list_load(state: &mut State, address: u32, width: u32, _: Option<u32>) -> Answer {
-        Right::list_load(state, address, width, None)
+    fn list_load(state: &mut State, address: u32, width: u32, _: Found) -> Answer {
+        Right::list_load(state, address, width, Err(Lookup::Absent))
     }
 }
 
@@ -154,8 +157,8 @@ impl Machine for BypassFromYounger {
 pub struct LoadChangesAges;
 
 impl Machine for LoadChangesAges {
-    fn list_load(state: &mut State, address: u32, width: u32, found: Option<u32>) -> Answer {
-        if found.is_some() {
+    fn list_load(state: &mut State, address: u32, width: u32, found: Found) -> Answer {
+        if found.is_ok() {
             Right::use_line(state, line_of(address));
         }
         Right::list_load(state, address, width, found)
@@ -272,7 +275,7 @@ impl Machine for RequestForUncommitted {
     fn missing_line(state: &State) -> Option<u32> {
         let waiting = check::listed(state).iter().filter(|load| !load.answered);
         let mut lines = waiting.map(|load| line_of(load.address));
-        lines.find(|line| check::find(state, *line).is_none())
+        lines.find(|line| Right::record(state, *line).is_none())
     }
 }
 
@@ -289,7 +292,7 @@ pub struct DrainPassesLoad;
 
 impl Machine for DrainPassesLoad {
     fn idle(state: &mut State, cache: &mut [u8], memory: &mut [u8]) -> Answer {
-        let passing = committed_store(state).map(|store| Due::of(state, store));
+        let passing = committed_store(state).map(|store| Right::due(state, store));
         match passing.filter(|due| Right::can_drain(state, *due)) {
             Some(due) if Right::refusal(state, cache, memory).is_none() => {
                 Right::drain(state, cache, memory, due)
@@ -401,7 +404,7 @@ pub struct RetryFromYounger;
 
 impl Machine for RetryFromYounger {
     // A load has the highest number, so this is seen by inquiries alone.
-    fn gather(state: &State, cache: &[u8], _: u32, address: u32, width: u32) -> Option<u32> {
+    fn gather(state: &State, cache: &[u8], _: u32, address: u32, width: u32) -> Found {
         Right::gather(state, cache, u32::MAX, address, width)
     }
 }

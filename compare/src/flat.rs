@@ -123,15 +123,20 @@ impl Flat {
         after: Snapshot,
     ) -> Result<(), String> {
         match (call, answer) {
-            (Call::Load { address, width }, Answer::Value { number, .. })
-            | (Call::Load { address, width }, Answer::Waits(number)) => {
+            (
+                Call::Load { address, width },
+                Answer::Value { number, .. }
+                | Answer::Waits(number)
+                | Answer::WaitsRequested(number),
+            ) => {
                 self.take_number(number)?;
                 self.loads.insert(number, (address, width));
                 self.judge_load(before, number, answer)
             }
-            (Call::Retry { number }, Answer::Value { .. } | Answer::Waits(_)) => {
-                self.judge_load(before, number, answer)
-            }
+            (
+                Call::Retry { number },
+                Answer::Value { .. } | Answer::Waits(_) | Answer::WaitsRequested(_),
+            ) => self.judge_load(before, number, answer),
             (Call::Store { .. }, Answer::Stored(number)) => self.stored(call, number),
             (Call::Commit { number }, Answer::Committed(_)) => {
                 self.committed = number as u64;
@@ -196,7 +201,8 @@ impl Flat {
         Ok(())
     }
 
-    /// The answer of a load or an inquiry, by flat memory and the waiting rule.
+    /// The answer of a load or an inquiry, by flat memory and the waiting rule, for which
+    /// either word is "waits".
     fn judge_load(&self, before: Snapshot, number: u32, answer: Answer) -> Result<(), String> {
         let Some(&(address, width)) = self.loads.get(&number) else {
             return Err(format!("no accepted load {number}"));
@@ -210,7 +216,8 @@ impl Flat {
             let value = self.value(number, address, width);
             Answer::Value { number, value }
         };
-        if expected != answer {
+        let seen = answer.waits().map_or(answer, Answer::Waits);
+        if expected != seen {
             return Err(format!("flat: expected {expected:?}, seen {answer:?}"));
         }
         Ok(())

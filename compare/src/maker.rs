@@ -97,6 +97,7 @@ const ROWS: &[Row] = &[
     row(Maker::late_retry, &[(Short, 5), (Long, 8), (Struck, 6), (Accepted, 1)]),
     row(Maker::crowd_queue, &[(Short, 1), (Branches, 1), (Long, 1), (Struck, 1)]),
     row(Maker::store_between_loads, &[(Short, 8)]),
+    row(Maker::loads_beside_request, &[(Short, 3)]),
 ];
 
 /// Dropped stretches within each other.
@@ -194,7 +195,7 @@ impl Maker {
         let any = self.rng.word();
         let stands = Right::gather(&self.state, &self.cache, u32::MAX, address, width);
         let value = match stands {
-            Some(value) if any >> 61 == 0 => value,
+            Ok(value) if any >> 61 == 0 => value,
             _ => (any as u32) >> (32 - 8 * width),
         };
         self.push(Call::Store { address, width, value })
@@ -481,7 +482,7 @@ impl Maker {
     fn late_retry(&mut self) {
         let first = self.two_fills_due();
         let answer = self.load_beside_fills(first);
-        if let Answer::Waits(number) = answer {
+        if let Some(number) = answer.waits() {
             self.push(Call::Retry { number });
             if !self.rng.one_in(4) {
                 self.push(Call::Abort { number });
@@ -539,12 +540,44 @@ impl Maker {
         for call in [Call::Commit { number: last }, Call::Idle, Call::Reply, Call::Idle] {
             self.push(call);
         }
-        if let Answer::Waits(number) = answer {
+        if let Some(number) = answer.waits() {
             self.push(Call::Retry { number });
         }
         for call in [Call::Idle, Call::Reply, Call::Idle] {
             self.push(call);
         }
+    }
+
+    /// While a line is requested, loads of it and of lines whose numbers differ from its
+    /// own in one bit, inquiries among them, and mostly the abort that drops these loads.
+    fn loads_beside_request(&mut self) {
+        if self.state.request == Request::Free {
+            self.load();
+            let number = self.state.last;
+            self.push(Call::Commit { number });
+            self.idle();
+        }
+        let next = self.state.last.checked_add(1);
+        let (Request::Line(line), Some(number)) = (self.state.request, next) else {
+            return self.single();
+        };
+        for _ in 0..2 + self.rng.below(3) {
+            let address = self.near_address(line);
+            self.push(Call::Load { address, width: 1 });
+            self.retry();
+        }
+        if !self.rng.one_in(4) {
+            self.push(Call::Abort { number });
+        }
+    }
+
+    /// An address in a line whose number differs from that of another in one of its four
+    /// highest bits, or now and then in that line.
+    fn near_address(&mut self, line: u32) -> u32 {
+        let lines = (self.memory.len() / LINE) as u32;
+        let near = line ^ lines.next_power_of_two() >> (1 + self.rng.below(4));
+        let line = if near < lines && !self.rng.one_in(4) { near } else { line };
+        line * LINE as u32 + self.rng.below(LINE as u64) as u32
     }
 
     /// Fills one of the queues until it refuses.
@@ -624,7 +657,7 @@ impl Maker {
     /// Loads a line whole, brought in if it is absent.
     fn bring(&mut self, line: u32) {
         let address = line * LINE as u32;
-        if let Answer::Waits(number) = self.push(Call::Load { address, width: 4 }) {
+        if let Some(number) = self.push(Call::Load { address, width: 4 }).waits() {
             for call in [Call::Commit { number }, Call::Idle, Call::Reply, Call::Retry { number }] {
                 self.push(call);
             }

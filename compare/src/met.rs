@@ -4,15 +4,19 @@ use crate::counts::{refused, Counts};
 use crate::model::{Machine, Right};
 use crate::script::{command, Command, Playing};
 use crate::traffic::Dirty;
-use crate::types::{Answer, Call};
+use crate::types::{Answer, Call, Request};
 
 /// What long scripts must meet, out of so many lines.
-pub const NEEDED: [(&str, u64); 37] = [
+pub const NEEDED: [(&str, u64); 41] = [
     ("accepted G", 40_000),
     ("accepted call", 2),
     ("stored", 20),
     ("value", 20),
     ("waits", 40),
+    ("waits, another line requested", 800),
+    ("waits-requested", 200),
+    ("inquiry waits, another line requested", 1_500),
+    ("inquiry waits, its line requested", 400),
     ("inquiry answered", 100),
     ("kept", 100),
     ("committed", 40),
@@ -52,6 +56,8 @@ pub const NEEDED: [(&str, u64); 37] = [
 pub struct Told {
     pub command: Option<Command>,
     pub answer: Answer,
+    /// Did a request stand before the line?
+    pub requested: bool,
     /// What was dirty before the line, and after it.
     pub before: Dirty,
     pub after: Dirty,
@@ -83,9 +89,10 @@ impl Teller {
 
     /// Plays a line.
     pub fn line(&mut self, line: &[u8]) -> Answer {
-        let before = self.dirty();
+        let requested = self.playing.now().is_some_and(|now| now.state.request != Request::Free);
+        let (command, before) = (command(line), self.dirty());
         let answer = self.playing.answer(Some(line));
-        self.told.push(Told { command: command(line), answer, before, after: self.dirty() });
+        self.told.push(Told { command, answer, requested, before, after: self.dirty() });
         answer
     }
 }
@@ -97,6 +104,7 @@ pub fn name(answer: Answer) -> &'static str {
         Answer::Stored(_) => "stored",
         Answer::Value { .. } => "value",
         Answer::Waits(_) => "waits",
+        Answer::WaitsRequested(_) => "waits-requested",
         Answer::Committed(_) => "committed",
         Answer::Kept(_) => "kept",
         Answer::Requested(_) => "request",
@@ -121,6 +129,11 @@ fn count_line(counts: &mut Counts, line: &[u8], told: Told) {
     counts.met_dirty(told.answer, told.before, told.after);
     let inquiry = matches!(told.command, Some(Command::Step(Call::Retry { .. })));
     counts.met("inquiry answered", inquiry && matches!(told.answer, Answer::Value { .. }));
+    let for_line = matches!(told.answer, Answer::WaitsRequested(_));
+    let beside = matches!(told.answer, Answer::Waits(_)) && told.requested;
+    counts.met("waits, another line requested", beside);
+    counts.met("inquiry waits, another line requested", inquiry && beside);
+    counts.met("inquiry waits, its line requested", inquiry && for_line);
 }
 
 /// Counts what a script met.

@@ -10,7 +10,7 @@ use std::ops::Range;
 
 use crate::check;
 use crate::types::{
-    Answer, Call, Checkpoint, Figures, LoadEntry, Part, Request, State, StoreEntry, Tag,
+    Answer, Call, Checkpoint, Figures, LoadEntry, Lookup, Part, Request, State, StoreEntry, Tag,
     CHECKPOINTS, LINE, LOADS, STORES, WORD, WORDS,
 };
 
@@ -61,6 +61,11 @@ fn set_of(state: &State, line: u32) -> Range<usize> {
     let ways = state.figures.ways as usize;
     let base = (line % state.figures.sets) as usize * ways;
     base..base + ways
+}
+
+/// The record of a line in a way of its set.
+fn record_of(state: &State, line: u32, way: usize) -> usize {
+    set_of(state, line).start + way
 }
 
 /// The aligned word of the cache that holds an address of a record's line.
@@ -121,11 +126,8 @@ pub struct Due {
     pub record: Option<usize>,
 }
 
-impl Due {
-    pub fn of(state: &State, store: StoreEntry) -> Due {
-        Due { store, record: check::find(state, line_of(store.address)) }
-    }
-}
+/// What a load finds: its value, or what the lookup says of the line that it lacks.
+pub type Found = Result<u32, Lookup>;
 
 /// Does a load leave the queue at a commit of k?
 pub fn leaves(load: &LoadEntry, k: u32) -> bool {
@@ -218,6 +220,26 @@ pub trait Machine {
         check::name(name).or_else(|| unused.then_some(21))
     }
 
+    // The tag lookup.
+
+    /// Where a line stands: present in a way of its set, requested, or neither. A present
+    /// line is present whatever the register says.
+    fn lookup(state: &State, line: u32) -> Lookup {
+        match check::find(state, line) {
+            Some(way) => Lookup::Present(way),
+            None if state.request == Request::Line(line) => Lookup::Requested,
+            None => Lookup::Absent,
+        }
+    }
+
+    /// The record of a line, if the line is present.
+    fn record(state: &State, line: u32) -> Option<usize> {
+        match Self::lookup(state, line) {
+            Lookup::Present(way) => Some(record_of(state, line, way)),
+            Lookup::Requested | Lookup::Absent => None,
+        }
+    }
+
     // The steps of loads and inquiries.
 
     /// Does a held store give bytes to load `number`?
@@ -249,28 +271,40 @@ pub trait Machine {
         (word, missing)
     }
 
-    /// The value of an access as load `number` sees it, or none when a byte is
-    /// in no older held store and the line is absent.
-    fn gather(state: &State, cache: &[u8], number: u32, address: u32, width: u32) -> Option<u32> {
+    /// The value of an access as load `number` sees it. When a byte is in no older
+    /// held store and the line is not present, what the lookup says of the line.
+    fn gather(state: &State, cache: &[u8], number: u32, address: u32, width: u32) -> Found {
         let (mut word, missing) = Self::forward(state, number, address, width);
         if missing != 0 {
-            let record = check::find(state, line_of(address))?;
-            word |= cached_word(cache, record, address) & missing;
+            let line = line_of(address);
+            match Self::lookup(state, line) {
+                Lookup::Present(way) => {
+                    let record = record_of(state, line, way);
+                    word |= cached_word(cache, record, address) & missing;
+                }
+                lacking => return Err(lacking),
+            }
         }
         let wanted = check::word_mask(address, width);
-        Some((word & wanted) >> (8 * (address % 4)))
+        Ok((word & wanted) >> (8 * (address % 4)))
+    }
+
+    /// What load `number` answers by what it found.
+    fn load_answer(number: u32, found: Found) -> Answer {
+        match found {
+            Ok(value) => Answer::Value { number, value },
+            Err(Lookup::Requested) => Answer::WaitsRequested(number),
+            Err(_) => Answer::Waits(number),
+        }
     }
 
     /// Lists a load with what it found. It takes last + 1.
-    fn list_load(state: &mut State, address: u32, width: u32, found: Option<u32>) -> Answer {
+    fn list_load(state: &mut State, address: u32, width: u32, found: Found) -> Answer {
         let number = state.last + 1;
         let place = check::listed(state).len();
-        state.loads[place] = LoadEntry { number, address, width, answered: found.is_some() };
+        state.loads[place] = LoadEntry { number, address, width, answered: found.is_ok() };
         state.last = number;
-        match found {
-            Some(value) => Answer::Value { number, value },
-            None => Answer::Waits(number),
-        }
+        Self::load_answer(number, found)
     }
 
     /// A waiting load is answered: it uses its line and leaves if it is committed.
@@ -301,7 +335,7 @@ pub trait Machine {
 
     /// Uses a line if it is present.
     fn use_line(state: &mut State, line: u32) {
-        if let Some(record) = check::find(state, line) {
+        if let Some(record) = Self::record(state, line) {
             Self::use_record(state, record);
         }
     }
@@ -356,6 +390,11 @@ pub trait Machine {
 
     // The steps of idle.
 
+    /// A store with the record of its line.
+    fn due(state: &State, store: StoreEntry) -> Due {
+        Due { store, record: Self::record(state, line_of(store.address)) }
+    }
+
     /// Does case (a) apply to a store that is ready? Write-through needs no line present.
     fn can_drain(state: &State, due: Due) -> bool {
         check::writes_through(state) || due.record.is_some()
@@ -389,7 +428,7 @@ pub trait Machine {
     fn lacks_line(state: &State, load: &LoadEntry) -> bool {
         load.number <= state.committed
             && !load.answered
-            && check::find(state, line_of(load.address)).is_none()
+            && Self::record(state, line_of(load.address)).is_none()
     }
 
     /// Case (b): the line of the lowest committed waiting load whose line is absent.
@@ -531,11 +570,11 @@ pub trait Machine {
             return Answer::Refused(14);
         };
         let LoadEntry { address, width, .. } = state.loads[place];
-        let Some(value) = Self::gather(state, cache, number, address, width) else {
-            return Answer::Waits(number);
-        };
-        Self::answer_load(state, place);
-        Answer::Value { number, value }
+        let found = Self::gather(state, cache, number, address, width);
+        if found.is_ok() {
+            Self::answer_load(state, place);
+        }
+        Self::load_answer(number, found)
     }
 
     /// Commit k.
@@ -569,7 +608,7 @@ pub trait Machine {
         if let Some(no) = Self::refusal(state, cache, memory) {
             return Answer::Refused(no);
         }
-        let ready = ready_store(state).map(|store| Due::of(state, store));
+        let ready = ready_store(state).map(|store| Self::due(state, store));
         if let Some(due) = ready.filter(|due| Self::can_drain(state, *due)) {
             return Self::drain(state, cache, memory, due);
         }
@@ -613,7 +652,7 @@ pub trait Machine {
         if outside || Self::refusal(state, cache, memory).is_some() {
             return Part::default();
         }
-        match check::find(state, line_of(address)) {
+        match Self::record(state, line_of(address)) {
             Some(record) => Part { place: record * LINE, length: LINE },
             None => Part::default(),
         }

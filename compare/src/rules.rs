@@ -217,10 +217,12 @@ fn use_line(view: &mut View, line: u32) {
     order.insert(0, present.way);
 }
 
-/// The answer of a load or an inquiry.
-fn load_answer(number: u32, found: Option<u32>) -> Answer {
+/// The answer of a load or an inquiry about an address, by the state before the call. The
+/// register alone tells the two words apart, since the line of a load that waits is absent.
+fn load_answer(view: &View, number: u32, address: u32, found: Option<u32>) -> Answer {
     match found {
         Some(value) => Answer::Value { number, value },
+        None if view.request == Some(address / 16) => Answer::WaitsRequested(number),
         None => Answer::Waits(number),
     }
 }
@@ -228,9 +230,10 @@ fn load_answer(number: u32, found: Option<u32>) -> Answer {
 fn load(mut view: View, address: u32, width: u32) -> (Answer, View) {
     let number = view.last as u32 + 1;
     let found = value(&view, number, address, width);
+    let answer = load_answer(&view, number, address, found);
     view.loads.push(LoadEntry { number, address, width, answered: found.is_some() });
     view.last += 1;
-    (load_answer(number, found), view)
+    (answer, view)
 }
 
 fn store(mut view: View, address: u32, width: u32, value: u32) -> (Answer, View) {
@@ -244,6 +247,7 @@ fn retry(mut view: View, number: u32) -> (Answer, View) {
     let asked = |load: &LoadEntry| load.number == number;
     let entry = *view.loads.iter().find(|l| asked(l)).expect("it waits");
     let found = value(&view, number, entry.address, entry.width);
+    let answer = load_answer(&view, number, entry.address, found);
     if found.is_some() && number as u64 <= view.committed {
         view.loads.retain(|load| !asked(load));
         use_line(&mut view, entry.address / 16);
@@ -252,7 +256,7 @@ fn retry(mut view: View, number: u32) -> (Answer, View) {
             load.answered = true;
         }
     }
-    (load_answer(number, found), view)
+    (answer, view)
 }
 
 fn commit(mut view: View, k: u32) -> (Answer, View) {

@@ -189,6 +189,7 @@ fn words(answer: Answer) -> (&'static str, Option<u32>, Option<u32>) {
         Answer::Stored(number) => ("stored", Some(number), None),
         Answer::Value { number, value } => ("value", Some(number), Some(value)),
         Answer::Waits(number) => ("waits", Some(number), None),
+        Answer::WaitsRequested(number) => ("waits-requested", Some(number), None),
         Answer::Committed(number) => ("committed", Some(number), None),
         Answer::Kept(number) => ("kept", Some(number), None),
         Answer::Requested(address) => ("request", Some(address), None),
@@ -202,8 +203,8 @@ fn words(answer: Answer) -> (&'static str, Option<u32>, Option<u32>) {
     }
 }
 
-/// The bytes of an output line from its end backwards. The longest one is
-/// "committed" or "value" with its numbers and the LF.
+/// The bytes of an output line from its end backwards. The longest ones are "value" with
+/// its two numbers and the LF, 28 bytes, and "waits-requested" with its number, 27.
 struct Text {
     bytes: [u8; 32],
     first: usize,

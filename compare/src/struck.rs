@@ -84,7 +84,8 @@ fn inside(told: &[Told], stretch: Stretch) -> [bool; 9] {
         lines.iter().filter_map(given).map(|one| (one.call, one.answer)).collect();
     let has = |wanted: &dyn Fn(&(Call, Answer)) -> bool| given.iter().any(wanted);
     let answers = |wanted: fn(&Answer) -> bool| given.iter().any(|(_, answer)| wanted(answer));
-    let waits = has(&|one| matches!(one, (Call::Load { .. }, Answer::Waits(_))));
+    let waits =
+        has(&|(call, answer)| matches!(call, Call::Load { .. }) && answer.waits().is_some());
     let struck = |call: Call| (stretch.kind.struck)(call, stretch.n);
     let inquiry = has(&|one| match one {
         (Call::Retry { .. }, Answer::Value { .. }) => struck(one.0),

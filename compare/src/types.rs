@@ -66,6 +66,17 @@ pub enum Request {
     Line(u32),
 }
 
+/// What the tag lookup says of a line.
+#[derive(Clone, Copy, Debug, PartialEq, Eq)]
+pub enum Lookup {
+    /// The way of its set that the line is in.
+    Present(usize),
+    /// It is not present, and the miss register names it.
+    Requested,
+    /// It is neither present nor requested.
+    Absent,
+}
+
 /// Where a drain writes a store: the write profile.
 #[derive(Clone, Copy, Debug, Default, PartialEq, Eq)]
 pub enum WritePolicy {
@@ -214,6 +225,8 @@ pub enum Answer {
     },
     /// The load's number.
     Waits(u32),
+    /// The load's number; its line is requested.
+    WaitsRequested(u32),
     /// The committed number now in force.
     Committed(u32),
     /// The last number now in force.
@@ -238,6 +251,14 @@ impl Answer {
     /// Accepted in the sense of the paper: no refusal.
     pub fn accepted(&self) -> bool {
         !matches!(self, Answer::Refused(_))
+    }
+
+    /// The number of a load that waits, by either word.
+    pub fn waits(&self) -> Option<u32> {
+        match *self {
+            Answer::Waits(number) | Answer::WaitsRequested(number) => Some(number),
+            _ => None,
+        }
     }
 }
 

@@ -66,6 +66,7 @@ fn demand_2_alone_notices() {
         Fault::EvictMissesWord,
         Fault::FlushMissesWord,
         Fault::FlushClearsMarks,
+        Fault::RequestedHidesStores,
         Fault::ThroughLeavesLine,
         Fault::ThroughLeavesMemory,
         Fault::CheckpointAtLast,

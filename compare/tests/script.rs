@@ -147,6 +147,7 @@ fn text_of(answer: Answer) -> String {
     match answer {
         Answer::Ready | Answer::Shown(_) => unreachable!("no such line in these scripts"),
         Answer::Value { number, value } => format!("value {number} {value}"),
+        Answer::WaitsRequested(number) => format!("waits-requested {number}"),
         Answer::Requested(address) => format!("request {address}"),
         Answer::Idle => "idle".to_string(),
         other => format!("{other:?}").to_lowercase().replace('(', " ").replace(')', ""),

@@ -130,8 +130,10 @@ pub enum Answer {
         /// The value.
         value: u32,
     },
-    /// The number of a load that waits.
+    /// The number of a load that waits, its line not requested.
     Waits(u32),
+    /// The number of a load that waits, its line requested.
+    WaitsRequested(u32),
     /// The committed number that is in force.
     Committed(u32),
     /// The last number that is in force.
@@ -159,6 +161,16 @@ pub enum Answer {
     Checkpointed(u32),
 }
 
+impl Answer {
+    /// The number of a load that waits, by either word.
+    pub const fn waits(&self) -> Option<u32> {
+        match *self {
+            Answer::Waits(number) | Answer::WaitsRequested(number) => Some(number),
+            _ => None,
+        }
+    }
+}
+
 /// What an answer of the library stands for.
 pub(crate) fn told(answer: AnswerImage) -> Result<Answer, Refusal> {
     let AnswerImage { kind, first, second } = answer;
@@ -177,6 +189,7 @@ pub(crate) fn told(answer: AnswerImage) -> Result<Answer, Refusal> {
         boundary::KIND_SHOWN => Answer::Shown { place: first, length: second },
         boundary::KIND_READY => Answer::Ready,
         boundary::KIND_CHECKPOINTED => Answer::Checkpointed(first),
+        boundary::KIND_WAITS_REQUESTED => Answer::WaitsRequested(first),
         // "No such call" and "ran" among them: this crate makes only calls that there are,
         // starts only in profiles that there are, and a batch is no call.
         _ => panic!("the library answers no call of this crate by kind {kind}"),

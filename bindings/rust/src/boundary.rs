@@ -20,6 +20,7 @@ pub const KIND_FLUSHED: u32 = 10;
 pub const KIND_SHOWN: u32 = 11;
 pub const KIND_READY: u32 = 12;
 pub const KIND_CHECKPOINTED: u32 = 13;
+pub const KIND_WAITS_REQUESTED: u32 = 14;
 pub const KIND_RAN: u32 = 254;
 
 // Calls by their numbers.

@@ -21,7 +21,9 @@
 //!
 //! A load that waits: commit it, idle (request), reply (filled), retry (value). An
 //! uncommitted load never asks for its line. An idle call may write an older store
-//! first (drained), and there is one request at a time.
+//! first (drained), and there is one request at a time. While its line is requested, for
+//! whichever load or store, a load that waits answers [`Answer::WaitsRequested`] in place
+//! of [`Answer::Waits`].
 //!
 //! ```
 //! # use nicoisetarn::{Answer, Figures, Refusal, Unit};
@@ -30,6 +32,8 @@
 //! assert_eq!(unit.idle()?, Answer::Idle);
 //! assert_eq!(unit.commit(1)?, Answer::Committed(1));
 //! assert_eq!(unit.idle()?, Answer::Requested(16));
+//! assert_eq!(unit.retry(1)?, Answer::WaitsRequested(1));
+//! assert_eq!(unit.load(4, 1)?, Answer::Waits(2));
 //! assert_eq!(unit.reply()?, Answer::Filled(16));
 //! assert_eq!(unit.retry(1)?, Answer::Value { number: 1, value: 9 });
 //! # Ok::<(), Refusal>(())

@@ -79,8 +79,9 @@ impl Unit {
 
     /// Load of width bytes: it takes the next number and joins the load queue. Each
     /// byte comes from the youngest older held store that covers it, else from the
-    /// cached line: [`Answer::Value`], or [`Answer::Waits`] while some byte has
-    /// neither. It requests nothing and changes no age.
+    /// cached line: [`Answer::Value`]. While some byte has neither the load waits:
+    /// [`Answer::WaitsRequested`] where the miss register names its line, for whichever
+    /// load or store, else [`Answer::Waits`]. It requests nothing and changes no age.
     ///
     /// Refused by 2 (width), 3 (alignment), 4 (address), 13 (no number left) or 12
     /// (8 loads are listed).
@@ -98,8 +99,9 @@ impl Unit {
     }
 
     /// Retry of a load that waits, the scope paper's inquiry: [`Answer::Value`], or
-    /// [`Answer::Waits`] still. Once answered, a committed load leaves the queue and
-    /// uses its line if that is present; an uncommitted one is marked answered.
+    /// [`Answer::Waits`] or [`Answer::WaitsRequested`] still, as the miss register is now.
+    /// Once answered, a committed load leaves the queue and uses its line if that is
+    /// present; an uncommitted one is marked answered.
     ///
     /// Refused by 14: no waiting load has that number.
     pub fn retry(&mut self, number: u32) -> Result<Answer, Refusal> {

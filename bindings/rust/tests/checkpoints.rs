@@ -7,7 +7,7 @@
 mod beside;
 
 use beside::refused::{all_refused, answers};
-use beside::{in_each_profile, in_force, judge, layout, library_figures, library_step};
+use beside::{in_each_profile, in_force, judge, layout, library_step, played};
 use beside::{state_of, times, with_byte, with_word, Bench, Beside};
 use compare::check::CLAUSES;
 use compare::counts::Counts;
@@ -161,25 +161,6 @@ fn marks_at_the_last_number() -> Result<(), Refusal> {
 /// One set of one way over three lines.
 const SETUP: Setup = Setup::new(1, 1, 48);
 
-/// A start with memory as found, byte a + 1 at a.
-fn bench_of(setup: Setup) -> Bench {
-    let figures = library_figures(setup.figures);
-    let memory: Vec<u8> = (1..=setup.memory as u8).collect();
-    let mut cache = vec![0; figures.cache_length()];
-    let image = Image::start(figures, &mut cache, &memory).unwrap();
-    Bench { image, cache, memory }
-}
-
-/// Plays calls on both, one by one, and then in one list, which leaves the same.
-fn played(bench: &Bench, calls: &[Call]) -> (Vec<Told>, Bench) {
-    let mut beside = Beside::new(bench);
-    let answers: Vec<Told> = calls.iter().map(|call| beside.play(*call).unwrap()).collect();
-    let mut listed = bench.clone();
-    assert_eq!(listed.run(calls), answers);
-    assert_eq!(listed, beside.library);
-    (answers, listed)
-}
-
 fn set(name: u32) -> Call {
     Call::Checkpoint { name }
 }
@@ -201,7 +182,7 @@ fn before_the_stretch(setup: Setup) -> Bench {
         set(8),
         Call::Store { address: 16, width: 1, value: 200 },
     ];
-    let (answers, bench) = played(&bench_of(setup), &calls);
+    let (answers, bench) = played(&Bench::start(setup), &calls);
     assert!(answers.iter().all(Told::accepted), "{answers:?}");
     assert_eq!(marks(&bench.image), [(7, 2), (8, 3)]);
     bench
@@ -293,6 +274,14 @@ fn runs_under_the_plain_rules() {
         ("mark stretch, second mark and refusals inside", 2_000),
         ("mark stretch, older work committed inside", 2_000),
         ("dropped stretch at a mark, load inside", 4_000),
+        ("load waits, its line requested", 400),
+        ("load waits, another line requested", 500),
+        ("inquiry waits, its line requested", 400),
+        ("inquiry waits, another line requested", 700),
+        ("wait beside a request in its set", 1_000),
+        ("wait for a requested line, a byte in a store", 4_000),
+        ("wait for a line requested for a store", 5_000),
+        ("value of stores alone, its line requested", 1_000),
     ];
     judge("runs under the plain rules", &counts, &needed);
 }
@@ -312,7 +301,7 @@ fn three_marks(setup: Setup) -> Bench {
     let load = Call::Load { address: 16, width: 1 };
     let calls =
         [load, Call::Commit { number: 1 }, Call::Idle, set(5), store, set(3), store, store, set(8)];
-    let (answers, bench) = played(&bench_of(setup), &calls);
+    let (answers, bench) = played(&Bench::start(setup), &calls);
     assert!(answers.iter().all(Told::accepted), "{answers:?}");
     assert_eq!(marks(&bench.image), THREE.map(|[name, number, _]| (name, number)));
     bench

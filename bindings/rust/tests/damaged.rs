@@ -16,6 +16,7 @@ use beside::{
 };
 use compare::check::{self, CLAUSES};
 use compare::counts::{refused, Counts};
+use compare::met;
 use compare::random::Rng;
 use compare::types::{Answer, Call, Part, WritePolicy};
 use nicoisetarn::{Figures, Image, Refusal, Tag, CHECKPOINTS, LINE, LOADS, RECORDS, STORES, WORD};
@@ -323,6 +324,9 @@ fn count(counts: &mut Counts, call: Call, answer: Answer) {
     counts.met("accepted start", answer == Answer::Ready);
     let plain = !matches!(call, Call::Start { .. } | Call::ShowLine { .. });
     counts.met("other call accepted", plain && answer.accepted());
+    if answer.waits().is_some() {
+        counts.met(met::name(answer), true);
+    }
     if let Answer::Refused(no) = answer {
         counts.met(refused(no), true);
     }
@@ -417,8 +421,10 @@ fn judge_fields(tallies: &[Tally]) {
 }
 
 /// What damaged fields must meet, out of so many calls.
-const NEEDED_OF_FIELDS: [(&str, u64); 37] = [
+const NEEDED_OF_FIELDS: [(&str, u64); 39] = [
     ("other call accepted", 40),
+    ("waits", 1_000),
+    ("waits-requested", 8_000),
     ("accepted start", 100),
     ("line shown", 500),
     ("image that stands for no state", 150),

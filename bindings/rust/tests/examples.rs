@@ -1,5 +1,6 @@
-//! The scope paper's worked script by calls, every refusal, starts, write-through, dirty
-//! words, show line's part, and what an image tells. (`checkpoints` has those of marks.)
+//! The scope paper's worked script by calls, every refusal, starts, loads that wait,
+//! write-through, dirty words, show line's part, and what an image tells. (`checkpoints`
+//! has those of marks, `waits` more of loads that wait.)
 
 mod beside;
 mod numbered;
@@ -223,6 +224,27 @@ fn refused_starts_leave_all() {
         let restarted = Unit::from_parts(image.clone(), cache.clone(), memory.clone());
         assert_eq!(restarted, started_with(figures, 48));
     }
+}
+
+/// A load that waits says whether its line is requested, and either word has its number.
+#[test]
+fn words_of_waits() -> Result<(), Refusal> {
+    for figures in in_each_policy(figures(1, 2)) {
+        let mut unit = busy_with(figures);
+        let asked = unit.clone();
+        assert_eq!(unit.retry(1)?, Answer::WaitsRequested(1));
+        assert_eq!(unit, asked);
+        assert_eq!(unit.load(20, 4)?, Answer::WaitsRequested(4));
+        assert_eq!(unit.load(32, 4)?, Answer::Waits(5));
+        let listed = unit.run(&[Call::Retry(4), Call::Retry(5), Call::Load(8, 4)]);
+        let value = Answer::Value { number: 6, value: 0xCAFE };
+        assert_eq!(listed, [Ok(Answer::WaitsRequested(4)), Ok(Answer::Waits(5)), Ok(value)]);
+        let numbers: Vec<_> = listed.into_iter().flatten().map(|it| it.waits()).collect();
+        assert_eq!(numbers, [Some(4), Some(5), None]);
+        assert_eq!((unit.reply()?, unit.retry(5)?), (Answer::Filled(16), Answer::Waits(5)));
+        assert_eq!((unit.idle()?.waits(), unit.load(32, 1)?.waits()), (None, Some(7)));
+    }
+    Ok(())
 }
 
 /// Stores a byte, commits all and makes an idle call.

@@ -12,7 +12,7 @@ use compare::met;
 use compare::random::{self, Mix, Rng, Run};
 use compare::traffic::Dirty;
 use compare::types::{Answer, Call, Setup};
-use nicoisetarn::{Image, CHECKPOINTS, LINE, WORD};
+use nicoisetarn::{Image, ListedLoad, CHECKPOINTS, LINE, WORD};
 
 /// What runs met, for each of `PROFILES`.
 type ByProfile = [Counts; 2];
@@ -29,11 +29,34 @@ fn play(run: &Run, counts: &mut ByProfile) -> Result<(), String> {
         counts.met("accepted call", answer.accepted());
         let retried = matches!((call, answer), (Call::Retry { .. }, Answer::Value { .. }));
         counts.met("inquiry answered", retried);
+        count_waits(counts, call, answer, &before);
         counts.met("line shown", matches!(answer, Answer::Shown(part) if part.length != 0));
         count_writes(counts, answer, &before, &beside.library.image);
         count_marks(counts, call, answer, [&before, &beside.library.image]);
     }
     Ok(())
+}
+
+/// Counts what a load or an inquiry that waits met, by the image before it.
+fn count_waits(counts: &mut Counts, call: Call, answer: Answer, before: &Image) {
+    let [for_line, beside] = match call {
+        Call::Retry { .. } => {
+            ["inquiry waits, its line requested", "inquiry waits, another line requested"]
+        }
+        _ => ["load waits, its line requested", "load waits, another line requested"],
+    };
+    match answer {
+        Answer::Waits(_) => counts.met(beside, before.requested().is_some()),
+        Answer::WaitsRequested(_) => {
+            counts.met(for_line, true);
+            let committed = |load: &ListedLoad| load.waiting && load.number <= before.committed();
+            let lines = before.loads().into_iter().filter(committed);
+            let mut lines = lines.map(|load| load.address / LINE as u32);
+            let for_load = lines.any(|line| before.requested() == Some(line));
+            counts.met("wait for a line requested for a store", !for_load);
+        }
+        _ => {}
+    }
 }
 
 /// Counts where a call wrote, by the images before and after it.
@@ -85,11 +108,16 @@ fn dirty_of(image: &Image) -> Dirty {
 }
 
 /// What both kinds of runs must meet in each write profile, out of so many calls.
-const NEEDED: [(&str, u64); 18] = [
+const NEEDED: [(&str, u64); 23] = [
     ("accepted call", 2),
     ("stored", 20),
     ("value", 20),
     ("waits", 100),
+    ("waits-requested", 200),
+    ("load waits, its line requested", 600),
+    ("load waits, another line requested", 600),
+    ("inquiry waits, its line requested", 400),
+    ("inquiry waits, another line requested", 1_500),
     ("inquiry answered", 200),
     ("kept", 200),
     ("committed", 40),
@@ -112,6 +140,7 @@ const PROFILES: [(&str, &Needed, &[&str]); 2] = [
     (
         "write-back",
         &[
+            ("wait for a line requested for a store", 1_000),
             ("eviction of a dirty line", 200),
             ("eviction of one dirty word", 500),
             ("eviction of two or three dirty words", 2_000),
@@ -126,7 +155,12 @@ const PROFILES: [(&str, &Needed, &[&str]); 2] = [
     (
         "write-through",
         &[("drain to an absent line", 200), ("drain to a requested line", 100_000)],
-        &["eviction of a dirty line", "flush of a dirty line", "drain to a dirty word"],
+        &[
+            "wait for a line requested for a store",
+            "eviction of a dirty line",
+            "flush of a dirty line",
+            "drain to a dirty word",
+        ],
     ),
 ];
 

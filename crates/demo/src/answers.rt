@@ -18,6 +18,14 @@ pub(crate) fn is_waits(r: Step, i: u32) -> bool {
     }
 }
 
+pub(crate) fn is_waits_requested(r: Step, i: u32) -> bool {
+    let a = r.answer;
+    match a {
+        Answer::WaitsRequested(n) => n == i,
+        _ => false,
+    }
+}
+
 pub(crate) fn is_committed(r: Step, k: u32) -> bool {
     let a = r.answer;
     match a {

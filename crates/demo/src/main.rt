@@ -39,7 +39,7 @@ fn fill(memory: &mut [u8]) {
     }
 }
 
-// A load of an absent line waits, and idle requests the line.
+// A load of an absent line waits; idle requests the line, and then the load says so.
 fn load_part(s: State, cache: &mut [u8], memory: &mut [u8]) -> State {
     let a = s.load(cache, memory, ADDRESS, 1);
     report(b"load waits", answers::is_waits(a, 1));
@@ -47,7 +47,12 @@ fn load_part(s: State, cache: &mut [u8], memory: &mut [u8]) -> State {
     report(b"commit 1", answers::is_committed(b, 1));
     let c = b.next.idle(cache, memory);
     report(b"idle requests", answers::is_requested(c, 48));
-    c.next
+    let d = c.next.retry(cache, memory, 1);
+    report(
+        b"retry finds the line requested",
+        answers::is_waits_requested(d, 1),
+    );
+    d.next
 }
 
 // The reply fills the line, and a retry gives the value.

@@ -10,7 +10,7 @@ use lib.Dec.{ltb}
 use lib.ListN.{length, getD, drop, drop-of-length-le}
 use lib.Seq.{drop-cons}
 use Rattle.lists.specs.Padded.{every}
-use Rattle.lists.specs.Counted.{firstFrom, allFrom, greatestFrom, stepsFrom, eachFrom}
+use Rattle.lists.specs.Counted.{firstFrom, allFrom, someFrom, greatestFrom, stepsFrom, eachFrom}
 use Rattle.lists.proofs.Cond.{either, and-left, and-right, and-both}
 
 -- ---- the first
@@ -20,11 +20,6 @@ module _ (p : ℕ → Bool) where
   unfolding firstFrom
   first-low zero i = omega arith
   first-low (suc n) i = either (λ r. i ≤ r) (p i) (λ e. omega arith) (λ e. omega (arith, first-low n (suc i)))
-
-  pub first-high : (n i : ℕ) → firstFrom p i n ≤ i + n
-  unfolding firstFrom
-  first-high zero i = omega arith
-  first-high (suc n) i = either (λ r. r ≤ i + suc n) (p i) (λ e. omega arith) (λ e. omega (arith, first-high n (suc i)))
 
   pub first-hits : (n i : ℕ) → firstFrom p i n < i + n → p (firstFrom p i n) ≡ true
   unfolding firstFrom
@@ -58,6 +53,13 @@ module _ (p : ℕ → Bool) where
   all-by zero i h = refl
   all-by (suc n) i h =
       and-both (p i) _ (h i (omega arith) (omega arith)) (all-by n (suc i) (λ k a b. h k (omega arith) (omega arith)))
+
+  -- ---- none
+
+  pub some-none : (n i : ℕ) → ((k : ℕ) → i ≤ k → k < i + n → p k ≡ false) → someFrom p i n ≡ false
+  unfolding someFrom
+  some-none zero i h = refl
+  some-none (suc n) i h = rw (h i (omega arith) (omega arith)) (some-none n (suc i) (λ k a b. h k (omega arith) (omega arith)))
 
 -- ---- the greatest
 

@@ -35,6 +35,16 @@ module _ {A : Type 0} where
       either (λ r. any p r ≡ true) (t x) (λ k. or-two (p e) _ (rw (h x k) at g))
       (λ k. cases (p x) (λ f. or-one (p x) _ f) (λ f. or-two (p x) _ (any-placed p t e h l (rw f at g))))
 
+  -- an entry that passes p takes the first free place of entries that do not: it is the first that passes
+  pub first-placed :
+      (p t ok : A → Bool) (e d : A) → p e ≡ true → ((x : A) → ok x ≡ true → p x ≡ false) → (l : List A)
+      → every ok l ≡ true → any t l ≡ true → first p d (placed t e l) ≡ e
+  unfolding any every first placed
+  first-placed p t ok e d y h [] g f = wrong f refl
+  first-placed p t ok e d y h (x ∷ l) g f =
+      cases (t x) (λ k. rw k (rw y))
+      (λ k. rw k (rw (h x (and-left _ _ g)) (first-placed p t ok e d y h l (and-right (ok x) _ g) (rw k at f))))
+
   pub any-changed : (p t : A → Bool) (g : A → A) → ((x : A) → p x ≡ true → t x ≡ false) → (l : List A) → any p l ≡ true → any p (changed t g l) ≡ true
   unfolding any changed
   any-changed p t g h [] f = f

@@ -7,30 +7,33 @@ use mathlib.Core.List.{List}
 use native.Mathlib.Omega.{arith}
 use lib.Dec.{ltb}
 use lib.ListN.{length}
-use Rattle.lists.specs.Counted.{firstFrom, stepsFrom}
-use Rattle.lists.proofs.Counting.{first-high}
+use Rattle.lists.specs.Counted.{stepsFrom}
 use Rattle.rules.specs.declared.Tag.{Tag}
-use Rattle.rules.specs.Shape.{Hierarchy, holding, slots, firstSlot, tagAt}
-use Rattle.rules.specs.Lines.{holdsLine, slotOf, present, writeBackSlot, victim}
+use Rattle.rules.specs.declared.Request.{Request}
+use Rattle.rules.specs.declared.Lookup.{Lookup}
+use Rattle.rules.specs.declared.Lookup.the-variants.{Hit, Miss}
+use Rattle.rules.specs.Shape.{Hierarchy, holding, slots, firstSlot}
+use Rattle.rules.specs.Lines.{slotOf, present, wayOf, lookup, writeBackSlot, victim}
 use Rattle.rules.proofs.LineFacts.{Fits, Good, dirty-valid}
-use Rattle.records.specs.Records.{hasRoom, inTable, inSet, victimIn, flushedTags}
+use Rattle.records.specs.Records.{hasRoom, inTable, inSet, isHit, lookupIn, victimIn, flushedTags}
 use Rattle.records.proofs.Places.{room-bounds, in-set}
-use Rattle.records.proofs.Answers.{at-first, set-in-use, set-in-table, found-first, found-low, found-slot, found-present, victim-inside, victim-known}
+use Rattle.records.proofs.Answers.{at-first, set-in-use, set-in-table, found-lookup, found-present, found-way, found-slot, victim-inside, victim-known}
 use Rattle.records.proofs.RecordLoops.{flushed-tags}
 use Rattle.line_bytes.specs.Writes.{flushedMemory, DirtyInside}
 use Rattle.line_bytes.proofs.Writing.{saves, flushed-memory}
 
 -- ---- where a line stands
 
--- f is the first slot of the line's set, v the slot that was found there
-pub record Located (b : Hierarchy) (l f v : ℕ) : Type 0 where
+-- f is the first slot of the line's set, found what the lookup says of the line
+pub record Located (r : Request) (b : Hierarchy) (l f : ℕ) (found : Lookup) : Type 0 where
   pub first : f ≡ firstSlot b l
   pub within : f + b .figures .ways ≤ slots b
   pub room : slots b ≤ 256
-  pub low : f ≤ v
-  pub high : v ≤ f + b .figures .ways
-  pub slot : v ≡ slotOf b l
-  pub here : ltb v (f + b .figures .ways) ≡ present b l
+  pub says : found ≡ lookup r b l
+  pub here : isHit found ≡ present b l
+  -- where it is present: the way that has it, and the slot of that way
+  pub way : (w : ℕ) → found ≡ Hit w → w < b .figures .ways
+  pub slot : (w : ℕ) → found ≡ Hit w → f + w ≡ slotOf b l
 
 -- v is the victim of the line's set
 pub record Chosen (b : Hierarchy) (l f v : ℕ) : Type 0 where
@@ -41,26 +44,26 @@ pub record Chosen (b : Hierarchy) (l f v : ℕ) : Type 0 where
   pub high : v < f + b .figures .ways
   pub slot : v ≡ victim b l
 
-module _ (b : Hierarchy) (room : hasRoom (b .figures) ≡ true) (l f v : ℕ)
+module _ (b : Hierarchy) (room : hasRoom (b .figures) ≡ true) (l f : ℕ)
     (first : f ≡ cond (hasRoom (b .figures)) ((l % b .figures .sets) * b .figures .ways) 0) where
   pub located :
-      v ≡ cond (inTable f (b .figures .ways)) (firstFrom (λ k. holdsLine l (tagAt (b .tags) k)) f (b .figures .ways)) 0 → Located b l f v
-  unfolding present slotOf
-  located e =
+      (r : Request) (found : Lookup)
+      → found ≡ cond (inTable f (b .figures .ways)) (lookupIn r (b .tags) f (b .figures .ways) l) Miss → Located r b l f found
+  unfolding lookup wayOf present slotOf
+  located r found e =
       record {
         first = at-first (b .figures) l f room first;
         within = set-in-use (b .figures) l f room first;
         room = room-bounds (b .figures) room .in-all;
-        low = found-low (b .figures) l f room first (b .tags) v e;
-        high =
-            omega (arith, found-first (b .figures) l f room first (b .tags) v e, first-high (λ k. holdsLine l (tagAt (b .tags) k)) (b .figures .ways) f);
-        slot = found-slot (b .figures) l f room first (b .tags) v e;
-        here = found-present (b .figures) l f room first (b .tags) v e;
+        says = found-lookup (b .figures) l f room first (b .tags) r found e;
+        here = found-present (b .figures) l f room first (b .tags) r found e;
+        way = found-way (b .figures) l f room first (b .tags) r found e;
+        slot = found-slot (b .figures) l f room first (b .tags) r found e;
       }
 
-  pub chosen : v ≡ cond (inTable f (b .figures .ways) && ltb 0 (b .figures .ways)) (victimIn (b .tags) f (b .figures .ways)) 0 → Chosen b l f v
+  pub chosen : (v : ℕ) → v ≡ cond (inTable f (b .figures .ways) && ltb 0 (b .figures .ways)) (victimIn (b .tags) f (b .figures .ways)) 0 → Chosen b l f v
   unfolding victim victimIn
-  chosen e =
+  chosen v e =
       let r = room-bounds (b .figures) room in
       let found = victim-known (b .tags) f (b .figures .ways) v (set-in-table (b .figures) l f room first) (r .some-way) e in
       let i = victim-inside (b .tags) f (b .figures .ways) (r .some-way) in

@@ -18,7 +18,10 @@ use Rattle.rules.specs.declared.Figures.{Figures}
 use Rattle.rules.specs.declared.Tag.{Tag}
 use Rattle.rules.specs.declared.LoadEntry.{LoadEntry}
 use Rattle.rules.specs.declared.StoreEntry.{StoreEntry}
+use Rattle.rules.specs.declared.Request.{Request}
 use Rattle.rules.specs.declared.Request.the-variants.{Free, Line}
+use Rattle.rules.specs.declared.Lookup.{Lookup}
+use Rattle.rules.specs.declared.Lookup.the-variants.{Hit}
 use Rattle.rules.specs.declared.WritePolicy.{WritePolicy}
 use Rattle.rules.specs.declared.WritePolicy.the-variants.{WriteBack}
 use Rattle.rules.specs.Shape.{Queues, Hierarchy, holding, noStore, noLoad, isFreeLoad, lineOf, slots, firstSlot, tagAt, withDirty, isThrough}
@@ -28,7 +31,7 @@ use Rattle.rules.specs.Calls as rules
 use Rattle.rules.specs.Runs.{outcome, answer}
 use Rattle.rules.proofs.Checks.{outcome-by}
 use Rattle.line_checks.specs.Refusal.{hierarchy}
-use Rattle.records.specs.Records.{hasRoom, inSet, tabled, usedTags, installedIn, flushedTags}
+use Rattle.records.specs.Records.{hasRoom, inSet, isHit, tabled, usedTags, installedIn, flushedTags}
 use Rattle.line_bytes.specs.Writes.{flushedMemory, lineWritten, lineFilled, storePut, storedThrough}
 use Rattle.line_bytes.proofs.Writing.{written-inside, written-length, fill-copies, put-inside, drained-inside}
 use Rattle.records.proofs.Answers.{used-line}
@@ -236,30 +239,32 @@ drained-state s cache memory e tags cache′ memory′ stores o narrow inside m 
 
 -- the records and the cache stay where the store's line is absent
 pub unwritten :
-    (b : Hierarchy) (e : StoreEntry) (f v : ℕ) → Located b (lineOf (e .address)) f v → f + b .figures .ways ≤ v → b .memory ≡ []
+    (r : Request) (b : Hierarchy) (e : StoreEntry) (f : ℕ) (found : Lookup) → Located r b (lineOf (e .address)) f found → isHit found ≡ false → b .memory ≡ []
     → b ≡ writeStore e b
 unfolding writeStore storedMemory eachFrom
-unwritten b e f v h low none =
-    let absent : present b (lineOf (e .address)) ≡ false = sym (h .here) ∙ le-ltb v (f + b .figures .ways) low in
+unwritten r b e f found h missed none =
+    let absent : present b (lineOf (e .address)) ≡ false = sym (h .here) ∙ missed in
     rw (absent, none)
 
 -- the bytes and the records of a store that is written to its line, from what each function made
 pub written-whole :
-    (b : Hierarchy) (e : StoreEntry) (f v : ℕ) (table used : List Tag) (cache : List ℕ)
-    → Located b (lineOf (e .address)) f v → v < f + b .figures .ways
+    (r : Request) (b : Hierarchy) (e : StoreEntry) (f w : ℕ) (found : Lookup) (table used : List Tag) (cache : List ℕ)
+    → Located r b (lineOf (e .address)) f found → found ≡ Hit w
     → e .width ≤ 4 → e .address % 16 + e .width ≤ 16 → length (b .cache) ≡ slots b * 16
-    → cache ≡ storePut (16 * v + e .address % 16) (e .width) (e .value) (b .cache)
-    → table ≡ set (b .tags) v (marked (b .figures .policy) e (tagAt (b .tags) v))
-    → used ≡ cond (inSet f (b .figures .ways) v) (eachFrom (agedAt f (b .figures .ways) v (tagAt table v .age)) 0 table) table
+    → cache ≡ storePut (16 * (f + w) + e .address % 16) (e .width) (e .value) (b .cache)
+    → table ≡ set (b .tags) (f + w) (marked (b .figures .policy) e (tagAt (b .tags) (f + w)))
+    → used ≡ cond (inSet f (b .figures .ways) (f + w)) (eachFrom (agedAt f (b .figures .ways) (f + w) (tagAt table (f + w) .age)) 0 table) table
     → holding b used cache (storedMemory e b) ≡ writeStore e b
 unfolding writeStore putStore useSlot
-written-whole b e f v table used cache h high narrow one-line long c d u =
-    let here : present b (lineOf (e .address)) ≡ true = sym (h .here) ∙ lt-ltb v (f + b .figures .ways) high in
+written-whole r b e f w found table used cache h hit narrow one-line long c d u =
+    let v = f + w in
+    let way = h .way w hit in
+    let here : present b (lineOf (e .address)) ≡ true = sym (h .here) ∙ ap isHit hit in
     let put : cache ≡ eachFrom (overlaid (16 * v + e .address % 16) (e .width) (e .value)) 0 (b .cache) =
     c ∙ put-inside _ _ _ (b .cache) narrow (omega (arith, h .within)) in
     let aged : used ≡ eachFrom (agedAt f (b .figures .ways) v (tagAt table v .age)) 0 table =
-    u ∙ sym (cond-then _ _ (slot-in-set b f v (h .within) (h .room) (h .low) high)) in
-    rw (here, aged, d, put, h .slot, h .first)
+    u ∙ sym (cond-then _ _ (slot-in-set b f v (h .within) (h .room) (omega arith) (omega arith))) in
+    rw (here, aged, d, put, h .slot w hit, h .first)
 
 -- ---- flush
 

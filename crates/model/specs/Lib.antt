@@ -1,3 +1,4 @@
 pub mod State
 pub mod Starts
 pub mod Shows
+pub mod Reads

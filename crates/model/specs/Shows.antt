@@ -15,6 +15,7 @@ partIn (rules.refused k) = record { start = 0; length = 0 }
 partIn (rules.stored i) = record { start = 0; length = 0 }
 partIn (rules.value i v) = record { start = 0; length = 0 }
 partIn (rules.waits i) = record { start = 0; length = 0 }
+partIn (rules.waitsRequested i) = record { start = 0; length = 0 }
 partIn (rules.committed k) = record { start = 0; length = 0 }
 partIn (rules.kept k) = record { start = 0; length = 0 }
 partIn (rules.drained i) = record { start = 0; length = 0 }

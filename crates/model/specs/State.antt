@@ -19,14 +19,12 @@ use Rattle.rules.specs.WellFormed.{wellFormed}
 use Rattle.rules.specs.Runs.{outcome}
 use Rattle.records.specs.Records.{hasRoom}
 use Rattle.line_bytes.specs.Writes.{DirtyInside}
-use Rattle.line_bytes.specs.declared.Read.{Read}
-use Rattle.line_bytes.specs.declared.Read.the-variants.{Whole, Lacking}
 use Rattle.model.specs.declared.State.{State}
 use Rattle.model.specs.declared.Step.{Step}
 use Rattle.model.specs.declared.Call.{Call}
 use Rattle.model.specs.declared.Call.the-variants.{Load, Store, Retry, Commit, Abort, Idle, Reply, Flush, Show, Checkpoint, Restore}
 use Rattle.model.specs.declared.Answer.{Answer}
-use Rattle.model.specs.declared.Answer.the-variants.{Refused, Stored, Value, Waits, Committed, Kept, Drained, Requested, Idled, Filled, Flushed, Shown, Checkpointed}
+use Rattle.model.specs.declared.Answer.the-variants.{Refused, Stored, Value, Waits, WaitsRequested, Committed, Kept, Drained, Requested, Idled, Filled, Flushed, Shown, Checkpointed}
 
 -- ---- the state
 
@@ -110,6 +108,7 @@ answerOf (Refused k) cache = rules.refused k
 answerOf (Stored i) cache = rules.stored i
 answerOf (Value i v) cache = rules.value i v
 answerOf (Waits i) cache = rules.waits i
+answerOf (WaitsRequested i) cache = rules.waitsRequested i
 answerOf (Committed k) cache = rules.committed k
 answerOf (Kept k) cache = rules.kept k
 answerOf (Drained i) cache = rules.drained i
@@ -119,11 +118,6 @@ answerOf (Filled a) cache = rules.filled a
 answerOf (Flushed k) cache = rules.flushed k
 answerOf (Shown p n) cache = rules.shown p (bytesFrom p n cache)
 answerOf (Checkpointed n) cache = rules.checkpointed n
-
--- what load i answers to what it read
-abbrev pub answerTo : ℕ → Read → Answer
-answerTo i (Whole v) = Value i v
-answerTo i Lacking = Waits i
 
 -- what a call hands back, with the cache and the memory that it leaves
 abbrev pub outcomeOf : Step → List ℕ → List ℕ → Outcome

@@ -18,6 +18,7 @@ use crate::Step;
 use rules::Figures;
 use rules::LINE_BYTES;
 use rules::LINE_LENGTH;
+use rules::Lookup;
 use rules::Request;
 use rules::StoreEntry;
 use rules::TAG_RECORDS;
@@ -48,10 +49,11 @@ fn write_store(
     let n = figures.ways as usize;
     let line = s.address / LINE_BYTES;
     let first = records::first_slot(figures, line);
-    let slot = records::find(tags, first, n, line);
-    if first + n <= slot {
+    let found = records::lookup(tags, first, n, Request::Free, line);
+    let Lookup::Hit(way) = found else {
         return tags;
-    }
+    };
+    let slot = first + way;
     let at = LINE_LENGTH * slot + (s.address % LINE_BYTES) as usize;
     line_bytes::put_store(cache, at, s.width, s.value);
     let policy = figures.policy;

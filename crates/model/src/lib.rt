@@ -69,8 +69,10 @@ pub enum Answer {
     Stored(u32),
     // the operation number and the value
     Value(u32, u32),
-    // the operation number
+    // the operation number: a byte is lacking, and its line is not requested
     Waits(u32),
+    // the operation number: a byte is lacking, and its line is requested (02, card 4: "waits-requested")
+    WaitsRequested(u32),
     // the committed number h now in force
     Committed(u32),
     // the last operation number now in force

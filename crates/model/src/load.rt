@@ -27,12 +27,13 @@ impl State {
         let i = self.last + 1;
         let r = self.read(cache, i, a.address, a.width);
         let answer = read::answer_to(i, r);
+        let bytes = r.read;
         let loads = self.loads;
         let entry = LoadEntry {
             number: i,
             address: a.address,
             width: a.width,
-            waiting: line_bytes::is_lacking(r),
+            waiting: line_bytes::is_lacking(bytes),
         };
         let listed = load_queue::place_load(loads, entry);
         self.last = i;

@@ -12,6 +12,7 @@ use crate::Answer;
 use crate::Call;
 use crate::State;
 use crate::Step;
+use crate::read;
 use line_bytes::Read;
 use rules::LINE_BYTES;
 use rules::LoadEntry;
@@ -44,9 +45,11 @@ impl State {
         ensures { λ r. ⌜ ((m : List ℕ) → outcomeOf r (now (cache .entry)) m ≡ retryRule i (queuesOf self) (hierarchyOf self (now (cache .entry)) m)) ⌝ }
     {
         let r = self.read(cache, i, l.address, l.width);
-        let Read::Whole(v) = r else {
+        let bytes = r.read;
+        let Read::Whole(v) = bytes else {
+            let found = r.found;
             return Step {
-                answer: Answer::Waits(i),
+                answer: read::wait_answer(i, found),
                 next: self,
             };
         };

@@ -11,6 +11,8 @@ use crate::State;
 use crate::Step;
 use rules::LINE_BYTES;
 use rules::LINE_LENGTH;
+use rules::Lookup;
+use rules::Request;
 
 // A part of the cache: where it begins, and its length, 16 or 0.
 pub struct Part {
@@ -37,14 +39,14 @@ impl State {
         let ways = figures.ways as usize;
         let line = address / LINE_BYTES;
         let first = records::first_slot(figures, line);
-        let slot = records::find(tags, first, ways, line);
-        if slot < first + ways {
-            return Part {
-                start: LINE_LENGTH * slot,
-                length: LINE_LENGTH,
-            };
+        let found = records::lookup(tags, first, ways, Request::Free, line);
+        let Lookup::Hit(way) = found else {
+            return EMPTY_PART;
+        };
+        Part {
+            start: LINE_LENGTH * (first + way),
+            length: LINE_LENGTH,
         }
-        EMPTY_PART
     }
 
     // The same in any state: the empty part where check 1 or 10 fails.

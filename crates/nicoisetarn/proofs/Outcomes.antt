@@ -163,6 +163,7 @@ kind-refused (rules.refused k) e = refl
 kind-refused (rules.stored i) e = let no : ⊥ = omega arith in absurd no
 kind-refused (rules.value i v) e = let no : ⊥ = omega arith in absurd no
 kind-refused (rules.waits i) e = let no : ⊥ = omega arith in absurd no
+kind-refused (rules.waitsRequested i) e = let no : ⊥ = omega arith in absurd no
 kind-refused (rules.committed k) e = let no : ⊥ = omega arith in absurd no
 kind-refused (rules.kept k) e = let no : ⊥ = omega arith in absurd no
 kind-refused (rules.drained i) e = let no : ⊥ = omega arith in absurd no
@@ -207,11 +208,12 @@ refused-kept = record {
 
 -- ---- numbers that no call has
 
-kind-known : (a : rules.Answer) → imagedAnswer a .kind ≤ 13
+kind-known : (a : rules.Answer) → imagedAnswer a .kind ≤ 14
 kind-known (rules.refused k) = omega arith
 kind-known (rules.stored i) = omega arith
 kind-known (rules.value i v) = omega arith
 kind-known (rules.waits i) = omega arith
+kind-known (rules.waitsRequested i) = omega arith
 kind-known (rules.committed k) = omega arith
 kind-known (rules.kept k) = omega arith
 kind-known (rules.drained i) = omega arith

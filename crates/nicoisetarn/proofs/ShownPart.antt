@@ -12,17 +12,18 @@ use borrow.Author.Tests.{ltb-true}
 use Rattle.lists.specs.Padded.{first}
 use Rattle.lists.proofs.Cond.{either, and-right}
 use Rattle.rules.specs.declared.LoadEntry.{LoadEntry}
+use Rattle.rules.specs.declared.Lookup.{Lookup}
 use Rattle.rules.specs.Shape.{Queues, Hierarchy, fits, topNumber, noLoad, lineOf, setOf, firstSlot}
-use Rattle.rules.specs.Lines.{present, slotOf, placeOf}
+use Rattle.rules.specs.Lines.{present, slotOf, placeOf, lookup}
 use Rattle.rules.specs.Forward.{loadValue}
 use Rattle.rules.specs.Calls.{Call, Outcome, load, store, retry, commit, abort, idle, reply, flush, show, checkpoint, restore, rule, loadAnswer, loadRule, storeRule, answerLoad, retryWith, retryRule, commitRule, abortRule, checkpointRule, restoreRule, canDrain, canRequestLoad, canRequestStore, idleRule, replyRule, flushRule, showRule, waitingAt, nextNumber}
 use Rattle.rules.specs.Calls as rules
 use Rattle.rules.specs.Runs.{refusal, outcome}
-use Rattle.rules.proofs.Checks.{refusal-by, outcome-by}
+use Rattle.rules.proofs.Checks.{refusal-by, outcome-by, either-word}
 use Rattle.rules.proofs.LineFacts.{fits-tells}
 use Rattle.model.specs.State.{bytesFrom, answerOf, outcomeOf}
 use Rattle.model.specs.declared.Answer.{Answer}
-use Rattle.model.specs.declared.Answer.the-variants.{Refused, Stored, Value, Waits, Committed, Kept, Drained, Requested, Idled, Filled, Flushed, Shown, Checkpointed}
+use Rattle.model.specs.declared.Answer.the-variants.{Refused, Stored, Value, Waits, WaitsRequested, Committed, Kept, Drained, Requested, Idled, Filled, Flushed, Shown, Checkpointed}
 use Rattle.model.specs.declared.Step.{Step}
 use Rattle.model.proofs.Moves.{bytes-long}
 use Rattle.nicoisetarn.specs.declared.AnswerImage.{AnswerImage}
@@ -38,13 +39,13 @@ module _ (q : Queues) (b : Hierarchy) where
   abbrev Small : Outcome → Type 0
   Small o = PartSmall (o .answer)
 
-  load-small : (i : ℕ) (v : Option ℕ) → PartSmall (loadAnswer i v)
-  load-small i none = no-part
-  load-small i (some v) = no-part
+  load-small : (i : ℕ) (f : Lookup) (v : Option ℕ) → PartSmall (loadAnswer i f v)
+  load-small i f none = either-word PartSmall i no-part no-part f
+  load-small i f (some v) = no-part
 
   retry-small : (i : ℕ) (l : LoadEntry) (v : Option ℕ) → Small (retryWith i l v q b)
   unfolding retryWith answerLoad
-  retry-small i l none = no-part
+  retry-small i l none = load-small i (lookup (q .request) b (lineOf (l .address))) none
   retry-small i l (some v) = either Small (leb i (q .committed)) (λ e. no-part) (λ e. no-part)
 
   idle-small : Small (idleRule q b)
@@ -72,7 +73,7 @@ module _ (q : Queues) (b : Hierarchy) where
 
   rule-small : (c : Call) → fits b ≡ true → Small (rule c q b)
   unfolding loadRule storeRule retryRule commitRule abortRule replyRule flushRule checkpointRule restoreRule
-  rule-small (load a w) f = load-small (nextNumber q) (loadValue (nextNumber q) a w (q .stores) b)
+  rule-small (load a w) f = load-small (nextNumber q) (lookup (q .request) b (lineOf a)) (loadValue (nextNumber q) a w (q .stores) b)
   rule-small (store a w v) f = no-part
   rule-small (retry i) f =
       let l = first (waitingAt i) noLoad (q .loads) in
@@ -100,6 +101,7 @@ over-any P f (Refused k) cache cache′ h = h
 over-any P f (Stored i) cache cache′ h = h
 over-any P f (Value i v) cache cache′ h = h
 over-any P f (Waits i) cache cache′ h = h
+over-any P f (WaitsRequested i) cache cache′ h = h
 over-any P f (Committed k) cache cache′ h = h
 over-any P f (Kept k) cache cache′ h = h
 over-any P f (Drained i) cache cache′ h = h

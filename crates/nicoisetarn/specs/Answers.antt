@@ -52,6 +52,7 @@ imagedAnswer (rules.flushed k) = coded 10 k 0
 imagedAnswer (rules.shown p bs) = coded 11 p (length bs)
 -- (12 is an accepted start)
 imagedAnswer (rules.checkpointed n) = coded 13 n 0
+imagedAnswer (rules.waitsRequested i) = coded 14 i 0
 
 -- the answer of an accepted start
 abbrev pub readyAnswer : AnswerImage

@@ -28,6 +28,7 @@ use crate::KIND_SHOWN;
 use crate::KIND_STORED;
 use crate::KIND_VALUE;
 use crate::KIND_WAITS;
+use crate::KIND_WAITS_REQUESTED;
 use model::Answer;
 use model::Call;
 
@@ -77,6 +78,7 @@ pub(crate) fn answer_image(a: Answer) -> AnswerImage
         Answer::Stored(i) => coded(KIND_STORED, i, 0),
         Answer::Value(i, v) => coded(KIND_VALUE, i, v),
         Answer::Waits(i) => coded(KIND_WAITS, i, 0),
+        Answer::WaitsRequested(i) => coded(KIND_WAITS_REQUESTED, i, 0),
         Answer::Committed(k) => coded(KIND_COMMITTED, k, 0),
         Answer::Kept(k) => coded(KIND_KEPT, k, 0),
         Answer::Drained(i) => coded(KIND_DRAINED, i, 0),

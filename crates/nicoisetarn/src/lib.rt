@@ -52,7 +52,7 @@ pub const KIND_REFUSED: u32 = 0;
 pub const KIND_STORED: u32 = 1;
 // the load's number, the value
 pub const KIND_VALUE: u32 = 2;
-// the load's number
+// the load's number: a byte is lacking, and its line is not requested
 pub const KIND_WAITS: u32 = 3;
 // the committed number in force
 pub const KIND_COMMITTED: u32 = 4;
@@ -74,7 +74,9 @@ pub const KIND_SHOWN: u32 = 11;
 pub const KIND_READY: u32 = 12;
 // the number that a mark remembers
 pub const KIND_CHECKPOINTED: u32 = 13;
-// A batch was made: the boundary's own, as the next. Kinds from 14 to 253 are free for answers to come.
+// the load's number: a byte is lacking, and its line is requested
+pub const KIND_WAITS_REQUESTED: u32 = 14;
+// A batch was made: the boundary's own, as the next. Kinds from 15 to 253 are free for answers to come.
 pub const KIND_RAN: u32 = 254;
 // There is no such call, or no such profile, or the lengths of a batch do not fit: the boundary's own, no answer of 01.
 pub const KIND_NO_SUCH_CALL: u32 = 255;

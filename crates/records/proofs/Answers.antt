@@ -1,32 +1,58 @@
 -- What the answers are where the places lie in the table: the contracts without their tests, and the calls that are made one after the other.
 use mathlib.Core.Path.{_≡_, refl, sym, ap, ap₂, _∙_}
 use mathlib.Core.Bool.{Bool, true, false, cond, not, _&&_}
-use mathlib.Core.List.{List, _∷_}
+use mathlib.Core.List.{List, [], _∷_}
 use Prim.Native.Nat.{ℕ, _+_, _*_, _%_, _<_, _≤_}
 use native.Mathlib.Nat.{mod-eq-of-lt}
 use native.Mathlib.Omega.{arith}
 use lib.Dec.{ltb}
 use lib.ListN.{set}
-use borrow.Author.Tests.{ltb-true, ltb-false, lt-ltb}
+use types.Run.{OneOf, miss}
+use denote.Enum.Declared.{tagOf}
+use borrow.Author.Tests.{ltb-true, lt-ltb}
 use Rattle.lists.specs.Padded.{filter}
 use Rattle.lists.specs.Counted.{firstFrom, eachFrom}
-use Rattle.lists.proofs.Cond.{either, cases, cond-then, and-both}
-use Rattle.lists.proofs.Counting.{first-low, first-high, greatest-in}
+use Rattle.lists.proofs.Cond.{either, cond-then, cond-else, and-both}
+use Rattle.lists.proofs.Counting.{first-low, greatest-in}
 use Rattle.rules.specs.declared.Figures.{Figures}
 use Rattle.rules.specs.declared.Tag.{Tag}
 use Rattle.rules.specs.declared.LoadEntry.{LoadEntry}
-use Rattle.rules.specs.Shape.{Hierarchy, holding, lineOf, tagAt, setOf, firstSlot}
-use Rattle.rules.specs.Lines.{holdsLine, slotOf, present, agedAt, useSlot, useLine}
+use Rattle.rules.specs.declared.Request.{Request}
+use Rattle.rules.specs.declared.Lookup.{Lookup}
+use Rattle.rules.specs.declared.Lookup.the-variants.{Hit, Pending, Miss}
+use Rattle.rules.specs.Shape.{Hierarchy, names, holding, lineOf, tagAt, setOf, firstSlot}
+use Rattle.rules.specs.Lines.{slotOf, present, wayOf, lookup, agedAt, useSlot, useLine}
 use Rattle.rules.specs.Calls.{answeredBy, useEach}
-use Rattle.records.specs.Records.{hasRoom, inTable, inSet, tabled, usedTags, victimIn, installedIn}
-use Rattle.records.proofs.Places.{room-bounds, slots-room, in-table, in-set, past-set}
+use Rattle.rules.proofs.Lookup as answer
+use Rattle.rules.proofs.TagLookup.{hit-tells}
+use Rattle.records.specs.Records.{hasRoom, inTable, inSet, isHit, lookupIn, tabled, usedTags, victimIn, installedIn}
+use Rattle.records.proofs.Places.{room-bounds, slots-room, in-table, in-set}
 
 -- the records of a choice
 tags-of : (t : Bool) (x y : Hierarchy) → cond t x y .tags ≡ cond t (x .tags) (y .tags)
 tags-of true x y = refl
 tags-of false x y = refl
 
--- ---- first_slot and find, one after the other
+-- ---- first_slot and lookup, one after the other
+
+-- the variants beside a hit
+abbrev others : List ℕ
+others = 1 ∷ 2 ∷ []
+
+pub no-hit : (f : Lookup) → OneOf others (tagOf answer.the-type f) → isHit f ≡ false
+no-hit (Hit w) h = absurd (miss others 0 tt h)
+no-hit Pending h = refl
+no-hit Miss h = refl
+
+-- the lookup says present exactly if the line is
+pub hit-present : (r : Request) (b : Hierarchy) (l : ℕ) → isHit (lookup r b l) ≡ present b l
+unfolding lookup
+hit-present r b l = go (present b l) (names r l)
+  where
+    go : (t u : Bool) → isHit (cond t (Hit (wayOf b l)) (cond u Pending Miss)) ≡ t
+    go true u = refl
+    go false true = refl
+    go false false = refl
 
 module _ (g : Figures) (l f : ℕ) (room : hasRoom g ≡ true) (first : f ≡ cond (hasRoom g) ((l % g .sets) * g .ways) 0) where
   pub at-first : f ≡ (l % g .sets) * g .ways
@@ -39,36 +65,28 @@ module _ (g : Figures) (l f : ℕ) (room : hasRoom g ≡ true) (first : f ≡ co
   pub set-in-table : inTable f (g .ways) ≡ true
   set-in-table = in-table f (g .ways) (omega (arith, set-in-use, room-bounds g room .in-all))
 
-  -- the line's slot, and whether the line is present
-  module _ (tags : List Tag) (v : ℕ)
-      (search : v ≡ cond (inTable f (g .ways)) (firstFrom (λ k. holdsLine l (tagAt tags k)) f (g .ways)) 0) where
+  module _ (tags : List Tag) (r : Request) (found : Lookup)
+      (search : found ≡ cond (inTable f (g .ways)) (lookupIn r tags f (g .ways) l) Miss) where
     abbrev b : Hierarchy
     b = tabled g tags
 
-    pub found-first : v ≡ firstFrom (λ k. holdsLine l (tagAt tags k)) f (g .ways)
-    found-first = search ∙ sym (cond-then _ _ set-in-table)
+    pub found-lookup : found ≡ lookup r b l
+    unfolding lookup lookupIn wayOf present slotOf
+    found-lookup = search ∙ sym (cond-then _ _ set-in-table) ∙ ap (λ (f : ℕ). lookupIn r tags f (g .ways) l) at-first
 
-    pub found-low : f ≤ v
-    found-low = omega (arith, found-first, first-low (λ k. holdsLine l (tagAt tags k)) (g .ways) f)
+    pub found-present : isHit found ≡ present b l
+    found-present = ap isHit found-lookup ∙ hit-present r b l
 
-    pub found-high : v ≤ f + g .ways
-    found-high = omega (arith, found-first, first-high (λ k. holdsLine l (tagAt tags k)) (g .ways) f)
+    -- the slot of the way that was found: it has the line, and lies in the set
+    pub found-slot : (w : ℕ) → found ≡ Hit w → f + w ≡ slotOf b l
+    found-slot w e = ap (λ (f : ℕ). f + w) at-first ∙ hit-tells r b l w (sym found-lookup ∙ e) .1
 
-    pub found-slot : v ≡ slotOf b l
-    unfolding slotOf
-    found-slot = found-first ∙ ap (λ (f : ℕ). firstFrom (λ k. holdsLine l (tagAt tags k)) f (g .ways)) at-first
-
-    pub found-present : ltb v (f + g .ways) ≡ present b l
+    pub found-way : (w : ℕ) → found ≡ Hit w → w < g .ways
     unfolding present
-    found-present = ap₂ (λ (v f : ℕ). ltb v (f + g .ways)) found-slot at-first
-
-    -- the slot is in the set exactly if the line is present
-    pub found-inside : inSet f (g .ways) v ≡ present b l
-    found-inside =
-        let h : f + g .ways ≤ 256 = omega (arith, set-in-use, room-bounds g room .in-all) in
-        cases (ltb v (f + g .ways))
-        (λ t. in-set f (g .ways) v h found-low (ltb-true v (f + g .ways) t) ∙ sym t ∙ found-present)
-        (λ t. past-set f (g .ways) v h found-low (ltb-false v (f + g .ways) t) ∙ sym t ∙ found-present)
+    found-way w e =
+        let here = hit-tells r b l w (sym found-lookup ∙ e) in
+        let high : slotOf b l < firstSlot b l + g .ways = ltb-true _ _ (here .0) in
+        omega (arith, here .1, high)
 
     -- ---- and use_slot: the line is used, if it is present
 
@@ -79,10 +97,16 @@ module _ (g : Figures) (l f : ℕ) (room : hasRoom g ≡ true) (first : f ≡ co
     unfolding usedTags useLine useSlot
     used = tags-of (present b l) _ _
 
-    pub found-used : (r : List Tag) → r ≡ cond (inSet f (g .ways) v) (aging f v) tags → r ≡ usedTags g l tags
-    found-used r e =
-        e ∙ ap (λ (t : Bool). cond t (aging f v) tags) found-inside
-        ∙ ap₂ (λ (f v : ℕ). cond (present b l) (aging f v) tags) at-first found-slot ∙ sym used
+    pub found-used : (w : ℕ) → found ≡ Hit w → (t : List Tag) → t ≡ cond (inSet f (g .ways) (f + w)) (aging f (f + w)) tags → t ≡ usedTags g l tags
+    found-used w e t made =
+        let way = found-way w e in
+        let h : f + g .ways ≤ 256 = omega (arith, set-in-use, room-bounds g room .in-all) in
+        let in-it = in-set f (g .ways) (f + w) h (omega arith) (omega arith) in
+        made ∙ sym (cond-then _ _ in-it) ∙ ap₂ aging at-first (found-slot w e)
+        ∙ cond-then _ _ (sym found-present ∙ ap isHit e) ∙ sym used
+
+    pub found-unused : isHit found ≡ false → tags ≡ usedTags g l tags
+    found-unused e = cond-else _ _ (sym found-present ∙ e) ∙ sym used
 
 -- ---- is_present
 

@@ -70,8 +70,3 @@ module _ (f ways : ℕ) where
     pub in-set : f + ways ≤ 256 → f ≤ v → v < f + ways → inSet f ways v ≡ true
     unfolding inSet
     in-set h l u = rw (in-table h, le-leb f v l) (lt-ltb v (f + ways) u)
-
-    -- the first slot after the set is not in it
-    pub past-set : f + ways ≤ 256 → f ≤ v → f + ways ≤ v → inSet f ways v ≡ false
-    unfolding inSet
-    past-set h l u = rw (in-table h, le-leb f v l) (le-ltb v (f + ways) u)

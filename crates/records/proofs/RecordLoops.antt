@@ -2,7 +2,7 @@
 use mathlib.Core.Path.{_≡_, refl, sym, _∙_}
 use mathlib.Core.Bool.{Bool, true, false, cond, not, _&&_}
 use mathlib.Core.List.{List}
-use Prim.Native.Nat.{ℕ, zero, suc, _+_, _*_, _%_, _<_, _≤_}
+use Prim.Native.Nat.{ℕ, zero, suc, _+_, _*_, _-_, _%_, _<_, _≤_}
 use native.Mathlib.Nat.{mod-le}
 use native.Mathlib.Omega.{arith}
 use lib.Dec.{ltb, leb, eqb}
@@ -14,14 +14,17 @@ use Rattle.lists.specs.Counted.{firstFrom, greatestFrom, stepsFrom, eachFrom}
 use Rattle.lists.specs.Padded.{first}
 use Rattle.lists.proofs.Cond.{either, and-left, and-right}
 use Rattle.lists.proofs.Loops.{rest-cons}
+use Rattle.lists.proofs.Counting.{first-low}
 use Rattle.lists.proofs.CountedLoops.{change, changes-each}
 use Rattle.rules.specs.declared.Figures.{Figures}
 use Rattle.rules.specs.declared.Tag.{Tag}
 use Rattle.rules.specs.declared.LoadEntry.{LoadEntry}
-use Rattle.rules.specs.Shape.{Hierarchy, noLoad, noTag, tagAt, withAge, withDirty}
-use Rattle.rules.specs.Lines.{agedAt, writeBackSlot}
+use Rattle.rules.specs.declared.Request.{Request}
+use Rattle.rules.specs.declared.Lookup.the-variants.{Hit, Pending, Miss}
+use Rattle.rules.specs.Shape.{Hierarchy, names, noLoad, noTag, tagAt, withAge, withDirty}
+use Rattle.rules.specs.Lines.{holdsLine, agedAt, writeBackSlot}
 use Rattle.rules.specs.Runs.{startTags}
-use Rattle.records.specs.Records.{victimIn, flushedTags}
+use Rattle.records.specs.Records.{lookupIn, victimIn, flushedTags}
 
 -- ---- use
 
@@ -50,6 +53,24 @@ pub use-each :
     (f ways v a : ℕ) (tags : List Tag) → f ≤ v → v < f + ways
     → stepsFrom (change (agedAt f ways v a) noTag) f ways tags ≡ eachFrom (agedAt f ways v a) 0 tags
 use-each f ways v a tags p q = changes-each (agedAt f ways v a) noTag f ways tags (λ k x o. aged-out f ways v a k x o p q)
+
+-- ---- lookup
+
+module _ (tags : List Tag) (f ways l k : ℕ) (found : k ≡ firstFrom (λ k. holdsLine l (tagAt tags k)) f ways) where
+  pub find-low : f ≤ k
+  find-low = omega (arith, found, first-low (λ k. holdsLine l (tagAt tags k)) ways f)
+
+  pub lookup-way : (r : Request) → k < f + ways → Hit (k - f) ≡ lookupIn r tags f ways l
+  unfolding lookupIn
+  lookup-way r h = rw (← found, lt-ltb k (f + ways) h)
+
+  pub lookup-named : (r : Request) → f + ways ≤ k → names r l ≡ true → Pending ≡ lookupIn r tags f ways l
+  unfolding lookupIn
+  lookup-named r h m = rw (← found, le-ltb k (f + ways) h, m)
+
+  pub lookup-misses : (r : Request) → f + ways ≤ k → names r l ≡ false → Miss ≡ lookupIn r tags f ways l
+  unfolding lookupIn
+  lookup-misses r h m = rw (← found, le-ltb k (f + ways) h, m)
 
 -- ---- the victim
 

@@ -1,14 +1,17 @@
 -- Tables of tag records by themselves, as the code has them: which places a call may name, and what the rules make of the records.
 use Prim.Native.Nat.{ℕ, _+_, _*_, _-_}
-use mathlib.Core.Bool.{Bool, true, cond, not, _&&_}
+use mathlib.Core.Bool.{Bool, true, false, cond, not, _&&_}
 use mathlib.Core.List.{List, []}
 use lib.Dec.{ltb, leb}
 use lib.ListN.{set}
 use Rattle.lists.specs.Counted.{firstFrom, greatestFrom, stepsFrom, eachFrom}
 use Rattle.rules.specs.declared.Figures.{Figures}
 use Rattle.rules.specs.declared.Tag.{Tag}
-use Rattle.rules.specs.Shape.{Hierarchy, noFigures, tableSize, tagAt}
-use Rattle.rules.specs.Lines.{agedAt, useLine, writeBackSlot}
+use Rattle.rules.specs.declared.Request.{Request}
+use Rattle.rules.specs.declared.Lookup.{Lookup}
+use Rattle.rules.specs.declared.Lookup.the-variants.{Hit, Pending, Miss}
+use Rattle.rules.specs.Shape.{Hierarchy, names, noFigures, tableSize, tagAt}
+use Rattle.rules.specs.Lines.{holdsLine, agedAt, useLine, writeBackSlot}
 
 -- ---- places in the table
 
@@ -23,6 +26,20 @@ inTable f ways = leb ways tableSize && leb f (tableSize - ways)
 -- slot v is one of them
 unfoldable pub inSet : ℕ → ℕ → ℕ → Bool
 inSet f ways v = inTable f ways && (leb f v && ltb v (f + ways))
+
+-- ---- the tag lookup
+
+-- what it says of the line in the set of so many ways from slot f on, when the miss register is r
+unfoldable pub lookupIn : Request → List Tag → ℕ → ℕ → ℕ → Lookup
+lookupIn r tags f ways l =
+    let k = firstFrom (λ k. holdsLine l (tagAt tags k)) f ways in
+    cond (ltb k (f + ways)) (Hit (k - f)) (cond (names r l) Pending Miss)
+
+-- it says present
+abbrev pub isHit : Lookup → Bool
+isHit (Hit w) = true
+isHit Pending = false
+isHit Miss = false
 
 -- ---- use
 

@@ -1,7 +1,7 @@
-// The table of tag records, by value: where a line stands, use, the victim, and the changes of a record.
+// The table of tag records, by value: the tag lookup, use, the victim, and the changes of a record.
 // A record is named by its slot, s × ways + w for way w of set s; a set's records stand from its first slot on.
-// A public function takes any table and any places. Where the places it is given do not lie in the table, it answers slot 0 or leaves
-// the records as they are; else its answer is a definition of the rules.
+// A public function takes any table and any places. Where the places it is given do not lie in the table, it answers slot 0 or a miss, or
+// leaves the records as they are; else its answer is a definition of the rules, or one of specs/Records that says the same of a set's slots.
 ghost use mathlib.Core.Path.{_≡_};
 ghost use mathlib.Core.Bool.{cond, not, true, _&&_};
 ghost use Prim.Native.Nat.{_+_, _*_, _%_, _<_, _≤_};
@@ -9,17 +9,19 @@ ghost use lib.Dec.{ltb, leb};
 ghost use lib.ListN.{set, replicate};
 ghost use Rattle.lists.specs.Padded.{first, filter, total};
 ghost use Rattle.lists.specs.Counted.{firstFrom, greatestFrom, eachFrom};
-ghost use Rattle.rules.specs.Shape.{noTag, noLoad, tagAt};
+ghost use Rattle.rules.specs.Shape.{names, noTag, noLoad, tagAt};
 ghost use Rattle.rules.specs.Lines.{holdsLine, present, agedAt, wordsOf, dirtyAfter, marked};
 ghost use Rattle.rules.specs.Calls.{answeredBy, useEach, wantsLine};
 ghost use Rattle.rules.specs.Runs.{startTags};
-ghost use Rattle.records.specs.Records.{hasRoom, inTable, inSet, tabled, usedTags, victimIn, installedIn, flushedTags};
+ghost use Rattle.records.specs.Records.{hasRoom, inTable, inSet, isHit, lookupIn, tabled, usedTags, victimIn, installedIn, flushedTags};
 use rules::Figures;
 use rules::LINE_BYTES;
 use rules::LOAD_PLACES;
 use rules::LoadEntry;
+use rules::Lookup;
 use rules::NO_LOAD;
 use rules::NO_TAG;
+use rules::Request;
 use rules::StoreEntry;
 use rules::TAG_RECORDS;
 use rules::Tag;
@@ -63,7 +65,7 @@ fn in_set(first: usize, ways: usize, v: usize) -> bool
     v < first + ways
 }
 
-// ---- where a line stands
+// ---- the tag lookup
 
 // The first slot of the line's set: "Set = line number modulo sets."
 pub fn first_slot(figures: Figures, line: u32) -> usize
@@ -87,12 +89,10 @@ fn holds_line(t: Tag, line: u32) -> bool
 }
 
 // The slot of the set that has the line; where none has it, the first slot after the set.
-pub fn find(tags: [Tag; TAG_RECORDS], first: usize, ways: usize, line: u32) -> usize
-    ensures { λ r. ⌜ r ≡ cond (inTable first ways) (firstFrom (λ k. holdsLine line (tagAt tags k)) first ways) 0 ⌝ }
+fn find(tags: [Tag; TAG_RECORDS], first: usize, ways: usize, line: u32) -> usize
+    requires { ⌜ first + ways ≤ 256 ⌝ }
+    ensures { λ r. ⌜ r ≡ firstFrom (λ k. holdsLine line (tagAt tags k)) first ways ⌝ }
 {
-    if !in_table(first, ways) {
-        return 0;
-    }
     let end = first + ways;
     let mut k = first;
     while k < end {
@@ -105,7 +105,52 @@ pub fn find(tags: [Tag; TAG_RECORDS], first: usize, ways: usize, line: u32) -> u
     k
 }
 
-// Whether the line is present: some way of its set has it.
+// The miss register names the line.
+fn is_named(request: Request, line: u32) -> bool
+    ensures { λ r. ⌜ r ≡ names request line ⌝ }
+{
+    match request {
+        Request::Free => false,
+        Request::Line(l) => l == line,
+    }
+}
+
+// 02, card 4: the tag lookup answers "present with its way, requested, or absent". The line's set has so many ways from slot `first` on;
+// `request` is the miss register. Who asks only whether the line is present, and where, hands it a free one.
+pub fn lookup(
+    tags: [Tag; TAG_RECORDS],
+    first: usize,
+    ways: usize,
+    request: Request,
+    line: u32,
+) -> Lookup
+    ensures { λ r. ⌜ r ≡ cond (inTable first ways) (lookupIn request tags first ways line) Lookup.Miss ⌝ }
+{
+    if !in_table(first, ways) {
+        return Lookup::Miss;
+    }
+    let slot = find(tags, first, ways, line);
+    if slot < first + ways {
+        return Lookup::Hit(slot - first);
+    }
+    if is_named(request, line) {
+        return Lookup::Pending;
+    }
+    Lookup::Miss
+}
+
+// The lookup says present.
+pub fn is_hit(found: Lookup) -> bool
+    ensures { λ r. ⌜ r ≡ isHit found ⌝ }
+{
+    match found {
+        Lookup::Hit(_) => true,
+        Lookup::Pending => false,
+        Lookup::Miss => false,
+    }
+}
+
+// Whether the line is present: some way of its set has it, whatever the register names.
 pub fn is_present(tags: [Tag; TAG_RECORDS], figures: Figures, line: u32) -> bool
     ensures { λ r. ⌜ r ≡ (hasRoom figures && present (tabled figures tags) line) ⌝ }
 {
@@ -114,7 +159,7 @@ pub fn is_present(tags: [Tag; TAG_RECORDS], figures: Figures, line: u32) -> bool
     }
     let first = first_slot(figures, line);
     let n = figures.ways as usize;
-    find(tags, first, n, line) < first + n
+    is_hit(lookup(tags, first, n, Request::Free, line))
 }
 
 // ---- use
@@ -173,8 +218,11 @@ pub fn use_line(tags: [Tag; TAG_RECORDS], figures: Figures, line: u32) -> [Tag; 
     }
     let first = first_slot(figures, line);
     let n = figures.ways as usize;
-    let v = find(tags, first, n, line);
-    use_slot(tags, first, n, v)
+    let found = lookup(tags, first, n, Request::Free, line);
+    let Lookup::Hit(way) = found else {
+        return tags;
+    };
+    use_slot(tags, first, n, first + way)
 }
 
 // ---- the victim

@@ -10,10 +10,12 @@ use Rattle.lists.specs.Padded.{every, first}
 use Rattle.lists.proofs.Cond.{either, cases, and-left, and-right, wrong}
 use Rattle.lists.proofs.Every.{every-split}
 use Rattle.rules.specs.declared.LoadEntry.{LoadEntry}
+use Rattle.rules.specs.declared.Lookup.{Lookup}
+use Rattle.rules.specs.declared.Lookup.the-variants.{Hit, Pending, Miss}
 use Rattle.rules.specs.Shape.{Queues, Hierarchy, World, fits, noLoad, lineOf}
-use Rattle.rules.specs.Lines.{present}
+use Rattle.rules.specs.Lines.{present, lookup}
 use Rattle.rules.specs.Forward.{loadValue}
-use Rattle.rules.specs.Calls.{Call, Answer, Outcome, Check, load, store, retry, commit, abort, idle, reply, flush, show, refused, isAccepted, unchanged, emptyPart, guarded, passes, earlyChecks, callChecks, rule, loadAnswer, loadRule, storeRule, answerLoad, retryWith, retryRule, commitRule, abortRule, canDrain, canRequestLoad, canRequestStore, idleRule, replyRule, flushRule, showRule, waitingAt, nextNumber, checkpoint, restore, checkpointRule, restoreRule}
+use Rattle.rules.specs.Calls.{Call, Answer, Outcome, Check, load, store, retry, commit, abort, idle, reply, flush, show, refused, waits, waitsRequested, isAccepted, unchanged, emptyPart, guarded, passes, earlyChecks, callChecks, rule, waitAnswer, loadAnswer, loadRule, storeRule, answerLoad, retryWith, retryRule, commitRule, abortRule, canDrain, canRequestLoad, canRequestStore, idleRule, replyRule, flushRule, showRule, waitingAt, nextNumber, checkpoint, restore, checkpointRule, restoreRule}
 use Rattle.rules.specs.WellFormed.{wellFormed}
 use Rattle.rules.specs.Runs.{formedCheck, namesRefusal, refusal, outcome, answer, next}
 use Rattle.rules.specs.Refusals.{allChecks, FirstFailing, RefusedExactly, RefusedKeeps}
@@ -141,19 +143,26 @@ refusal-by P r h (show a) k = h a
 refusal-by P r h (checkpoint x) k = r (checkpoint x) k
 refusal-by P r h (restore x) k = r (restore x) k
 
+-- ---- a load that waits answers one of two words
+
+pub either-word : (P : Answer → Type 0) (i : ℕ) → P (waits i) → P (waitsRequested i) → (f : Lookup) → P (waitAnswer i f)
+either-word P i p q (Hit w) = p
+either-word P i p q Pending = q
+either-word P i p q Miss = p
+
 -- ---- a rule refuses nothing
 
 module _ (q : Queues) (b : Hierarchy) where
   abbrev Accepts : Outcome → Type 0
   Accepts o = isAccepted (o .answer) ≡ true
 
-  load-accepts : (i : ℕ) (v : Option ℕ) → isAccepted (loadAnswer i v) ≡ true
-  load-accepts i none = refl
-  load-accepts i (some v) = refl
+  load-accepts : (i : ℕ) (f : Lookup) (v : Option ℕ) → isAccepted (loadAnswer i f v) ≡ true
+  load-accepts i f none = either-word (λ r. isAccepted r ≡ true) i refl refl f
+  load-accepts i f (some v) = refl
 
   retry-accepts : (i : ℕ) (l : LoadEntry) (v : Option ℕ) → Accepts (retryWith i l v q b)
   unfolding retryWith answerLoad
-  retry-accepts i l none = refl
+  retry-accepts i l none = load-accepts i (lookup (q .request) b (lineOf (l .address))) none
   retry-accepts i l (some v) = either Accepts (leb i (q .committed)) (λ e. refl) (λ e. refl)
 
   idle-accepts : Accepts (idleRule q b)
@@ -165,7 +174,7 @@ module _ (q : Queues) (b : Hierarchy) where
 
   pub rule-accepts : (c : Call) → isAccepted (rule c q b .answer) ≡ true
   unfolding loadRule storeRule retryRule commitRule abortRule checkpointRule restoreRule replyRule flushRule showRule
-  rule-accepts (load a w) = load-accepts (nextNumber q) (loadValue (nextNumber q) a w (q .stores) b)
+  rule-accepts (load a w) = load-accepts (nextNumber q) (lookup (q .request) b (lineOf a)) (loadValue (nextNumber q) a w (q .stores) b)
   rule-accepts (store a w v) = refl
   rule-accepts (retry i) =
       let l = first (waitingAt i) noLoad (q .loads) in

@@ -16,7 +16,9 @@ use Rattle.lists.proofs.Selected.{filter-append, filter-all}
 use Rattle.rules.specs.declared.Figures.{Figures}
 use Rattle.rules.specs.declared.StoreEntry.{StoreEntry}
 use Rattle.rules.specs.declared.LoadEntry.{LoadEntry}
-use Rattle.rules.specs.Shape.{Queues, Hierarchy, World, world, noLoad, isFreeLoad}
+use Rattle.rules.specs.declared.Lookup.{Lookup}
+use Rattle.rules.specs.Shape.{Queues, Hierarchy, World, world, noLoad, isFreeLoad, lineOf}
+use Rattle.rules.specs.Lines.{lookup}
 use Rattle.rules.specs.Forward.{loadValue}
 use Rattle.rules.specs.Checkpoints.{numberOf}
 use Rattle.rules.specs.Calls.{Call, Answer, Outcome, load, store, retry, commit, abort, idle, reply, flush, show, checkpoint, restore, isAccepted, passes, callChecks, waitingAt, isNone, nextNumber, loadAnswer, answered, loadRule, storeRule, answerLoad, retryWith, retryRule, answeredBy, commitRule, squash, abortRule, checkpointRule, restoreRule, canDrain, canRequestLoad, canRequestStore, idleRule, replyRule, flushRule, showRule, rule}
@@ -26,7 +28,7 @@ use Rattle.rules.specs.Numbers.{numberAfter}
 use Rattle.rules.specs.Flat.{History, noHistory, numberIn, below, upTo, added, noted, history, historyOf, loadOf, flatOf, appliedAll, heldStore}
 use Rattle.rules.specs.Kept.{Formed}
 use Rattle.rules.specs.Values.{historyAt}
-use Rattle.rules.proofs.Checks.{refusal-by, outcome-by, rule-accepts}
+use Rattle.rules.proofs.Checks.{refusal-by, outcome-by, either-word, rule-accepts}
 use Rattle.rules.proofs.Numbers.{rule-number}
 use Rattle.rules.proofs.QueueView.{Parts, parts, goodLoad, store-given, load-low}
 use Rattle.rules.proofs.Entries.{commit-checked, abort-checked, restore-checked}
@@ -234,16 +236,16 @@ module _ (q : Queues) (b : Hierarchy) where
 
   module _ (h : History) where
     -- the number that a load's answer names is the load's
-    load-number : (o : Option ℕ) → numberIn (loadAnswer (nextNumber q) o) ≡ nextNumber q
-    load-number none = refl
-    load-number (some v) = refl
+    load-number : (f : Lookup) (o : Option ℕ) → numberIn (loadAnswer (nextNumber q) f o) ≡ nextNumber q
+    load-number f none = either-word (λ r. numberIn r ≡ nextNumber q) (nextNumber q) refl refl f
+    load-number f (some v) = refl
 
     -- the history has each new load
     new-joins : (c : Call) → Joins c (remembered (added c (rule c q b .answer) h))
     unfolding added first loadRule
     new-joins (load a w) =
         λ t. or-two (eqb (nextNumber q) 0) _
-        (rw (load-number (loadValue (nextNumber q) a w (q .stores) b), eq-eqb (nextNumber q) (nextNumber q) refl)
+        (rw (load-number (lookup (q .request) b (lineOf a)) (loadValue (nextNumber q) a w (q .stores) b), eq-eqb (nextNumber q) (nextNumber q) refl)
         (rw (eq-eqb (nextNumber q) (nextNumber q) refl, eq-eqb a a refl) (eq-eqb w w refl)))
     new-joins (store a w v) = tt
     new-joins (retry i) = tt
@@ -261,7 +263,7 @@ module _ (q : Queues) (b : Hierarchy) where
     unfolding added first loadRule
     still-remembered (load a w) l low r =
         or-by (isFreeLoad l) _ (λ f.
-        rw (load-number (loadValue (nextNumber q) a w (q .stores) b), ne-eqb (nextNumber q) (l .number) (λ z. omega arith)) (or-then (isFreeLoad l) _ r f))
+        rw (load-number (lookup (q .request) b (lineOf a)) (loadValue (nextNumber q) a w (q .stores) b), ne-eqb (nextNumber q) (l .number) (λ z. omega arith)) (or-then (isFreeLoad l) _ r f))
     still-remembered (store a w v) l low r = r
     still-remembered (retry i) l low r = r
     still-remembered (commit k) l low r = r

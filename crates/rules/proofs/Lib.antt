@@ -1,5 +1,6 @@
 pub mod ByComputing
 pub mod ByComputingCheckpoints
+pub mod ByComputingLookup
 pub mod Checks
 pub mod Numbers
 pub mod Records
@@ -26,6 +27,7 @@ pub mod QueuesKept
 pub mod Kept
 pub mod CheckpointClaims
 pub mod Stored
+pub mod TagLookup
 pub mod Waits
 pub mod FlatCalls
 pub mod History

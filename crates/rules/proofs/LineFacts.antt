@@ -97,20 +97,20 @@ fits-tells b e =
 
 -- ---- looking a line up
 
-names-tells : (l : ℕ) (t : Tag) → holdsLine l t ≡ true → (t .valid ≡ true) × (t .line ≡ l)
+pub holds-tells : (l : ℕ) (t : Tag) → holdsLine l t ≡ true → (t .valid ≡ true) × (t .line ≡ l)
 unfolding holdsLine
-names-tells l t e = (and-left (t .valid) _ e, eqb-true (t .line) l (and-right (t .valid) _ e))
+holds-tells l t e = (and-left (t .valid) _ e, eqb-true (t .line) l (and-right (t .valid) _ e))
 
-names-is : (l : ℕ) (t : Tag) → t .valid ≡ true → t .line ≡ l → holdsLine l t ≡ true
+pub holds-is : (l : ℕ) (t : Tag) → t .valid ≡ true → t .line ≡ l → holdsLine l t ≡ true
 unfolding holdsLine
-names-is l t v e = and-both (t .valid) _ v (eq-eqb (t .line) l e)
+holds-is l t v e = and-both (t .valid) _ v (eq-eqb (t .line) l e)
 
 pub present-tells : (b : Hierarchy) (l : ℕ) → present b l ≡ true → At b l
 unfolding present slotOf
 present-tells b l e =
     let p : ℕ → Bool = λ k. holdsLine l (tagAt (b .tags) k) in
     let h = ltb-true (firstFrom p (firstSlot b l) (b .figures .ways)) (firstSlot b l + b .figures .ways) e in
-    let n = names-tells l _ (first-hits p (b .figures .ways) (firstSlot b l) h) in
+    let n = holds-tells l _ (first-hits p (b .figures .ways) (firstSlot b l) h) in
     record { low = first-low p (b .figures .ways) (firstSlot b l); high = h; valid = n .0; line = n .1 }
 
 -- a valid line is found in its slot
@@ -123,9 +123,9 @@ look b g k l v e =
     let lo : firstSlot b l ≤ k = subst (λ (l : ℕ). firstSlot b l ≤ k) e (o .0) in
     let hi : k < firstSlot b l + b .figures .ways = subst (λ (l : ℕ). k < firstSlot b l + b .figures .ways) e (o .1) in
     let p : ℕ → Bool = λ k. holdsLine l (tagAt (b .tags) k) in
-    let least = first-least p (b .figures .ways) (firstSlot b l) k lo hi (names-is l (tagAt (b .tags) k) v e) in
+    let least = first-least p (b .figures .ways) (firstSlot b l) k lo hi (holds-is l (tagAt (b .tags) k) v e) in
     let h : firstFrom p (firstSlot b l) (b .figures .ways) < firstSlot b l + b .figures .ways = omega arith in
-    let n = names-tells l _ (first-hits p (b .figures .ways) (firstSlot b l) h) in
+    let n = holds-tells l _ (first-hits p (b .figures .ways) (firstSlot b l) h) in
     (lt-ltb _ _ h, g .once _ k (n .0) v (n .1 ∙ sym e))
 
 pub absent-tells :
@@ -256,7 +256,7 @@ module _ (b : Hierarchy) where
         → tagAt (b .tags) j .valid ≡ true → tagAt (b .tags) j .line ≡ tag .line → ⊥
     unfolding linesOnceAt
     once-tells e v j a l u q =
-        wrong (names-is (tag .line) (tagAt (b .tags) j) u q)
+        wrong (holds-is (tag .line) (tagAt (b .tags) j) u q)
         (not-true _ (all-at _ (k - firstSlot b (tag .line)) (firstSlot b (tag .line)) (if-valid e v) j a (omega arith)))
 
     clean-tells :
@@ -358,7 +358,7 @@ module _ (b : Hierarchy) (g : Good b) (k : ℕ) where
       all-by _ (k - firstSlot b (tagAt (b .tags) k .line)) _ (λ j a h.
       ap not (cases (holdsLine (tagAt (b .tags) k .line) (tagAt (b .tags) j))
       (λ e.
-      let m = names-tells _ (tagAt (b .tags) j) e in
+      let m = holds-tells _ (tagAt (b .tags) j) e in
       let z = g .lines .once j k (m .0) v (m .1) in
       let no : ⊥ = omega arith in
       absurd no)

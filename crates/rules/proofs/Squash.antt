@@ -111,7 +111,7 @@ module _ (forget : List Checkpoint → List Checkpoint) (n : ℕ) (q : Queues) (
       (λ e. rw (sweep-changed (waiting-untouched n i k) answered (waiting-untouched n i k .apart) (q .loads)))
 
   retry-with : (i : ℕ) (l : LoadEntry) → i < n → (v : Option ℕ) → retryWith i l v (squash forget n q) b ≡ squashedOutcome forget n (retryWith i l v q b)
-  unfolding retryWith
+  unfolding retryWith squash
   retry-with i l k none = refl
   retry-with i l k (some v) = answer-squash i v l k
 

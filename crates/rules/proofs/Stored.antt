@@ -21,7 +21,8 @@ use Rattle.rules.specs.declared.LoadEntry.{LoadEntry}
 use Rattle.rules.specs.Shape.{Hierarchy, noStore, lineOf, writesThrough, fits}
 use Rattle.rules.specs.Lines.{present, useSlot, useLine, writeStore, writeBackSlot, writeBackAll, install, fillLine}
 use Rattle.rules.specs.Forward.{olderCovers, storeByte, loadByte, loadValue, lacking}
-use Rattle.rules.specs.Calls.{value, waits, loadAnswer, useEach}
+use Rattle.rules.specs.declared.Lookup.{Lookup}
+use Rattle.rules.specs.Calls.{value, waitAnswer, loadAnswer, useEach}
 use Rattle.rules.specs.WellFormed.{linesFormed}
 use Rattle.rules.specs.Runs.{started}
 use Rattle.rules.specs.Flat.{flatByte, flatOf, applied, appliedAll, heldStore, below}
@@ -167,16 +168,16 @@ module _ (i : ℕ) (ss : List StoreEntry) (b : Hierarchy) where
   lacking-unknown : (x : ℕ) → lacking i ss b x ≡ not (known x)
   lacking-unknown x = cases (any (olderCovers i x) ss) (λ e. rw e) (λ e. rw e)
 
-  -- "waits" if a byte is lacking, else what flat memory holds
+  -- a load waits, in the word for what the lookup says, if a byte is lacking; else it answers what flat memory holds
   pub load-answers :
-      (a n : ℕ) → a + n ≤ length (b .memory)
-      → loadAnswer i (loadValue i a n ss b) ≡ cond (someFrom (lacking i ss b) a n) (waits i) (value i (valueAt flatOlder a n))
+      (f : Lookup) (a n : ℕ) → a + n ≤ length (b .memory)
+      → loadAnswer i f (loadValue i a n ss b) ≡ cond (someFrom (lacking i ss b) a n) (waitAnswer i f) (value i (valueAt flatOlder a n))
   unfolding loadValue
-  load-answers a n inside =
-      ap (loadAnswer i) (gather-known (loadByte i ss b) known flatOlder a n (λ x l u. byte-known x (omega arith)))
+  load-answers f a n inside =
+      ap (loadAnswer i f) (gather-known (loadByte i ss b) known flatOlder a n (λ x l u. byte-known x (omega arith)))
       ∙ (go (allFrom known a n)
-      ∙ ap (λ (t : Bool). cond t (waits i) (value i (valueAt flatOlder a n))) (sym (some-lacking known (lacking i ss b) lacking-unknown a n)))
+      ∙ ap (λ (t : Bool). cond t (waitAnswer i f) (value i (valueAt flatOlder a n))) (sym (some-lacking known (lacking i ss b) lacking-unknown a n)))
     where
-      go : (t : Bool) → loadAnswer i (cond t (some (valueAt flatOlder a n)) none) ≡ cond (not t) (waits i) (value i (valueAt flatOlder a n))
+      go : (t : Bool) → loadAnswer i f (cond t (some (valueAt flatOlder a n)) none) ≡ cond (not t) (waitAnswer i f) (value i (valueAt flatOlder a n))
       go true = refl
       go false = refl

@@ -15,15 +15,16 @@ use Rattle.lists.proofs.Selected.{filter-append, filter-all, filter-filter}
 use Rattle.rules.specs.declared.Figures.{Figures}
 use Rattle.rules.specs.declared.StoreEntry.{StoreEntry}
 use Rattle.rules.specs.declared.LoadEntry.{LoadEntry}
+use Rattle.rules.specs.declared.Lookup.{Lookup}
 use Rattle.rules.specs.Shape.{Queues, Hierarchy, World, world, noLoad, isFreeLoad, lineOf}
-use Rattle.rules.specs.Lines.{present}
+use Rattle.rules.specs.Lines.{present, lookup}
 use Rattle.rules.specs.Forward.{lacking}
-use Rattle.rules.specs.Calls.{Call, Answer, Outcome, load, store, retry, commit, abort, idle, reply, flush, show, checkpoint, restore, refused, stored, value, waits, committed, kept, drained, requested, idled, filled, flushed, shown, checkpointed, isAccepted, passes, callChecks, waitingAt, nextNumber, storeRule, commitRule, abortRule, checkpointRule, restoreRule, canDrain, canRequestLoad, canRequestStore, idleRule, replyRule, flushRule, showRule, rule}
+use Rattle.rules.specs.Calls.{Call, Answer, Outcome, load, store, retry, commit, abort, idle, reply, flush, show, checkpoint, restore, refused, stored, value, waits, waitsRequested, committed, kept, drained, requested, idled, filled, flushed, shown, checkpointed, isAccepted, passes, callChecks, waitingAt, nextNumber, waitAnswer, storeRule, commitRule, abortRule, checkpointRule, restoreRule, canDrain, canRequestLoad, canRequestStore, idleRule, replyRule, flushRule, showRule, rule}
 use Rattle.rules.specs.WellFormed.{wellFormed}
 use Rattle.rules.specs.Runs.{refusal, answer, after, startWorld}
 use Rattle.rules.specs.Flat.{History, noHistory, below, added, noted, historyOf, loadOf, flatOf, appliedAll, heldStore, flatBefore}
 use Rattle.rules.specs.Values.{historyAt, Claim, AfterStart, FromState, RightValue, ValuesRight, InquiryAbout, InquiriesRight, FlatAfter}
-use Rattle.rules.proofs.Checks.{refusal-by, outcome-by}
+use Rattle.rules.proofs.Checks.{refusal-by, outcome-by, either-word}
 use Rattle.rules.proofs.QueueView.{parts}
 use Rattle.rules.proofs.Entries.{Waits, tried, tried-waits}
 use Rattle.rules.proofs.Kept.{start-leaves}
@@ -61,6 +62,7 @@ reads (refused k) = false
 reads (stored i) = false
 reads (value i v) = true
 reads (waits i) = false
+reads (waitsRequested i) = false
 reads (committed k) = false
 reads (kept k) = false
 reads (drained i) = false
@@ -74,12 +76,12 @@ reads (checkpointed n) = false
 refusal-reads : (c : Call) (k : ℕ) → reads (refusal c k) ≡ false
 refusal-reads = refusal-by (λ c r. reads r ≡ false) (λ c k. refl) (λ a. refl)
 
--- a value, where the answer is "waits" or a value
-value-is : (m : List ℕ) (j : ℕ) (ss : List StoreEntry) (b : Hierarchy) (a n i v : ℕ) → answerFrom m j ss b a n ≡ value i v → (j ≡ i) × (v ≡ valueAt m a n)
-value-is m j ss b a n i v = go (someFrom (lacking j ss b) a n)
+-- a value, where a load waits or answers a value
+value-is : (m : List ℕ) (j : ℕ) (f : Lookup) (ss : List StoreEntry) (b : Hierarchy) (a n i v : ℕ) → answerFrom m j f ss b a n ≡ value i v → (j ≡ i) × (v ≡ valueAt m a n)
+value-is m j f ss b a n i v = go (someFrom (lacking j ss b) a n)
   where
-    go : (t : Bool) → cond t (waits j) (value j (valueAt m a n)) ≡ value i v → (j ≡ i) × (v ≡ valueAt m a n)
-    go true e = absurd (false≢true (ap reads e))
+    go : (t : Bool) → cond t (waitAnswer j f) (value j (valueAt m a n)) ≡ value i v → (j ≡ i) × (v ≡ valueAt m a n)
+    go true e = absurd (false≢true (sym (either-word (λ r. reads r ≡ false) j refl refl f) ∙ ap reads e))
     go false e = (cc, cc)
 
 module _ (found : List ℕ) (h : History) (q : Queues) (b : Hierarchy) (k : Traced found h q b) (wf : wellFormed q b ≡ true) where
@@ -94,7 +96,7 @@ module _ (found : List ℕ) (h : History) (q : Queues) (b : Hierarchy) (k : Trac
   unfolding noted added first
   load-right a n e i v f =
       let older : every (below (nextNumber q)) (k .gone) ≡ true = up-below (q .committed) (nextNumber q) (omega (arith, parts q b wf .order)) (k .gone) (k .settled) in
-      let x = value-is (flatOlder (nextNumber q) (q .stores) b) (nextNumber q) (q .stores) b a n i v (sym (load-rule-answers q b wf a n e) ∙ f) in
+      let x = value-is (flatOlder (nextNumber q) (q .stores) b) (nextNumber q) (lookup (q .request) b (lineOf a)) (q .stores) b a n i v (sym (load-rule-answers q b wf a n e) ∙ f) in
       subst (λ (j : ℕ). RightValue found (noted (load a n) (value j v) h) (load a n) j v) (x .0)
       (record {
         numbered = rw (eq-eqb (nextNumber q) (nextNumber q) refl);
@@ -138,7 +140,7 @@ module _ (found : List ℕ) (h : History) (q : Queues) (b : Hierarchy) (k : Trac
     retry-right : Right (retry j) (rule (retry j) q b .answer)
     unfolding noted added
     retry-right i v f =
-        let x = value-is (flatOlder j (q .stores) b) j (q .stores) b (asked-load .address) (asked-load .width) i v (sym (retry-rule-answers q b wf j e) ∙ f) in
+        let x = value-is (flatOlder j (q .stores) b) j (lookup (q .request) b (lineOf (asked-load .address))) (q .stores) b (asked-load .address) (asked-load .width) i v (sym (retry-rule-answers q b wf j e) ∙ f) in
         subst (λ (n : ℕ). RightValue found h (retry j) n v) (x .0)
         (record {
           numbered = tried-number ∙ waiting .numbered;

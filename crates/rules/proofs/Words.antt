@@ -16,14 +16,15 @@ use Rattle.lists.proofs.Counting.{steps-keep, each-same}
 use Rattle.rules.specs.declared.Tag.{Tag}
 use Rattle.rules.specs.declared.StoreEntry.{StoreEntry}
 use Rattle.rules.specs.declared.LoadEntry.{LoadEntry}
+use Rattle.rules.specs.declared.Lookup.{Lookup}
 use Rattle.rules.specs.Shape.{Queues, Hierarchy, World, lineBytes, lineWords, noTag, requestedLine, lineOf, setOf, slots, tagAt, writesThrough}
-use Rattle.rules.specs.Lines.{slotOf, present, useSlot, useLine, wordOf, isDirtyWord, dirtyWord, marked, cleaned, putStore, writeStore, writeBackSlot, writeBackAll, victim, install, fillLine}
+use Rattle.rules.specs.Lines.{slotOf, present, lookup, useSlot, useLine, wordOf, isDirtyWord, dirtyWord, marked, cleaned, putStore, writeStore, writeBackSlot, writeBackAll, victim, install, fillLine}
 use Rattle.rules.specs.Forward.{loadValue}
-use Rattle.rules.specs.Calls.{Call, Answer, Outcome, load, store, retry, commit, abort, idle, reply, flush, show, checkpoint, restore, refused, stored, value, waits, committed, kept, drained, requested, idled, filled, flushed, shown, checkpointed, nextNumber, loadAnswer, loadRule, storeRule, answerLoad, retryWith, retryRule, answeredBy, useEach, commitRule, abortRule, checkpointRule, restoreRule, oldestStore, storeReady, canDrain, canRequestLoad, canRequestStore, idleRule, replyRule, flushRule, showRule, rule}
+use Rattle.rules.specs.Calls.{Call, Answer, Outcome, load, store, retry, commit, abort, idle, reply, flush, show, checkpoint, restore, refused, stored, value, waits, waitsRequested, committed, kept, drained, requested, idled, filled, flushed, shown, checkpointed, nextNumber, loadAnswer, loadRule, storeRule, answerLoad, retryWith, retryRule, answeredBy, useEach, commitRule, abortRule, checkpointRule, restoreRule, oldestStore, storeReady, canDrain, canRequestLoad, canRequestStore, idleRule, replyRule, flushRule, showRule, rule}
 use Rattle.rules.specs.WellFormed.{wellFormed}
 use Rattle.rules.specs.Runs.{outcome, answer, next}
 use Rattle.rules.specs.Words.{MarksExact, Unmarked, MarkedOnly}
-use Rattle.rules.proofs.Checks.{refusal-by, outcome-by}
+use Rattle.rules.proofs.Checks.{refusal-by, outcome-by, either-word}
 use Rattle.rules.proofs.Records.{at-set, still-set}
 use Rattle.rules.proofs.Dirty.{no-word, byte-word, marked-here, marked-new}
 use Rattle.rules.proofs.Recency.{use-marks}
@@ -135,6 +136,7 @@ Told b c (refused k) = Unit
 Told b c (stored i) = Unit
 Told b c (value i v) = Unit
 Told b c (waits i) = Unit
+Told b c (waitsRequested i) = Unit
 Told b c (committed k) = Unit
 Told b c (kept k) = Unit
 Told b c (drained i) = ⊥
@@ -153,13 +155,13 @@ data Marking (q : Queues) (b : Hierarchy) (o : Outcome) : Type 0 where
       → Written (oldestStore q) (slotOf b (lineOf (oldestStore q .address))) b (o .hierarchy) → Marking q b o
 
 module _ (q : Queues) (b : Hierarchy) (wf : wellFormed q b ≡ true) where
-  load-quiet : (i : ℕ) (v : Option ℕ) → Told b b (loadAnswer i v)
-  load-quiet i none = tt
-  load-quiet i (some v) = tt
+  load-quiet : (i : ℕ) (f : Lookup) (v : Option ℕ) → Told b b (loadAnswer i f v)
+  load-quiet i f none = either-word (Told b b) i tt tt f
+  load-quiet i f (some v) = tt
 
   retry-marking : (i : ℕ) (l : LoadEntry) (v : Option ℕ) → Marking q b (retryWith i l v q b)
   unfolding retryWith answerLoad
-  retry-marking i l none = quiet tt (λ k n d. d)
+  retry-marking i l none = quiet (load-quiet i (lookup (q .request) b (lineOf (l .address))) none) (λ k n d. d)
   retry-marking i l (some v) =
       either (Marking q b) (leb i (q .committed)) (λ e. quiet tt (use-none (lineOf (l .address)) b)) (λ e. quiet tt (λ k n d. d))
 
@@ -174,7 +176,7 @@ module _ (q : Queues) (b : Hierarchy) (wf : wellFormed q b ≡ true) where
 
   rule-marking : (c : Call) → Marking q b (rule c q b)
   unfolding loadRule storeRule retryRule commitRule abortRule replyRule flushRule showRule checkpointRule restoreRule
-  rule-marking (load a w) = quiet (load-quiet (nextNumber q) (loadValue (nextNumber q) a w (q .stores) b)) (λ k n d. d)
+  rule-marking (load a w) = quiet (load-quiet (nextNumber q) (lookup (q .request) b (lineOf a)) (loadValue (nextNumber q) a w (q .stores) b)) (λ k n d. d)
   rule-marking (store a w v) = quiet tt (λ k n d. d)
   rule-marking (retry i) = retry-marking i (tried i q) (loadValue i (tried i q .address) (tried i q .width) (q .stores) b)
   rule-marking (commit k) = quiet tt (each-none (filter (answeredBy k) (q .loads)) b)

@@ -11,8 +11,10 @@ use Rattle.rules.specs.declared.LoadEntry.{LoadEntry}
 use Rattle.rules.specs.declared.Checkpoint.{Checkpoint}
 use Rattle.rules.specs.declared.Request.{Request}
 use Rattle.rules.specs.declared.Request.the-variants.{Free, Line}
+use Rattle.rules.specs.declared.Lookup.{Lookup}
+use Rattle.rules.specs.declared.Lookup.the-variants.{Hit, Pending, Miss}
 use Rattle.rules.specs.Shape.{Queues, Hierarchy, lineBytes, topNumber, noStore, noLoad, isFreeStore, isFreeLoad, isFree, requestedLine, lineOf, writesThrough}
-use Rattle.rules.specs.Lines.{present, placeOf, useLine, writeStore, writeBackAll, dirtyWords, fillLine}
+use Rattle.rules.specs.Lines.{present, placeOf, lookup, useLine, writeStore, writeBackAll, dirtyWords, fillLine}
 use Rattle.rules.specs.Forward.{loadValue}
 use Rattle.rules.specs.Checkpoints.{inUse, numberOf, nameAllowed, addCheckpoint, forgetAbove, forgetUpTo, forgetFrom}
 
@@ -46,8 +48,10 @@ pub data Answer : Type 0 where
   stored : ℕ → Answer
   -- the operation number and the value
   value : ℕ → ℕ → Answer
-  -- the operation number
+  -- the operation number: some byte has neither, and the load's line is not requested
   waits : ℕ → Answer
+  -- the same where its line is requested (02, card 4: "waits-requested")
+  waitsRequested : ℕ → Answer
   -- the h now in force
   committed : ℕ → Answer
   -- the last now in force (also of a return: "returning answers as the abort does")
@@ -73,6 +77,7 @@ isAccepted (refused k) = false
 isAccepted (stored i) = true
 isAccepted (value i v) = true
 isAccepted (waits i) = true
+isAccepted (waitsRequested i) = true
 isAccepted (committed k) = true
 isAccepted (kept k) = true
 isAccepted (drained i) = true
@@ -202,17 +207,24 @@ abbrev pub isNone : Option ℕ → Bool
 isNone none = true
 isNone (some v) = false
 
--- "If some byte has neither, the answer is 'waits'."
-abbrev pub loadAnswer : ℕ → Option ℕ → Answer
-loadAnswer i none = waits i
-loadAnswer i (some v) = value i v
+-- 02, card 4: "'waits' becomes 'waits-requested' when the lookup says requested, .. and stays 'waits' otherwise". (A load whose line is
+-- present lacks no byte, so that it does not wait.)
+abbrev pub waitAnswer : ℕ → Lookup → Answer
+waitAnswer i (Hit w) = waits i
+waitAnswer i Pending = waitsRequested i
+waitAnswer i Miss = waits i
+
+-- "If some byte has neither, the answer is 'waits'.", in the word for what the lookup of its line says
+abbrev pub loadAnswer : ℕ → Lookup → Option ℕ → Answer
+loadAnswer i f none = waitAnswer i f
+loadAnswer i f (some v) = value i v
 
 -- "Load takes last + 1 and joins the loads. .. A load call never makes a request and never changes an age."
 unfoldable pub loadRule : ℕ → ℕ → Queues → Hierarchy → Outcome
 loadRule a w q b =
     let v = loadValue (nextNumber q) a w (q .stores) b in
     record {
-      answer = loadAnswer (nextNumber q) v;
+      answer = loadAnswer (nextNumber q) (lookup (q .request) b (lineOf a)) v;
       queues = record {
         last = nextNumber q;
         committed = q .committed;
@@ -248,7 +260,7 @@ answerLoad i v l q b =
 
 -- the listed load l of number i, tried again, reads v
 unfoldable pub retryWith : ℕ → LoadEntry → Option ℕ → Queues → Hierarchy → Outcome
-retryWith i l none q b = unchanged (waits i) q b
+retryWith i l none q b = unchanged (waitAnswer i (lookup (q .request) b (lineOf (l .address)))) q b
 retryWith i l (some v) q b = answerLoad i v l q b
 
 -- "Inquiry about number i tries a waiting load again by the same rule."

@@ -2,6 +2,7 @@
 use Prim.Native.Nat.{ℕ}
 use mathlib.Core.List.{List}
 use Rattle.rules.specs.declared.Figures.{Figures}
+use Rattle.rules.specs.declared.Request.{Request}
 use Rattle.rules.specs.declared.WritePolicy.{WritePolicy}
 use Rattle.rules.specs.Shape.{Hierarchy, World}
 use Rattle.rules.specs.Calls.{Call}
@@ -12,6 +13,7 @@ use Rattle.rules.specs.Dropped.{DroppedStretch, DroppedAfterStart, Resto
 use Rattle.rules.specs.CheckpointClaims.{SetsExactly, ReturnsExactly, AbortsExactly, CommitsExactly, CheckpointsStay, CheckpointsRanked}
 use Rattle.rules.specs.Kept.{StartFormed, NextKept, RunKept, AdmittedAfterStart}
 use Rattle.rules.specs.Values.{AfterStart, FromState, ValuesRight, LoadWaits, RetryWaits, InquiriesRight, FlushCounts, FlushesRight, FlatCall, FlatAfter}
+use Rattle.rules.specs.TagLookup.{LookupExact, LoadStatus, RetryStatus, LoadWaitLeaves, RetryWaitLeaves, NoOtherWaits}
 use Rattle.rules.specs.Words.{MarksExact, Unmarked, MarkedOnly}
 
 -- a refused call changes nothing
@@ -68,12 +70,26 @@ pub record ValuesAreRight : Type 0 where
   pub after-start : (f : Figures) (cache memory : List ℕ) → AfterStart ValuesRight f cache memory
   pub from-state : (w : World) → FromState ValuesRight w
 
--- demand 2: an accepted load or inquiry waits exactly if a byte of it is lacking; in a run, the load of that number is the run's own
+-- demand 2: an accepted load or inquiry waits, in either word, exactly if a byte of it is lacking; in a run, the load of that number is
+-- the run's own
 pub record WaitsAreExact : Type 0 where
   pub by-load : (a n : ℕ) (w : World) → LoadWaits a n w
   pub by-inquiry : (i : ℕ) (w : World) → RetryWaits i w
   pub after-start : (f : Figures) (cache memory : List ℕ) → AfterStart InquiriesRight f cache memory
   pub from-state : (w : World) → FromState InquiriesRight w
+
+-- 02, card 4: an accepted load or inquiry that waits says "waits-requested" exactly if the register names its line. Whichever it says,
+-- the load waits and nothing else moves. No other call says either word
+pub record WaitStatusIsExact : Type 0 where
+  pub by-load : (a n : ℕ) (w : World) → LoadStatus a n w
+  pub by-inquiry : (i : ℕ) (w : World) → RetryStatus i w
+  pub load-leaves : (a n : ℕ) (w : World) → LoadWaitLeaves a n w
+  pub inquiry-leaves : (i : ℕ) (w : World) → RetryWaitLeaves i w
+  pub by-others : (c : Call) (w : World) → NoOtherWaits c w
+
+-- 02, card 4: what the tag lookup answers, of any register, any hierarchy and any line
+abbrev pub LookupIsExact : Type 0
+LookupIsExact = (r : Request) (b : Hierarchy) (l : ℕ) → LookupExact r b l
 
 -- demand 2: what an accepted flush counts, cleans and leaves in memory
 pub record FlushesAreExact : Type 0 where

@@ -3,7 +3,7 @@ use Rattle.lists.specs.Padded.{any, every, ascending, climbing, freeLast, risin
 use Rattle.lists.specs.Counted.{firstFrom, allFrom, someFrom, countFrom, greatestFrom, stepsFrom, eachFrom}
 use Rattle.lists.specs.Bytes.{byteOf, overlaid, put, valueAt, addByte, gather}
 use Rattle.rules.specs.Shape.{setsAllowed, lineOf, figuresAllowed, fits}
-use Rattle.rules.specs.Lines.{holdsLine, slotOf, present, placeOf, cachedByte, agedAt, useSlot, useLine, isDirtyWord, withMark, markCount, dirtyAt, writtenThroughAt, storedMemory, putStore, writeStore, writtenBackAt, writeBackSlot, writeBackAll, dirtyWords, victim, copiedAt, install, fillLine}
+use Rattle.rules.specs.Lines.{holdsLine, slotOf, present, placeOf, cachedByte, wayOf, lookup, agedAt, useSlot, useLine, isDirtyWord, withMark, markCount, dirtyAt, writtenThroughAt, storedMemory, putStore, writeStore, writtenBackAt, writeBackSlot, writeBackAll, dirtyWords, victim, copiedAt, install, fillLine}
 use Rattle.rules.specs.Forward.{olderCovers, loadByte, loadValue, someUncovered}
 use Rattle.rules.specs.Checkpoints.{addCheckpoint, forgetAbove, forgetUpTo, forgetFrom}
 use Rattle.rules.specs.Calls.{guarded, committedStore, waitingAt, storeRule, loadRule, answerLoad, retryWith, retryRule, answeredBy, useEach, commitRule, squash, abortRule, checkpointRule, restoreRule, waitsBelow, storeReady, wantsLine, idleRule, replyRule, flushRule, showRule}
@@ -14,7 +14,7 @@ use Rattle.rules.specs.Flat.{flatByte, applied, appliedAll, added, noted
 unfoldable pub computed : Unit {0}
 unfolding any every ascending climbing freeLast rising increasing first final filter total select without shifted placed cut changed firstFrom
     allFrom someFrom countFrom greatestFrom stepsFrom eachFrom byteOf overlaid put valueAt addByte gather setsAllowed lineOf
-    figuresAllowed fits holdsLine slotOf present placeOf cachedByte agedAt useSlot useLine isDirtyWord withMark markCount dirtyAt writtenThroughAt storedMemory putStore writeStore
+    figuresAllowed fits holdsLine slotOf present placeOf cachedByte wayOf lookup agedAt useSlot useLine isDirtyWord withMark markCount dirtyAt writtenThroughAt storedMemory putStore writeStore
     writtenBackAt writeBackSlot writeBackAll dirtyWords victim copiedAt install fillLine olderCovers loadByte loadValue someUncovered
     guarded committedStore waitingAt storeRule loadRule answerLoad retryWith retryRule answeredBy useEach commitRule squash
     abortRule checkpointRule restoreRule addCheckpoint forgetAbove forgetUpTo forgetFrom waitsBelow storeReady wantsLine idleRule replyRule flushRule showRule zeroTag freeStoreZero freeLoadZero

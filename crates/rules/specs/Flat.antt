@@ -11,7 +11,7 @@ use Rattle.rules.specs.declared.StoreEntry.{StoreEntry}
 use Rattle.rules.specs.declared.LoadEntry.{LoadEntry}
 use Rattle.rules.specs.Shape.{Hierarchy, World, lineBytes, noLoad, isFreeStore, lineOf}
 use Rattle.rules.specs.Lines.{present, placeOf}
-use Rattle.rules.specs.Calls.{Call, Answer, load, store, retry, commit, abort, idle, reply, flush, show, checkpoint, restore, refused, stored, value, waits, committed, kept, drained, requested, idled, filled, flushed, shown, checkpointed, isAccepted}
+use Rattle.rules.specs.Calls.{Call, Answer, load, store, retry, commit, abort, idle, reply, flush, show, checkpoint, restore, refused, stored, value, waits, waitsRequested, committed, kept, drained, requested, idled, filled, flushed, shown, checkpointed, isAccepted}
 use Rattle.rules.specs.Runs.{answers}
 
 -- ---- flat memory of a given state
@@ -66,6 +66,7 @@ numberIn (refused k) = 0
 numberIn (stored i) = i
 numberIn (value i v) = i
 numberIn (waits i) = i
+numberIn (waitsRequested i) = i
 numberIn (committed k) = 0
 numberIn (kept k) = k
 numberIn (drained i) = i

@@ -11,6 +11,7 @@ pub mod Dropped
 pub mod Kept
 pub mod Flat
 pub mod Values
+pub mod TagLookup
 pub mod Words
 pub mod CheckpointClaims
 pub mod Computed
@@ -18,4 +19,5 @@ pub mod Examples
 pub mod States
 pub mod CheckpointExamples
 pub mod RefusalTable
+pub mod LookupExamples
 pub mod Claims

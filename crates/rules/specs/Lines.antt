@@ -1,7 +1,7 @@
--- Lines: where a line stands, use, dirty words, a store written, write back, the victim and the fill.
+-- Lines: where a line stands, the tag lookup, use, dirty words, a store written, write back, the victim and the fill.
 -- Four steps on one slot or its set (use, put a store, write back, install), and memory written past the cache, make up every change of
 -- the hierarchy.
-use Prim.Native.Nat.{ℕ, _+_, _*_, _/_, _%_, _^_}
+use Prim.Native.Nat.{ℕ, _+_, _*_, _-_, _/_, _%_, _^_}
 use mathlib.Core.Bool.{Bool, true, cond, not, _&&_}
 use mathlib.Core.List.{List}
 use mathlib.Core.Option.{Option, some, none}
@@ -12,9 +12,12 @@ use Rattle.lists.specs.Counted.{firstFrom, greatestFrom, stepsFrom, eachFrom}
 use Rattle.lists.specs.Bytes.{overlaid}
 use Rattle.rules.specs.declared.Tag.{Tag}
 use Rattle.rules.specs.declared.StoreEntry.{StoreEntry}
+use Rattle.rules.specs.declared.Request.{Request}
+use Rattle.rules.specs.declared.Lookup.{Lookup}
+use Rattle.rules.specs.declared.Lookup.the-variants.{Hit, Pending, Miss}
 use Rattle.rules.specs.declared.WritePolicy.{WritePolicy}
 use Rattle.rules.specs.declared.WritePolicy.the-variants.{WriteBack, WriteThrough}
-use Rattle.rules.specs.Shape.{Hierarchy, holding, lineBytes, wordBytes, lineOf, setOf, setStart, slots, firstSlot, tagAt, withAge, withDirty, writesThrough}
+use Rattle.rules.specs.Shape.{Hierarchy, holding, names, lineBytes, wordBytes, lineOf, setOf, setStart, slots, firstSlot, tagAt, withAge, withDirty, writesThrough}
 
 -- ---- where a line stands
 
@@ -41,6 +44,17 @@ placeOf b a = slotPlace (slotOf b (lineOf a))
 -- the byte at address a of the cached line, if the line is present
 unfoldable pub cachedByte : Hierarchy → ℕ → Option ℕ
 cachedByte b a = cond (present b (lineOf a)) (some (getD (b .cache) (placeOf b a + a % lineBytes) 0)) none
+
+-- ---- the tag lookup (02, card 4)
+
+-- the way of its set that has the line, from 0 (slot s × ways + w is way w of set s); where none has it, the number of ways
+unfoldable pub wayOf : Hierarchy → ℕ → ℕ
+wayOf b l = slotOf b l - firstSlot b l
+
+-- "The tag lookup shall answer present with its way, requested, or absent.": requested is a line that is absent, and that the miss
+-- register r names. (A rule that asks nothing of the register goes by `present` and `slotOf`, of which the lookup is made.)
+unfoldable pub lookup : Request → Hierarchy → ℕ → Lookup
+lookup r b l = cond (present b l) (Hit (wayOf b l)) (cond (names r l) Pending Miss)
 
 -- ---- use
 

@@ -157,6 +157,11 @@ abbrev pub isFree : Request → Bool
 isFree Free = true
 isFree (Line l) = false
 
+-- it names line l
+abbrev pub names : Request → ℕ → Bool
+names Free l = false
+names (Line k) l = eqb k l
+
 -- the line that the register names
 abbrev pub requestedLine : Request → ℕ
 requestedLine Free = 0

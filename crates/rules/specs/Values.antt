@@ -4,6 +4,7 @@ use Prim.Native.Nat.{ℕ, _*_, _/_, _%_}
 use mathlib.Core.Path.{_≡_}
 use mathlib.Core.Bool.{Bool, true, false}
 use mathlib.Core.List.{List, [], _∷_, _++_}
+use mathlib.Core.Logic.{_⊎_}
 use Rattle.lists.specs.Padded.{first, filter, increasing}
 use Rattle.lists.specs.Counted.{someFrom, countFrom}
 use Rattle.lists.specs.Bytes.{valueAt}
@@ -13,7 +14,7 @@ use Rattle.rules.specs.Shape.{Hierarchy, World, lineWords, noLoad, slots
 use Rattle.rules.specs.Lines.{dirtyWord, dirtyWords}
 use Rattle.rules.specs.Forward.{lacking}
 use Rattle.rules.specs.Checkpoints.{numberOf}
-use Rattle.rules.specs.Calls.{Call, Answer, load, store, retry, commit, abort, idle, reply, flush, show, checkpoint, restore, value, waits, flushed, isAccepted, waitingAt, nextNumber}
+use Rattle.rules.specs.Calls.{Call, Answer, load, store, retry, commit, abort, idle, reply, flush, show, checkpoint, restore, value, waits, waitsRequested, flushed, isAccepted, waitingAt, nextNumber}
 use Rattle.rules.specs.Runs.{answer, next, after, startWorld, startAnswer, ready}
 use Rattle.rules.specs.Kept.{Formed, EachCall}
 use Rattle.rules.specs.Flat.{History, noHistory, historyOf, loadOf, below, flatOf, applied, appliedAll, heldStores, flatWithHeld, flatBefore, flatCommitted}
@@ -74,13 +75,17 @@ ValuesRight found h w run =
 abbrev pub lacksByte : ℕ → World → ℕ → ℕ → Bool
 lacksByte i w a n = someFrom (lacking i (w .queues .stores) (w .hierarchy)) a n
 
+-- 02, card 4: "Demand 2's 'waits' now means either word."
+abbrev pub isWait : ℕ → Answer → Type 0
+isWait i r = (r ≡ waits i) ⊎ (r ≡ waitsRequested i)
+
 abbrev pub isValue : ℕ → Answer → Type 0
 isValue i r = (v : ℕ) × (r ≡ value i v)
 
 -- the answer r of operation i, a load of the n bytes from a on that finds w
 pub record WaitsExactly (i a n : ℕ) (w : World) (r : Answer) : Type 0 where
-  pub only : (j : ℕ) → r ≡ waits j → lacksByte i w a n ≡ true
-  pub whenever : lacksByte i w a n ≡ true → r ≡ waits i
+  pub only : (j : ℕ) → isWait j r → lacksByte i w a n ≡ true
+  pub whenever : lacksByte i w a n ≡ true → isWait i r
   -- else it is a value
   pub otherwise : lacksByte i w a n ≡ false → isValue i r
 

@@ -1,7 +1,7 @@
-// The declared types of the load/store model: figures, a tag record, an entry of each queue, a checkpoint, and the miss register; and
-// the numbers that every crate names. The rules over them stand in specs/, and what is claimed of the rules is promised here by
-// functions that do nothing.
-ghost use Rattle.rules.specs.Claims.{RefusedCallsKeep, RefusalsExact, RefusalTableHolds, NumbersGiven, DroppedStretches, RestoredStretches, CheckpointsAreExact, KeptWellFormed, ValuesAreRight, WaitsAreExact, FlushesAreExact, FlatMemoryIsKept, WordsAreExact};
+// The declared types of the load/store model: figures, a tag record, an entry of each queue, a checkpoint, the miss register, and what
+// the tag lookup answers; and the numbers that every crate names. The rules over them stand in specs/, and what is claimed of the rules
+// is promised here by functions that do nothing.
+ghost use Rattle.rules.specs.Claims.{RefusedCallsKeep, RefusalsExact, RefusalTableHolds, NumbersGiven, DroppedStretches, RestoredStretches, CheckpointsAreExact, KeptWellFormed, ValuesAreRight, WaitsAreExact, WaitStatusIsExact, LookupIsExact, FlushesAreExact, FlatMemoryIsKept, WordsAreExact};
 
 // The figures of a store that a start chooses. (02, card 1: "A start may choose this profile.")
 pub struct Figures {
@@ -54,6 +54,16 @@ pub struct Checkpoint {
 pub enum Request {
     Free,
     Line(u32),
+}
+
+// What the tag lookup answers of a line (02, card 4: "present with its way, requested, or absent").
+pub enum Lookup {
+    // present: the way of its set that has it, from 0
+    Hit(usize),
+    // requested: it is absent, and the miss register names it
+    Pending,
+    // absent, and the register does not name it
+    Miss,
 }
 
 // ---- numbers (specs/Shape.antt has the same for the rules)
@@ -227,9 +237,22 @@ pub fn values_right()
     ensures { λ r. ⌜ ValuesAreRight ⌝ }
 {}
 
-// Demand 2: an accepted load or inquiry answers "waits" exactly if some byte of it is in no older held store and its line is absent.
+// Demand 2: an accepted load or inquiry answers "waits" or "waits-requested" exactly if some byte of it is in no older held store and
+// its line is absent.
 pub fn waits_exact()
     ensures { λ r. ⌜ WaitsAreExact ⌝ }
+{}
+
+// 02, card 4: of the two words it is "waits-requested" exactly if the miss register names the load's line; whichever it says, the load
+// waits and nothing else moves; no other call says either.
+pub fn wait_status_exact()
+    ensures { λ r. ⌜ WaitStatusIsExact ⌝ }
+{}
+
+// 02, card 4: the tag lookup answers present with the way that has the line; where none has it, requested if the miss register names the
+// line, else absent.
+pub fn lookup_exact()
+    ensures { λ r. ⌜ LookupIsExact ⌝ }
 {}
 
 // Demand 2: after an accepted flush memory holds exactly the committed stores, and its count is the number of dirty words before it.

@@ -16,7 +16,7 @@ use Rattle.model.specs.State.{bytesFrom, outcomeOf, answerOf, callOf}
 use Rattle.model.specs.Starts.{startAnswerOf}
 use Rattle.model.specs.declared.Call as code
 use Rattle.model.specs.declared.Answer as codes
-use Rattle.model.specs.declared.Answer.the-variants.{Refused, Stored, Value, Waits, Committed, Kept, Drained, Requested, Idled, Filled, Flushed, Shown, Checkpointed}
+use Rattle.model.specs.declared.Answer.the-variants.{Refused, Stored, Value, Waits, WaitsRequested, Committed, Kept, Drained, Requested, Idled, Filled, Flushed, Shown, Checkpointed}
 use Rattle.runs.specs.Machines.{Machine, Made, StartMade, AcceptedStart, worldAt, left, AsPromised, callMade, answerGiven, RunFrom, end, callsOf, answersOf, historyBy, EachMade, EveryCall, startLeft, RunClaim, RunsAfterStart, RunsFromState}
 
 -- ---- a machine and its world
@@ -51,6 +51,7 @@ answerAs (rules.refused k) = Refused k
 answerAs (rules.stored i) = Stored i
 answerAs (rules.value i v) = Value i v
 answerAs (rules.waits i) = Waits i
+answerAs (rules.waitsRequested i) = WaitsRequested i
 answerAs (rules.committed k) = Committed k
 answerAs (rules.kept k) = Kept k
 answerAs (rules.drained i) = Drained i
@@ -71,6 +72,7 @@ answer-back (Refused k) cache = refl
 answer-back (Stored i) cache = refl
 answer-back (Value i v) cache = refl
 answer-back (Waits i) cache = refl
+answer-back (WaitsRequested i) cache = refl
 answer-back (Committed k) cache = refl
 answer-back (Kept k) cache = refl
 answer-back (Drained i) cache = refl

@@ -3,25 +3,28 @@ use Prim.Native.Nat.{ℕ}
 use mathlib.Core.Path.{_≡_, refl, sym, _∙_, ap, subst}
 use mathlib.Core.Bool.{true, false≢true}
 use mathlib.Core.List.{[], _∷_, _++_}
+use mathlib.Core.Logic.{inl, inr, ⊎-elim}
 use Rattle.rules.specs.Shape.{World, tagAt}
 use Rattle.rules.specs.Calls as rules
 use Rattle.rules.specs.Calls.{Outcome, isAccepted, flushRule}
 use Rattle.rules.specs.Lines.{dirtyWords}
 use Rattle.rules.specs.Runs.{answer, next}
 use Rattle.rules.specs.Flat.{History, flatOf, appliedAll, heldStores, flatWithHeld, flatCommitted}
-use Rattle.rules.specs.Values.{ValuesRight, RightValue, InquiriesRight, InquiryAbout, FlushesRight, FlatAfter, FlatNext}
+use Rattle.rules.specs.Values.{ValuesRight, RightValue, isWait, InquiriesRight, InquiryAbout, FlushesRight, FlatAfter, FlatNext}
 use Rattle.rules.specs.Values as of-rules
+use Rattle.rules.specs.TagLookup.{StatusExactly}
 use Rattle.rules.proofs.Checks.{outcome-by}
 use Rattle.rules.proofs.Values.{values-after-start, values-from-state, inquiries-after-start, inquiries-from-state, flat-after-start, flat-from-state}
-use Rattle.rules.proofs.Waits.{load-waits, retry-waits}
+use Rattle.rules.proofs.Waits.{load-waits, load-status, retry-waits, retry-status, no-other-waits}
 use Rattle.rules.proofs.Flush.{flush-counts, flushes-after-start, flushes-from-state}
 use Rattle.rules.proofs.FlatCalls.{flat-call}
 use Rattle.model.specs.State.{answerOf, callOf}
 use Rattle.model.specs.declared.Call.{Call}
 use Rattle.model.specs.declared.Call.the-variants.{Load, Store, Retry, Commit, Abort, Idle, Reply, Flush, Show, Checkpoint, Restore}
 use Rattle.model.specs.declared.Answer as code
+use Rattle.model.specs.declared.Answer.the-variants.{Waits, WaitsRequested}
 use Rattle.runs.specs.Machines.{Machine, Made, worldAt, left, callMade, callsOf}
-use Rattle.runs.specs.Values.{EachValueRight, GivesWaits, LoadGivesWaits, RetryGivesWaits, EachInquiryRight, FlushMade, EachFlushRight, FlatMoves, FlatMoved, FlatAtEnd, ValuesOfCode, WaitsOfCode, FlushesOfCode, FlatMemoryOfCode}
+use Rattle.runs.specs.Values.{EachValueRight, WaitsGiven, GivesWaits, LoadGivesWaits, RetryGivesWaits, GivesStatus, LoadGivesStatus, RetryGivesStatus, OtherNeverWaits, EachInquiryRight, FlushMade, EachFlushRight, FlatMoves, FlatMoved, FlatAtEnd, ValuesOfCode, WaitsOfCode, WaitStatusOfCode, FlushesOfCode, FlatMemoryOfCode}
 use Rattle.runs.proofs.Machines.{answerAs, Follows, follows-as, ends, history-is, Reached, reached, each-call, Carried, carried-start, carried-state}
 
 -- ---- values
@@ -43,13 +46,21 @@ values-of-code = record {
 
 -- ---- waits
 
+-- what the code answers, the rules answer
+answer-there :
+    (k : rules.Call) (m : Machine) (c : Made) → Follows k m c → (a : code.Answer) → c .gave .answer ≡ a → answer k (worldAt m) ≡ answerOf a (c .cache)
+answer-there k m c f a g = sym (f .answers) ∙ ap (λ (a : code.Answer). answerOf a (c .cache)) g
+
+wait-there : (k : rules.Call) (m : Machine) (c : Made) → Follows k m c → (j : ℕ) → WaitsGiven j c → isWait j (answer k (worldAt m))
+wait-there k m c f j = ⊎-elim (λ g. inl (answer-there k m c f (Waits j) g)) (λ g. inr (answer-there k m c f (WaitsRequested j) g))
+
 -- where the rules' answer waits exactly, so does the code's
 waits-given :
     (k : rules.Call) (i a n : ℕ) (m : Machine) (c : Made) → Follows k m c
     → of-rules.WaitsExactly i a n (worldAt m) (answer k (worldAt m)) → GivesWaits i a n m c
 waits-given k i a n m c f w = record {
-  only = λ j g. w .only j (sym (f .answers) ∙ ap (λ (a : code.Answer). answerOf a (c .cache)) g);
-  whenever = λ l. f .gives ∙ ap answerAs (w .whenever l);
+  only = λ j g. w .only j (wait-there k m c f j g);
+  whenever = λ l. ⊎-elim (λ e. inl (f .gives ∙ ap answerAs e)) (λ e. inr (f .gives ∙ ap answerAs e)) (w .whenever l);
   otherwise = λ l. (w .otherwise l .0, f .gives ∙ ap answerAs (w .otherwise l .1));
 }
 
@@ -82,6 +93,38 @@ waits-of-code = record {
   by-inquiry = each-call RetryGivesWaits retry-given;
   after-start = carried-start InquiriesRight EachInquiryRight inquiries-carried inquiries-after-start;
   from-state = carried-state InquiriesRight EachInquiryRight inquiries-carried inquiries-from-state;
+}
+
+-- ---- which of the two words
+
+status-given :
+    (k : rules.Call) (i a n : ℕ) (m : Machine) (c : Made) → Follows k m c
+    → StatusExactly i a n (worldAt m) (answer k (worldAt m)) → GivesStatus i a n m c
+status-given k i a n m c f s = record {
+  requested-only = λ j g. s .requested-only j (answer-there k m c f (WaitsRequested j) g);
+  requested-whenever = λ l r. f .gives ∙ ap answerAs (s .requested-whenever l r);
+  waits-only = λ j g. s .waits-only j (answer-there k m c f (Waits j) g);
+  waits-whenever = λ l r. f .gives ∙ ap answerAs (s .waits-whenever l r);
+}
+
+load-gives-status : (m : Machine) (c : Made) → Follows (callMade c) m c → LoadGivesStatus m c
+load-gives-status m c f a n g t =
+    let there = follows-as m c f (Load a n) g in
+    status-given (rules.load a n) _ a n m c there (load-status a n (worldAt m) (ap isAccepted (sym (there .answers)) ∙ t))
+
+retry-gives-status : (m : Machine) (c : Made) → Follows (callMade c) m c → RetryGivesStatus m c
+retry-gives-status m c f i g t =
+    let there = follows-as m c f (Retry i) g in
+    status-given (rules.retry i) i _ _ m c there (retry-status i (worldAt m) (ap isAccepted (sym (there .answers)) ∙ t))
+
+other-never-waits : (m : Machine) (c : Made) → Follows (callMade c) m c → OtherNeverWaits m c
+other-never-waits m c f other j g = no-other-waits (callMade c) (worldAt m) other j (wait-there (callMade c) m c f j g)
+
+pub wait-status-of-code : WaitStatusOfCode
+wait-status-of-code = record {
+  by-load = each-call LoadGivesStatus load-gives-status;
+  by-inquiry = each-call RetryGivesStatus retry-gives-status;
+  by-others = each-call OtherNeverWaits other-never-waits;
 }
 
 -- ---- flush

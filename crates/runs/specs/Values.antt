@@ -1,17 +1,20 @@
--- Demand 2, said of runs of the code: each value right at its time, when a load waits, what a flush counts and leaves, and flat memory.
+-- Demand 2, said of runs of the code: each value right at its time, when a load waits and in which word, what a flush counts and leaves,
+-- and flat memory.
 use Prim.Native.Nat.{ℕ}
 use mathlib.Core.Path.{_≡_}
 use mathlib.Core.Bool.{true, false}
 use mathlib.Core.List.{List, [], _∷_, _++_}
+use mathlib.Core.Logic.{_⊎_}
 use Rattle.lists.specs.Padded.{filter}
 use Rattle.rules.specs.Shape.{tagAt}
 use Rattle.rules.specs.Lines.{dirtyWords}
 use Rattle.rules.specs.Checkpoints.{numberOf}
 use Rattle.rules.specs.Flat.{below, flatOf, applied, appliedAll, heldStores, flatWithHeld, flatCommitted}
 use Rattle.rules.specs.Values.{RightValue, lacksByte, waitingLoad, InquiryAbout, dirtyInUse}
+use Rattle.rules.specs.TagLookup.{LineRequested, mayWait}
 use Rattle.model.specs.declared.Call.{Call}
 use Rattle.model.specs.declared.Call.the-variants.{Load, Store, Retry, Commit, Abort, Idle, Reply, Flush, Show, Checkpoint, Restore}
-use Rattle.model.specs.declared.Answer.the-variants.{Value, Waits, Flushed}
+use Rattle.model.specs.declared.Answer.the-variants.{Value, Waits, WaitsRequested, Flushed}
 use Rattle.runs.specs.Machines.{Machine, Made, worldAt, numberAt, left, end, callMade, acceptedCall, historyBy, EachMade, EveryCall, RunClaim, RunsAfterStart, RunsFromState}
 
 -- ---- every value is right, at its time
@@ -29,11 +32,15 @@ pub record ValuesOfCode : Type 0 where
 
 -- ---- a load waits exactly if a byte is lacking, at its time
 
+-- the call answers that operation i waits, in either word
+abbrev pub WaitsGiven : ℕ → Made → Type 0
+WaitsGiven i c = (c .gave .answer ≡ Waits i) ⊎ (c .gave .answer ≡ WaitsRequested i)
+
 -- what the call c on m answers as operation i, for the n bytes from a on
 pub record GivesWaits (i a n : ℕ) (m : Machine) (c : Made) : Type 0 where
-  -- "waits" only if some byte is in no older held store and its line is absent, and whenever it is so
-  pub only : (j : ℕ) → c .gave .answer ≡ Waits j → lacksByte i (worldAt m) a n ≡ true
-  pub whenever : lacksByte i (worldAt m) a n ≡ true → c .gave .answer ≡ Waits i
+  -- either word only if some byte is in no older held store and its line is absent, and whenever it is so
+  pub only : (j : ℕ) → WaitsGiven j c → lacksByte i (worldAt m) a n ≡ true
+  pub whenever : lacksByte i (worldAt m) a n ≡ true → WaitsGiven i c
   -- else a value
   pub otherwise : lacksByte i (worldAt m) a n ≡ false → (v : ℕ) × (c .gave .answer ≡ Value i v)
 
@@ -53,12 +60,42 @@ abbrev pub EachInquiryRight : RunClaim
 EachInquiryRight found h m run =
     EachMade run (λ before c. (i : ℕ) → c .call ≡ Retry i → acceptedCall c ≡ true → InquiryAbout (historyBy h before) i (worldAt (end m before)))
 
--- demand 2: an accepted load or inquiry waits exactly if a byte of it is lacking
+-- demand 2: an accepted load or inquiry waits, in either word, exactly if a byte of it is lacking
 pub record WaitsOfCode : Type 0 where
   pub by-load : EveryCall LoadGivesWaits
   pub by-inquiry : EveryCall RetryGivesWaits
   pub after-start : RunsAfterStart EachInquiryRight
   pub from-state : RunsFromState EachInquiryRight
+
+-- ---- which of the two words (02, card 4)
+
+-- what the call c on m answers as operation i, for the n bytes from a on
+pub record GivesStatus (i a n : ℕ) (m : Machine) (c : Made) : Type 0 where
+  -- "waits-requested" only if some byte is lacking and the register names the load's line, and whenever it is so
+  pub requested-only : (j : ℕ) → c .gave .answer ≡ WaitsRequested j → (lacksByte i (worldAt m) a n ≡ true) × LineRequested (worldAt m) a
+  pub requested-whenever : lacksByte i (worldAt m) a n ≡ true → LineRequested (worldAt m) a → c .gave .answer ≡ WaitsRequested i
+  -- "waits" only if some byte is lacking and the register does not name it, and whenever it is so
+  pub waits-only : (j : ℕ) → c .gave .answer ≡ Waits j → (lacksByte i (worldAt m) a n ≡ true) × (LineRequested (worldAt m) a → ⊥)
+  pub waits-whenever : lacksByte i (worldAt m) a n ≡ true → (LineRequested (worldAt m) a → ⊥) → c .gave .answer ≡ Waits i
+
+abbrev pub LoadGivesStatus : Machine → Made → Type 0
+LoadGivesStatus m c =
+    (a n : ℕ) → c .call ≡ Load a n → acceptedCall c ≡ true → GivesStatus (numberAt m) a n m c
+
+abbrev pub RetryGivesStatus : Machine → Made → Type 0
+RetryGivesStatus m c =
+    (i : ℕ) → c .call ≡ Retry i → acceptedCall c ≡ true
+    → GivesStatus i (waitingLoad i (worldAt m) .address) (waitingLoad i (worldAt m) .width) m c
+
+-- no other call says either word
+abbrev pub OtherNeverWaits : Machine → Made → Type 0
+OtherNeverWaits m c = mayWait (callMade c) ≡ false → (j : ℕ) → WaitsGiven j c → ⊥
+
+-- an accepted load or inquiry that waits says "waits-requested" exactly if the register names its line; no other call says either word
+pub record WaitStatusOfCode : Type 0 where
+  pub by-load : EveryCall LoadGivesStatus
+  pub by-inquiry : EveryCall RetryGivesStatus
+  pub by-others : EveryCall OtherNeverWaits
 
 -- ---- flush
 

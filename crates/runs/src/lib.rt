@@ -2,7 +2,7 @@
 // lent bytes. Each claim is the contract of a function that does nothing; the first two functions make the calls, and promise of them what
 // the claims take them to promise.
 ghost use Rattle.runs.specs.Machines.{AsPromised, StartPromised};
-ghost use Rattle.runs.specs.Values.{ValuesOfCode, WaitsOfCode, FlushesOfCode, FlatMemoryOfCode};
+ghost use Rattle.runs.specs.Values.{ValuesOfCode, WaitsOfCode, WaitStatusOfCode, FlushesOfCode, FlatMemoryOfCode};
 ghost use Rattle.runs.specs.Kept.{KeptOfCode, AdmittedOfCode};
 ghost use Rattle.runs.specs.Refusals.{RefusalsOfCode, RefusedOfCode};
 ghost use Rattle.runs.specs.Numbers.{NumbersOfCode};
@@ -36,9 +36,15 @@ pub fn values_of_code()
     ensures { λ r. ⌜ ValuesOfCode ⌝ }
 {}
 
-// An accepted load or inquiry answers "waits" exactly if some byte of it is in no older held store and its line is absent.
+// An accepted load or inquiry answers "waits" or "waits-requested" exactly if some byte of it is in no older held store and its line is
+// absent.
 pub fn waits_of_code()
     ensures { λ r. ⌜ WaitsOfCode ⌝ }
+{}
+
+// 02, card 4: of the two words it is "waits-requested" exactly if the miss register names the load's line; no other call says either.
+pub fn wait_status_of_code()
+    ensures { λ r. ⌜ WaitStatusOfCode ⌝ }
 {}
 
 // An accepted flush answers the number of dirty words before it and leaves in memory exactly the committed stores.

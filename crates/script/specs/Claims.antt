@@ -9,7 +9,7 @@ use Rattle.lists.specs.Padded.{every}
 use Rattle.rules.specs.Calls.{retry}
 use Rattle.script.specs.Commands.{Command, make, heldBytes, commandOf}
 use Rattle.script.specs.Play.{Player, output, afterBytes, played}
-use Rattle.script.specs.Example.{exampleInput, exampleOutput, edgeInput, edgeOutput, badLines, longLine, largestLine}
+use Rattle.script.specs.Example.{exampleInput, exampleOutput, waitsInput, waitsOutput, edgeInput, edgeOutput, badLines, longLine, largestLine}
 
 -- where an input is cut into chunks does not matter
 abbrev pub CutsDoNotMatter : Type 0
@@ -26,9 +26,10 @@ abbrev pub isBad : Option Command → Bool
 isBad none = true
 isBad (some c) = false
 
--- 01's example, and lines at the limits
+-- 01's example, the two words of a load that waits, and lines at the limits
 pub record ExamplesPlayed : Type 0 where
   pub example : played exampleInput ≡ exampleOutput
+  pub waits : played waitsInput ≡ waitsOutput
   pub edge : played edgeInput ≡ edgeOutput
   pub bad : every (λ l. isBad (commandOf l)) badLines ≡ true
   pub long : commandOf longLine ≡ some (make (retry 1))

@@ -1,4 +1,4 @@
--- 01's example, an input at the edges, lines that are no command, and lines that just are one.
+-- 01's example, the two words of a load that waits, an input at the edges, lines that are no command, and lines that just are one.
 use Prim.Native.Nat.{ℕ}
 use Prim.Native.Char.{code}
 use mathlib.Core.List.{List, [], _∷_, _++_}
@@ -13,6 +13,15 @@ exampleInput = bytesOf "G 1 1 32\nS 4 1 7\nL 4 1\nL 5 1\nX 3\nC 2\nI\nR\nI\nF\nL
 abbrev pub exampleOutput : List ℕ
 exampleOutput =
     bytesOf "ready\nstored 1\nvalue 2 7\nwaits 3\nkept 2\ncommitted 2\nrequest 0\nfilled 0\ndrained 1\nflushed 1\nvalue 3 0\n"
+
+-- ---- 02, card 4: load 2 waits, another load's miss requests its line, and it says so; load 3, of another line, waits, and load 4, of
+-- the requested one, says so at once
+
+abbrev pub waitsInput : List ℕ
+waitsInput = bytesOf "G 1 1 32\nL 0 1\nL 4 1\nC 1\nI\nA 2\nL 16 1\nL 8 1\nR\nA 2\n"
+
+abbrev pub waitsOutput : List ℕ
+waitsOutput = bytesOf "ready\nwaits 1\nwaits 2\ncommitted 1\nrequest 0\nwaits-requested 2\nwaits 3\nwaits-requested 4\nfilled 0\nvalue 2 0\n"
 
 -- ---- a call before an accepted G, a refused G in a run, a last line without LF
 

@@ -3,7 +3,7 @@ use Prim.Native.Nat.{ℕ, zero, suc, _+_, _/_, _%_}
 use mathlib.Core.Bool.{cond}
 use mathlib.Core.List.{List, [], _∷_, _++_}
 use lib.Dec.{ltb}
-use Rattle.rules.specs.Calls.{Answer, stored, value, waits, committed, kept, drained, requested, idled, filled, flushed, shown, checkpointed, refused}
+use Rattle.rules.specs.Calls.{Answer, stored, value, waits, waitsRequested, committed, kept, drained, requested, idled, filled, flushed, shown, checkpointed, refused}
 use Rattle.script.specs.Text.{bytesOf}
 use Rattle.script.specs.Commands.{lineFeed, space, firstDigit}
 
@@ -31,6 +31,10 @@ valueWord = bytesOf "value"
 
 abbrev pub waitsWord : List ℕ
 waitsWord = bytesOf "waits"
+
+-- 02, card 4
+abbrev pub waitsRequestedWord : List ℕ
+waitsRequestedWord = bytesOf "waits-requested"
 
 abbrev pub keptWord : List ℕ
 keptWord = bytesOf "kept"
@@ -70,6 +74,7 @@ unfoldable pub answerLine : Answer → List ℕ
 answerLine (stored i) = said storedWord (i ∷ [])
 answerLine (value i v) = said valueWord (i ∷ v ∷ [])
 answerLine (waits i) = said waitsWord (i ∷ [])
+answerLine (waitsRequested i) = said waitsRequestedWord (i ∷ [])
 answerLine (committed k) = said committedWord (k ∷ [])
 answerLine (kept k) = said keptWord (k ∷ [])
 answerLine (drained i) = said drainedWord (i ∷ [])

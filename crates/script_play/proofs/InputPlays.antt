@@ -14,7 +14,7 @@ use Rattle.lists.specs.Padded.{position}
 use Rattle.lists.proofs.Cond.{cases, either, and-left, and-right}
 use Rattle.lists.proofs.Loops.{position-high}
 use Rattle.rules.specs.Shape.{World}
-use Rattle.rules.specs.Calls.{Answer, stored, value, waits, committed, kept, drained, requested, idled, filled, flushed, shown, checkpointed, refused}
+use Rattle.rules.specs.Calls.{Answer, stored, value, waits, waitsRequested, committed, kept, drained, requested, idled, filled, flushed, shown, checkpointed, refused}
 use Rattle.rules.specs.Runs.{StartAnswer, ready, startRefused, startAnswer, startWorld, answer}
 use Rattle.model.specs.declared.State.{State}
 use Rattle.script.specs.Commands.{Command, start, make, lineFeed, space, heldBytes, commandOf}
@@ -232,6 +232,7 @@ unfolding answerLine
 answer-short (stored i) = said-one _ i (omega arith)
 answer-short (value i v) = said-value i v
 answer-short (waits i) = said-one _ i (omega arith)
+answer-short (waitsRequested i) = said-one _ i (omega arith)
 answer-short (committed k) = said-one _ k (omega arith)
 answer-short (kept k) = said-one _ k (omega arith)
 answer-short (drained i) = said-one _ i (omega arith)

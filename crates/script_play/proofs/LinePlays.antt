@@ -22,7 +22,7 @@ use Rattle.model.specs.declared.State.{State}
 use Rattle.model.specs.declared.Step.{Step}
 use Rattle.model.specs.declared.Call.{Call}
 use Rattle.model.specs.declared.Answer.{Answer}
-use Rattle.model.specs.declared.Answer.the-variants.{Refused, Stored, Value, Waits, Committed, Kept, Drained, Requested, Idled, Filled, Flushed, Shown, Checkpointed}
+use Rattle.model.specs.declared.Answer.the-variants.{Refused, Stored, Value, Waits, WaitsRequested, Committed, Kept, Drained, Requested, Idled, Filled, Flushed, Shown, Checkpointed}
 use Rattle.script.specs.Words.{answerLine, readyLine, refusedLine}
 use Rattle.script.specs.Commands.{Command, start, make}
 use Rattle.script.specs.Play.{effect, refusedEffect, malformedLine, zeros, zeroCache}
@@ -139,6 +139,7 @@ line-same (Refused k) c d = refl
 line-same (Stored i) c d = refl
 line-same (Value i v) c d = refl
 line-same (Waits i) c d = refl
+line-same (WaitsRequested i) c d = refl
 line-same (Committed k) c d = refl
 line-same (Kept k) c d = refl
 line-same (Drained i) c d = refl

@@ -12,9 +12,9 @@ pub record Wrote (at : ℕ) (xs before after : List ℕ) (end : ℕ) : Type 0 wh
   pub bytes : after ≡ sets before at xs
   pub next : end ≡ at + length xs
 
--- the longest word, "committed"
+-- the longest word, "waits-requested"
 abbrev pub longestWord : ℕ
-longestWord = 9
+longestWord = 15
 
 -- a space and a number of 32 bits
 abbrev pub spacedRoom : ℕ

@@ -93,6 +93,7 @@ fn say(out: &mut [u8], at: usize, a: Answer) -> usize
         Answer::Stored(i) => say_one(out, at, b"stored", i),
         Answer::Value(i, v) => say_value(out, at, i, v),
         Answer::Waits(i) => say_one(out, at, b"waits", i),
+        Answer::WaitsRequested(i) => say_one(out, at, b"waits-requested", i),
         Answer::Committed(k) => say_one(out, at, b"committed", k),
         Answer::Kept(k) => say_one(out, at, b"kept", k),
         Answer::Drained(i) => say_one(out, at, b"drained", i),

@@ -210,6 +210,7 @@ pub fn answer_of(told: Result<nicoisetarn::Answer, Refusal>) -> Answer {
         Ours::Stored(number) => Answer::Stored(number),
         Ours::Value { number, value } => Answer::Value { number, value },
         Ours::Waits(number) => Answer::Waits(number),
+        Ours::WaitsRequested(number) => Answer::WaitsRequested(number),
         Ours::Committed(number) => Answer::Committed(number),
         Ours::Kept(number) => Answer::Kept(number),
         Ours::Drained(number) => Answer::Drained(number),
@@ -253,6 +254,15 @@ impl Bench {
         let Bench { image, cache, memory } = self;
         let calls: Vec<nicoisetarn::Call> = calls.iter().copied().filter_map(call_of).collect();
         image.run(cache, memory, &calls).into_iter().map(answer_of).collect()
+    }
+
+    /// A start over a memory that is found with byte a + 1 at a.
+    pub fn start(setup: Setup) -> Bench {
+        let figures = library_figures(setup.figures);
+        let memory: Vec<u8> = (1..=setup.memory).map(|byte| byte as u8).collect();
+        let mut cache = vec![0; figures.cache_length()];
+        let image = Image::start(figures, &mut cache, &memory).unwrap();
+        Bench { image, cache, memory }
     }
 
     /// What a run begins with: a start on the library, which is the model's.
@@ -376,6 +386,16 @@ impl Beside {
         }
         Ok(())
     }
+}
+
+/// Plays calls on both, one by one, and then in one list, which leaves the same.
+pub fn played(bench: &Bench, calls: &[Call]) -> (Vec<Answer>, Bench) {
+    let mut beside = Beside::new(bench);
+    let answers: Vec<Answer> = calls.iter().map(|call| beside.play(*call).unwrap()).collect();
+    let mut listed = bench.clone();
+    assert_eq!(listed.run(calls), answers);
+    assert!(listed == beside.library, "one list: not as one by one");
+    (answers, listed)
 }
 
 /// The figures of an image are allowed and the lent lengths agree with them.

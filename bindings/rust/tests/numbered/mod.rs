@@ -170,6 +170,7 @@ pub fn answer_of(answer: Answer) -> Listed {
         Answer::Shown(part) => (11, part.place as u32, part.length as u32),
         Answer::Ready => (12, 0, 0),
         Answer::Checkpointed(number) => (13, number, 0),
+        Answer::WaitsRequested(number) => (14, number, 0),
     };
     [kind, first, second, 0, 0, 0]
 }

@@ -4,11 +4,9 @@ use Prim.Native.Nat.{_≤_, _-_, _+_}
 use native.Mathlib.Omega.{arith}
 use borrow.Author.Needs.{needs}
 use Rattle.lists.specs.Counted.{firstFrom}
-use Rattle.lists.proofs.Cond.{cond-then, cond-else}
 use Rattle.lists.proofs.CountedLoops.{first-hit, first-miss, first-end}
 use Rattle.rules.specs.Shape.{tagAt}
 use Rattle.rules.specs.Lines.{holdsLine}
-use Rattle.records.proofs.Places.{test-failed, test-passed, table-bound}
 use Rattle.records.proofs.find.Statement.{statement}
 use Rattle.records.proofs.find.Tie as tie
 
@@ -20,27 +18,15 @@ abbrev μ-loop : tie.MeasureT-loop
 μ-loop first ways line tags end k₀ k =
     end - k
 
-in-table-requires : tie.Need-in-table-requires Inv-loop μ-loop
-in-table-requires c κs = search needs
-
-returns : tie.Need-returns Inv-loop μ-loop
-returns c =
-    let in-table = c .before .in-table in
-    cond-else _ _ (test-failed (in-table .ensures) (c .if1 .taken))
-
 add-end : tie.Need-add-end Inv-loop μ-loop
-add-end c =
-    let in-table = c .before .in-table in
-    omega (arith, table-bound _ _ (test-passed (in-table .ensures) (c .if1 .left)))
+add-end c = search needs
 
 loop-holds : tie.Need-loop-holds Inv-loop μ-loop
 loop-holds c =
-    let args = c .before .before .args in
-    let in-table = c .before .in-table in
-    let f = args .first in
-    let w = args .ways in
+    let f = c .args .first in
+    let w = c .args .ways in
     let e : f + w - f ≡ w = omega arith in
-    (omega arith, omega arith, table-bound _ _ (test-passed (in-table .ensures) (c .if1 .left)), rw e)
+    (omega arith, omega arith, search needs, rw e)
 
 mul-t : tie.Need-mul-t Inv-loop μ-loop
 mul-t c = search needs
@@ -51,15 +37,12 @@ array-copy-out-t c = search needs
 holds-line-requires : tie.Need-holds-line-requires Inv-loop μ-loop
 holds-line-requires c κs = search needs
 
-returns-2 : tie.Need-returns-2 Inv-loop μ-loop
-returns-2 c =
-    let in-table = c .before .before .before .before .before .before .in-table in
-    let if1 = c .before .before .before .before .before .if1 in
+returns : tie.Need-returns Inv-loop μ-loop
+returns c =
     let loop = c .before .before .before .before .loop in
     let loop-test = c .before .before .before .loop-test in
     let holds-line = c .before .holds-line in
-    sym (loop .inv .3 ∙ first-hit _ _ _ (loop-test .taken) (sym (holds-line .ensures) ∙ c .if2 .taken))
-    ∙ cond-then _ _ (test-passed (in-table .ensures) (if1 .left))
+    sym (loop .inv .3 ∙ first-hit _ _ _ (loop-test .taken) (sym (holds-line .ensures) ∙ c .if1 .taken))
 
 add-k : tie.Need-add-k Inv-loop μ-loop
 add-k c = search needs
@@ -72,14 +55,12 @@ loop-again c =
     let loop = c .before .before .before .before .loop in
     let loop-test = c .before .before .before .loop-test in
     let holds-line = c .before .holds-line in
-    (omega arith, omega arith, loop .inv .2, loop .inv .3 ∙ first-miss _ _ _ (loop-test .taken) (sym (holds-line .ensures) ∙ c .if2 .left))
+    (omega arith, omega arith, loop .inv .2, loop .inv .3 ∙ first-miss _ _ _ (loop-test .taken) (sym (holds-line .ensures) ∙ c .if1 .left))
 
-returns-3 : tie.Need-returns-3 Inv-loop μ-loop
-returns-3 c =
-    let in-table = c .before .before .before .in-table in
-    let if1 = c .before .before .if1 in
+returns-2 : tie.Need-returns-2 Inv-loop μ-loop
+returns-2 c =
     let loop = c .before .loop in
-    sym (loop .inv .3 ∙ first-end _ _ _ (c .loop-test .left)) ∙ cond-then _ _ (test-passed (in-table .ensures) (if1 .left))
+    sym (loop .inv .3 ∙ first-end _ _ _ (c .loop-test .left))
 
 pub find-spec : {M : Type 1} → statement M
 find-spec =
@@ -87,15 +68,13 @@ find-spec =
     (tie.spec
     Inv-loop
     μ-loop
-    in-table-requires
-    returns
     add-end
     loop-holds
     mul-t
     array-copy-out-t
     holds-line-requires
-    returns-2
+    returns
     add-k
     loop-less
     loop-again
-    returns-3)
+    returns-2)

@@ -1,8 +1,8 @@
 -- `is_present` meets its contract.
 use borrow.Author.Needs.{needs}
-use native.Mathlib.Omega.{arith}
-use Rattle.records.proofs.Places.{test-failed, test-passed, room-bounds}
-use Rattle.records.proofs.Answers.{set-in-use, found-present, present-is}
+use mathlib.Core.Path.{_∙_}
+use Rattle.records.proofs.Places.{test-failed, test-passed}
+use Rattle.records.proofs.Answers.{found-present, present-is}
 use Rattle.records.proofs.is_present.Statement.{statement}
 use Rattle.records.proofs.is_present.Tie as tie
 
@@ -20,24 +20,20 @@ first-slot-requires c κs = search needs
 cast-n : tie.Need-cast-n
 cast-n c = search needs
 
-find-requires : tie.Need-find-requires
-find-requires c κs = search needs
+lookup-requires : tie.Need-lookup-requires
+lookup-requires c κs = search needs
 
-add-result : tie.Need-add-result
-add-result c =
-    let has-room = c .before .before .before .before .has-room in
-    let if1 = c .before .before .before .if1 in
-    let first-slot = c .before .before .first-slot in
-    let t = test-passed (has-room .ensures) (if1 .left) in
-    omega (arith, set-in-use _ _ _ t (first-slot .ensures), room-bounds _ t .in-all)
+is-hit-requires : tie.Need-is-hit-requires
+is-hit-requires c κs = search needs
 
 returns-2 : tie.Need-returns-2
 returns-2 c =
-    let has-room = c .before .before .before .before .has-room in
-    let if1 = c .before .before .before .if1 in
-    let first-slot = c .before .before .first-slot in
+    let has-room = c .before .before .before .before .before .has-room in
+    let if1 = c .before .before .before .before .if1 in
+    let first-slot = c .before .before .before .first-slot in
+    let lookup = c .before .lookup in
     let t = test-passed (has-room .ensures) (if1 .left) in
-    present-is _ _ _ _ t (found-present _ _ _ t (first-slot .ensures) _ _ (c .find .ensures))
+    present-is _ _ _ _ t (c .is-hit .ensures ∙ found-present _ _ _ t (first-slot .ensures) _ _ _ (lookup .ensures))
 
 pub is-present-spec : {M : Type 1} → statement M
 is-present-spec =
@@ -47,6 +43,6 @@ is-present-spec =
     returns
     first-slot-requires
     cast-n
-    find-requires
-    add-result
+    lookup-requires
+    is-hit-requires
     returns-2)

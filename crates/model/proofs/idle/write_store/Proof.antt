@@ -9,6 +9,7 @@ use Rattle.lists.specs.Counted.{eachFrom}
 use Rattle.rules.specs.Lines.{storedMemory}
 use Rattle.line_checks.specs.Refusal.{hierarchy}
 use Rattle.records.proofs.Places.{has-room}
+use Rattle.records.proofs.Answers.{no-hit}
 use Rattle.model.proofs.Leaves.{located}
 use Rattle.model.proofs.Moves.{unwritten, written-whole}
 use Rattle.model.proofs.idle.write_store.Statement.{statement}
@@ -20,17 +21,11 @@ cast-n c = search needs
 first-slot-requires : tie.Need-first-slot-requires
 first-slot-requires c κs = search needs
 
-find-requires : tie.Need-find-requires
-find-requires c κs = search needs
+lookup-requires : tie.Need-lookup-requires
+lookup-requires c κs = search needs
 
-add-if1 : tie.Need-add-if1
-add-if1 c =
-    let a = c .before .before .before .before .before .args in
-    let p = c .before .before .before .before .before .pre in
-    let first-slot = c .before .first-slot in
-    let b = hierarchy (a .figures) 0 (a .tags) (now (a .cache)) [] in
-    let h = located b (has-room (a .figures) (p .some-set) (p .some-way) (p .room)) _ _ _ (first-slot .ensures) (c .find .ensures) in
-    omega (arith, h .within, h .room)
+enum-known-found : tie.Need-enum-known-found
+enum-known-found c = search needs
 
 returns : tie.Need-returns
 unfolding lineOf
@@ -38,33 +33,46 @@ returns c =
     let a = c .before .before .before .before .before .before .args in
     let p = c .before .before .before .before .before .before .pre in
     let first-slot = c .before .before .first-slot in
-    let find = c .before .find in
+    let lookup = c .before .lookup in
     let b = hierarchy (a .figures) 0 (a .tags) (now (a .cache)) [] in
-    let h = located b (has-room (a .figures) (p .some-set) (p .some-way) (p .room)) _ _ _ (first-slot .ensures) (find .ensures) in
-    unwritten b (a .s) _ _ h (c .if1 .taken) refl
+    let h = located b (has-room (a .figures) (p .some-set) (p .some-way) (p .room)) _ _ (first-slot .ensures) _ _ (lookup .ensures) in
+    unwritten _ b (a .s) _ _ h (no-hit (lookup .result) (c .match .keys2)) refl
+
+add-slot : tie.Need-add-slot
+add-slot c =
+    let a = c .before .before .before .before .before .before .before .before .args in
+    let p = c .before .before .before .before .before .before .before .before .pre in
+    let first-slot = c .before .before .before .before .first-slot in
+    let lookup = c .before .before .before .lookup in
+    let found = c .before .found in
+    let b = hierarchy (a .figures) 0 (a .tags) (now (a .cache)) [] in
+    let h = located b (has-room (a .figures) (p .some-set) (p .some-way) (p .room)) _ _ (first-slot .ensures) _ _ (lookup .ensures) in
+    omega (arith, h .way _ (found .given .1), h .within, h .room)
 
 mul-at : tie.Need-mul-at
 mul-at c =
-    let a = c .before .before .before .before .before .before .args in
-    let p = c .before .before .before .before .before .before .pre in
-    let first-slot = c .before .before .first-slot in
-    let find = c .before .find in
+    let a = c .before .before .before .before .before .before .before .before .args in
+    let p = c .before .before .before .before .before .before .before .before .pre in
+    let first-slot = c .before .before .before .before .first-slot in
+    let lookup = c .before .before .before .lookup in
+    let found = c .before .found in
     let b = hierarchy (a .figures) 0 (a .tags) (now (a .cache)) [] in
-    let h = located b (has-room (a .figures) (p .some-set) (p .some-way) (p .room)) _ _ _ (first-slot .ensures) (find .ensures) in
-    omega (arith, h .high, h .within, h .room)
+    let h = located b (has-room (a .figures) (p .some-set) (p .some-way) (p .room)) _ _ (first-slot .ensures) _ _ (lookup .ensures) in
+    omega (arith, h .way _ (found .given .1), h .within, h .room)
 
 cast-at : tie.Need-cast-at
 cast-at c = search needs
 
 add-at : tie.Need-add-at
 add-at c =
-    let a = c .before .before .before .before .before .before .before .args in
-    let p = c .before .before .before .before .before .before .before .pre in
-    let first-slot = c .before .before .before .first-slot in
-    let find = c .before .before .find in
+    let a = c .before .before .before .before .before .before .before .before .before .args in
+    let p = c .before .before .before .before .before .before .before .before .before .pre in
+    let first-slot = c .before .before .before .before .before .first-slot in
+    let lookup = c .before .before .before .before .lookup in
+    let found = c .before .before .found in
     let b = hierarchy (a .figures) 0 (a .tags) (now (a .cache)) [] in
-    let h = located b (has-room (a .figures) (p .some-set) (p .some-way) (p .room)) _ _ _ (first-slot .ensures) (find .ensures) in
-    omega (arith, h .high, h .within, h .room)
+    let h = located b (has-room (a .figures) (p .some-set) (p .some-way) (p .room)) _ _ (first-slot .ensures) _ _ (lookup .ensures) in
+    omega (arith, h .way _ (found .given .1), h .within, h .room)
 
 put-store-requires : tie.Need-put-store-requires
 put-store-requires c κs = search needs
@@ -81,16 +89,16 @@ same-length c = search needs
 returns-2 : tie.Need-returns-2
 unfolding lineOf storedMemory eachFrom
 returns-2 c =
-    let a = c .before .before .before .before .before .before .before .before .before .before .before .before .before .args in
-    let p = c .before .before .before .before .before .before .before .before .before .before .before .before .before .pre in
-    let first-slot = c .before .before .before .before .before .before .before .before .before .first-slot in
-    let find = c .before .before .before .before .before .before .before .before .find in
-    let if1 = c .before .before .before .before .before .before .before .if1 in
+    let a = c .before .before .before .before .before .before .before .before .before .before .before .before .before .before .before .args in
+    let p = c .before .before .before .before .before .before .before .before .before .before .before .before .before .before .before .pre in
+    let first-slot = c .before .before .before .before .before .before .before .before .before .before .before .first-slot in
+    let lookup = c .before .before .before .before .before .before .before .before .before .before .lookup in
+    let found = c .before .before .before .before .before .before .before .before .found in
     let put-store = c .before .before .before .before .put-store in
     let mark-written = c .before .mark-written in
     let b = hierarchy (a .figures) 0 (a .tags) (now (a .cache)) [] in
-    let h = located b (has-room (a .figures) (p .some-set) (p .some-way) (p .room)) _ _ _ (first-slot .ensures) (find .ensures) in
-    written-whole b (a .s) _ _ _ _ _ h (if1 .left) (p .narrow) (p .one-line) (p .cache-long) (put-store .ensures) (mark-written .ensures) (c .use-slot .ensures)
+    let h = located b (has-room (a .figures) (p .some-set) (p .some-way) (p .room)) _ _ (first-slot .ensures) _ _ (lookup .ensures) in
+    written-whole _ b (a .s) _ _ _ _ _ _ h (found .given .1) (p .narrow) (p .one-line) (p .cache-long) (put-store .ensures) (mark-written .ensures) (c .use-slot .ensures)
 
 pub write-store-spec : {M : Type 1} → statement M
 write-store-spec =
@@ -98,9 +106,10 @@ write-store-spec =
     (tie.spec
     cast-n
     first-slot-requires
-    find-requires
-    add-if1
+    lookup-requires
+    enum-known-found
     returns
+    add-slot
     mul-at
     cast-at
     add-at

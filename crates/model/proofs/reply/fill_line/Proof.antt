@@ -24,7 +24,7 @@ mul-old c =
     let pre = c .before .before .before .before .before .pre in
     let first-slot = c .before .first-slot in
     let b = hierarchy (a .figures) 0 (a .t1) (now (a .cache)) (now (a .memory)) in
-    let h = chosen b (pre .room) _ _ _ (first-slot .ensures) (c .victim .ensures) in
+    let h = chosen b (pre .room) _ _ (first-slot .ensures) _ (c .victim .ensures) in
     omega (arith, h .high, h .within, h .room)
 
 array-copy-out-old : tie.Need-array-copy-out-old
@@ -33,7 +33,7 @@ array-copy-out-old c =
     let pre = c .before .before .before .before .before .pre in
     let first-slot = c .before .first-slot in
     let b = hierarchy (a .figures) 0 (a .t1) (now (a .cache)) (now (a .memory)) in
-    let h = chosen b (pre .room) _ _ _ (first-slot .ensures) (c .victim .ensures) in
+    let h = chosen b (pre .room) _ _ (first-slot .ensures) _ (c .victim .ensures) in
     omega (arith, h .high, h .within, h .room)
 
 write-back-requires : tie.Need-write-back-requires
@@ -81,7 +81,7 @@ returns c =
     let write-back = c .before .before .before .before .before .before .before .before .before .write-back in
     let fill-slot = c .before .before .before .fill-slot in
     let b = hierarchy (a .figures) 0 (a .t1) (now (a .cache)) (now (a .memory)) in
-    let h = chosen b (pre .room) _ _ _ (first-slot .ensures) (victim .ensures) in
+    let h = chosen b (pre .room) _ _ (first-slot .ensures) _ (victim .ensures) in
     filled-whole b (a .line) _ _ _ _ _ pre h (write-back .ensures) (fill-slot .ensures) (c .install .ensures)
 
 pub fill-line-spec : {M : Type 1} → statement M

@@ -53,14 +53,14 @@ enum-known-a-8 c = search needs
 coded-requires-8 : tie.Need-coded-requires-8
 coded-requires-8 c κs = search needs
 
-enum-told : tie.Need-enum-told
-enum-told c = search needs
+enum-known-a-9 : tie.Need-enum-known-a-9
+enum-known-a-9 c = search needs
 
 coded-requires-9 : tie.Need-coded-requires-9
 coded-requires-9 c κs = search needs
 
-enum-known-a-9 : tie.Need-enum-known-a-9
-enum-known-a-9 c = search needs
+enum-told : tie.Need-enum-told
+enum-told c = search needs
 
 coded-requires-10 : tie.Need-coded-requires-10
 coded-requires-10 c κs = search needs
@@ -74,26 +74,32 @@ coded-requires-11 c κs = search needs
 enum-known-a-11 : tie.Need-enum-known-a-11
 enum-known-a-11 c = search needs
 
-cast-coded : tie.Need-cast-coded
-cast-coded c =
-    let pre = c .before .before .before .pre in
-    let a11 = c .before .a11 in
-    let p = part-fits _ _ _ (a11 .given .1) pre in omega (arith, p .0)
-
-cast-coded-2 : tie.Need-cast-coded-2
-cast-coded-2 c =
-    let pre = c .before .before .before .pre in
-    let a11 = c .before .a11 in
-    let p = part-fits _ _ _ (a11 .given .1) pre in omega (arith, p .1)
-
 coded-requires-12 : tie.Need-coded-requires-12
 coded-requires-12 c κs = search needs
 
 enum-known-a-12 : tie.Need-enum-known-a-12
 enum-known-a-12 c = search needs
 
+cast-coded : tie.Need-cast-coded
+cast-coded c =
+    let pre = c .before .before .before .pre in
+    let a12 = c .before .a12 in
+    let p = part-fits _ _ _ (a12 .given .1) pre in omega (arith, p .0)
+
+cast-coded-2 : tie.Need-cast-coded-2
+cast-coded-2 c =
+    let pre = c .before .before .before .pre in
+    let a12 = c .before .a12 in
+    let p = part-fits _ _ _ (a12 .given .1) pre in omega (arith, p .1)
+
 coded-requires-13 : tie.Need-coded-requires-13
 coded-requires-13 c κs = search needs
+
+enum-known-a-13 : tie.Need-enum-known-a-13
+enum-known-a-13 c = search needs
+
+coded-requires-14 : tie.Need-coded-requires-14
+coded-requires-14 c κs = search needs
 
 returns : tie.Need-returns
 returns c =
@@ -137,13 +143,13 @@ returns-8 c =
 
 returns-9 : tie.Need-returns-9
 returns-9 c =
-    let enum-told = c .before .enum-told in
-    rw (enum-told .given .1) (c .coded9 .ensures)
+    let a9 = c .before .before .a9 in
+    rw (a9 .given .1) (c .coded9 .ensures)
 
 returns-10 : tie.Need-returns-10
 returns-10 c =
-    let a9 = c .before .before .a9 in
-    rw (a9 .given .1) (c .coded10 .ensures)
+    let enum-told = c .before .enum-told in
+    rw (enum-told .given .1) (c .coded10 .ensures)
 
 returns-11 : tie.Need-returns-11
 returns-11 c =
@@ -153,12 +159,17 @@ returns-11 c =
 returns-12 : tie.Need-returns-12
 returns-12 c =
     let a11 = c .before .before .a11 in
-    part-image _ _ _ (a11 .given .1) _ (c .coded12 .ensures)
+    rw (a11 .given .1) (c .coded12 .ensures)
 
 returns-13 : tie.Need-returns-13
 returns-13 c =
     let a12 = c .before .before .a12 in
-    rw (a12 .given .1) (c .coded13 .ensures)
+    part-image _ _ _ (a12 .given .1) _ (c .coded13 .ensures)
+
+returns-14 : tie.Need-returns-14
+returns-14 c =
+    let a13 = c .before .before .a13 in
+    rw (a13 .given .1) (c .coded14 .ensures)
 
 pub answer-image-spec : {M : Type 1} → statement M
 answer-image-spec =
@@ -180,18 +191,20 @@ answer-image-spec =
     coded-requires-7
     enum-known-a-8
     coded-requires-8
-    enum-told
-    coded-requires-9
     enum-known-a-9
+    coded-requires-9
+    enum-told
     coded-requires-10
     enum-known-a-10
     coded-requires-11
     enum-known-a-11
-    cast-coded
-    cast-coded-2
     coded-requires-12
     enum-known-a-12
+    cast-coded
+    cast-coded-2
     coded-requires-13
+    enum-known-a-13
+    coded-requires-14
     returns
     returns-2
     returns-3
@@ -204,4 +217,5 @@ answer-image-spec =
     returns-10
     returns-11
     returns-12
-    returns-13)
+    returns-13
+    returns-14)

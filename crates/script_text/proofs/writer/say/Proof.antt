@@ -1,7 +1,7 @@
 -- `say` meets its contract.
-use Rattle.script_text.proofs.Writing.{wrote-none}
-use Rattle.script.specs.Words.{answerLine}
 use borrow.Author.Needs.{needs}
+use Rattle.script.specs.Words.{answerLine}
+use Rattle.script_text.proofs.Writing.{wrote-none}
 use Rattle.script_text.proofs.writer.say.Statement.{statement}
 use Rattle.script_text.proofs.writer.say.Tie as tie
 
@@ -74,15 +74,6 @@ slice-aggregate-say-one-7 c = search needs
 say-one-requires-7 : tie.Need-say-one-requires-7
 say-one-requires-7 c κs = search needs
 
-enum-told : tie.Need-enum-told
-enum-told c = search needs
-
-slice-aggregate-say-none : tie.Need-slice-aggregate-say-none
-slice-aggregate-say-none c = search needs
-
-say-none-requires : tie.Need-say-none-requires
-say-none-requires c κs = search needs
-
 enum-known-a-9 : tie.Need-enum-known-a-9
 enum-known-a-9 c = search needs
 
@@ -92,6 +83,15 @@ slice-aggregate-say-one-8 c = search needs
 say-one-requires-8 : tie.Need-say-one-requires-8
 say-one-requires-8 c κs = search needs
 
+enum-told : tie.Need-enum-told
+enum-told c = search needs
+
+slice-aggregate-say-none : tie.Need-slice-aggregate-say-none
+slice-aggregate-say-none c = search needs
+
+say-none-requires : tie.Need-say-none-requires
+say-none-requires c κs = search needs
+
 enum-known-a-10 : tie.Need-enum-known-a-10
 enum-known-a-10 c = search needs
 
@@ -100,6 +100,15 @@ slice-aggregate-say-one-9 c = search needs
 
 say-one-requires-9 : tie.Need-say-one-requires-9
 say-one-requires-9 c κs = search needs
+
+enum-known-a-11 : tie.Need-enum-known-a-11
+enum-known-a-11 c = search needs
+
+slice-aggregate-say-one-10 : tie.Need-slice-aggregate-say-one-10
+slice-aggregate-say-one-10 c = search needs
+
+say-one-requires-10 : tie.Need-say-one-requires-10
+say-one-requires-10 c κs = search needs
 
 enum-told-2 : tie.Need-enum-told-2
 enum-told-2 c = search needs
@@ -193,9 +202,9 @@ same-length-9 c = search needs
 returns-9 : tie.Need-returns-9
 unfolding answerLine
 returns-9 c =
-    let enum-told = c .before .before .before .before .before .enum-told in
-    let say-none = c .before .before .say-none in
-    rw (enum-told .given .1) (say-none .ensures)
+    let a9 = c .before .before .before .before .before .before .a9 in
+    let say-one8 = c .before .before .say-one8 in
+    rw (a9 .given .1) (say-one8 .ensures)
 
 same-length-10 : tie.Need-same-length-10
 same-length-10 c = search needs
@@ -203,9 +212,9 @@ same-length-10 c = search needs
 returns-10 : tie.Need-returns-10
 unfolding answerLine
 returns-10 c =
-    let a9 = c .before .before .before .before .before .before .a9 in
-    let say-one8 = c .before .before .say-one8 in
-    rw (a9 .given .1) (say-one8 .ensures)
+    let enum-told = c .before .before .before .before .before .enum-told in
+    let say-none = c .before .before .say-none in
+    rw (enum-told .given .1) (say-none .ensures)
 
 same-length-11 : tie.Need-same-length-11
 same-length-11 c = search needs
@@ -217,13 +226,23 @@ returns-11 c =
     let say-one9 = c .before .before .say-one9 in
     rw (a10 .given .1) (say-one9 .ensures)
 
+same-length-12 : tie.Need-same-length-12
+same-length-12 c = search needs
+
 returns-12 : tie.Need-returns-12
 unfolding answerLine
-returns-12 c = rw (c .enum-told2 .given .1) (wrote-none _ _)
+returns-12 c =
+    let a11 = c .before .before .before .before .before .before .a11 in
+    let say-one10 = c .before .before .say-one10 in
+    rw (a11 .given .1) (say-one10 .ensures)
 
 returns-13 : tie.Need-returns-13
 unfolding answerLine
-returns-13 c = rw (c .enum-told3 .given .1) (wrote-none _ _)
+returns-13 c = rw (c .enum-told2 .given .1) (wrote-none _ _)
+
+returns-14 : tie.Need-returns-14
+unfolding answerLine
+returns-14 c = rw (c .enum-told3 .given .1) (wrote-none _ _)
 
 pub say-spec : {M : Type 1} → statement M
 say-spec =
@@ -252,15 +271,18 @@ say-spec =
     enum-known-a-8
     slice-aggregate-say-one-7
     say-one-requires-7
-    enum-told
-    slice-aggregate-say-none
-    say-none-requires
     enum-known-a-9
     slice-aggregate-say-one-8
     say-one-requires-8
+    enum-told
+    slice-aggregate-say-none
+    say-none-requires
     enum-known-a-10
     slice-aggregate-say-one-9
     say-one-requires-9
+    enum-known-a-11
+    slice-aggregate-say-one-10
+    say-one-requires-10
     enum-told-2
     enum-told-3
     same-length
@@ -285,5 +307,7 @@ say-spec =
     returns-10
     same-length-11
     returns-11
+    same-length-12
     returns-12
-    returns-13)
+    returns-13
+    returns-14)
