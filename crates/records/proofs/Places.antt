@@ -5,7 +5,7 @@ use Prim.Native.Nat.{ℕ, _+_, _*_, _%_, _-_, _<_, _≤_}
 use native.Mathlib.Nat.{mod-lt}
 use native.Mathlib.Omega.{arith}
 use lib.Dec.{ltb, leb}
-use borrow.Author.Tests.{ltb-true, leb-true, not-true, not-false, lt-ltb, le-ltb, le-leb}
+use borrow.Author.Tests.{ltb-true, leb-true, not-true, not-false, lt-ltb, le-leb}
 use Rattle.lists.proofs.Cond.{and-left, and-right, and-both}
 use Rattle.rules.specs.declared.Figures.{Figures}
 use Rattle.rules.proofs.LineFacts.{set-room}
