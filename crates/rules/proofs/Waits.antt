@@ -223,6 +223,9 @@ load-wait-leaves a n w j =
     let h = wait-none i j (lookup (w .queues .request) (w .hierarchy) (lineOf a)) (loadValue i a n (w .queues .stores) (w .hierarchy)) x in
     record {
       listed = rw (← (h .0), h .1) (new-listed (w .queues) (w .hierarchy) wf a n (load-checked (w .queues) (w .hierarchy) a n e .place));
+      same-committed = refl;
+      same-stores = refl;
+      same-checkpoints = refl;
       same-request = refl;
       same-lines = refl;
     })

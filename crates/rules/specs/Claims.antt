@@ -78,8 +78,8 @@ pub record WaitsAreExact : Type 0 where
   pub after-start : (f : Figures) (cache memory : List ℕ) → AfterStart InquiriesRight f cache memory
   pub from-state : (w : World) → FromState InquiriesRight w
 
--- 02, card 4: an accepted load or inquiry that waits says "waits-requested" exactly if the register names its line. Whichever it says,
--- the load waits and nothing else moves. No other call says either word
+-- 02, card 4: an accepted load or inquiry that waits says "waits-requested" exactly if the register names its line. Whichever it says, a
+-- load is listed as waiting, and an inquiry changes nothing. No other call says either word
 pub record WaitStatusIsExact : Type 0 where
   pub by-load : (a n : ℕ) (w : World) → LoadStatus a n w
   pub by-inquiry : (i : ℕ) (w : World) → RetryStatus i w

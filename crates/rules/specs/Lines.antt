@@ -52,7 +52,7 @@ unfoldable pub wayOf : Hierarchy → ℕ → ℕ
 wayOf b l = slotOf b l - firstSlot b l
 
 -- "The tag lookup shall answer present with its way, requested, or absent.": requested is a line that is absent, and that the miss
--- register r names. (A rule that asks nothing of the register goes by `present` and `slotOf`, of which the lookup is made.)
+-- register r names. (A rule that does not ask which line the register names goes by `present` and `slotOf`, of which the lookup is made.)
 unfoldable pub lookup : Request → Hierarchy → ℕ → Lookup
 lookup r b l = cond (present b l) (Hit (wayOf b l)) (cond (names r l) Pending Miss)
 

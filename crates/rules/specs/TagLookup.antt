@@ -67,9 +67,12 @@ RetryStatus i w =
 
 -- ---- what a call that waits leaves, by whichever word
 
--- load j of the n bytes from a on waits, and v is what it leaves: it is listed as waiting; the register and the lines are as they were
+-- load j of the n bytes from a on waits, and v is what it leaves: it is listed as waiting; h, stores, marks, register and lines stay
 pub record ListedWaiting (j a n : ℕ) (w v : World) : Type 0 where
   pub listed : waitingLoad j v ≡ record { number = j; address = a; width = n; waiting = true }
+  pub same-committed : v .queues .committed ≡ w .queues .committed
+  pub same-stores : v .queues .stores ≡ w .queues .stores
+  pub same-checkpoints : v .queues .checkpoints ≡ w .queues .checkpoints
   pub same-request : v .queues .request ≡ w .queues .request
   pub same-lines : v .hierarchy ≡ w .hierarchy
 

@@ -243,8 +243,8 @@ pub fn waits_exact()
     ensures { λ r. ⌜ WaitsAreExact ⌝ }
 {}
 
-// 02, card 4: of the two words it is "waits-requested" exactly if the miss register names the load's line; whichever it says, the load
-// waits and nothing else moves; no other call says either.
+// 02, card 4: of the two words it is "waits-requested" exactly if the miss register names the load's line. Whichever it says, a load is
+// listed as waiting, and an inquiry changes nothing; no other call says either.
 pub fn wait_status_exact()
     ensures { λ r. ⌜ WaitStatusIsExact ⌝ }
 {}
