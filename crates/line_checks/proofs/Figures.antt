@@ -3,12 +3,12 @@ use Prim.Native.Nat.{ℕ, _*_, _%_, _<_, _≤_}
 use mathlib.Core.Path.{_≡_}
 use mathlib.Core.Bool.{true, _&&_}
 use native.Mathlib.Nat.{mul-le-mul}
-use native.Mathlib.Omega.{arith}
 use lib.Dec.{leb, eqb}
 use borrow.Author.Tests.{leb-true, eqb-true}
-use Rattle.lists.proofs.Cond.{cases, and-left, and-right}
+use Rattle.lists.proofs.Cond.{and-left, and-right}
 use Rattle.rules.specs.declared.Figures.{Figures}
 use Rattle.rules.specs.Shape.{setsAllowed, figuresAllowed}
+use Rattle.rules.proofs.LineFacts.{sets-bound}
 
 pub record Figured (f : Figures) (size : ℕ) : Type 0 where
   pub some-set : 0 < f .sets
@@ -18,17 +18,6 @@ pub record Figured (f : Figures) (size : ℕ) : Type 0 where
   pub some-line : 16 ≤ size
   pub whole-lines : size % 16 ≡ 0
   pub most-size : size ≤ 65536
-
-sets-bound : (n : ℕ) → setsAllowed n ≡ true → (0 < n) × (n ≤ 64)
-unfolding setsAllowed
-sets-bound n e =
-    cases (eqb n 1) (λ h. let q = eqb-true n 1 h in (omega arith, omega arith)) λ h1.
-    cases (eqb n 2) (λ h. let q = eqb-true n 2 h in (omega arith, omega arith)) λ h2.
-    cases (eqb n 4) (λ h. let q = eqb-true n 4 h in (omega arith, omega arith)) λ h3.
-    cases (eqb n 8) (λ h. let q = eqb-true n 8 h in (omega arith, omega arith)) λ h4.
-    cases (eqb n 16) (λ h. let q = eqb-true n 16 h in (omega arith, omega arith)) λ h5.
-    cases (eqb n 32) (λ h. let q = eqb-true n 32 h in (omega arith, omega arith)) λ h6.
-    let q = eqb-true n 64 (rw (h1, h2, h3, h4, h5, h6) at e) in (omega arith, omega arith)
 
 pub figures-tell : (f : Figures) (size : ℕ) → figuresAllowed f size ≡ true → Figured f size
 unfolding figuresAllowed

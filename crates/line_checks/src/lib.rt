@@ -8,7 +8,7 @@ ghost use Prim.Native.Nat.{_+_, _*_, _%_, _<_, _≤_};
 ghost use lib.ListN.{length, drop};
 ghost use Rattle.lists.specs.Bytes.{valueAt};
 ghost use Rattle.lists.specs.Padded.{every};
-ghost use Rattle.rules.specs.Shape.{setsAllowed, figuresAllowed, isThrough, fits};
+ghost use Rattle.rules.specs.Shape.{figuresAllowed, isThrough, fits};
 ghost use Rattle.rules.specs.WellFormed.{zeroTag, linesFormed};
 ghost use Rattle.line_checks.specs.Refusal.{hierarchy, linesRefusal};
 ghost use Rattle.line_checks.specs.SlotTests.{sameBytes, wordGood, marksGood, zeroBytes, validGood, invalidGood, slotGood, sameAgeOrLine, apartFrom};
@@ -19,7 +19,6 @@ use rules::LINE_BYTES;
 use rules::LINE_LENGTH;
 use rules::LINE_WORDS;
 use rules::MAX_MEMORY;
-use rules::MAX_SETS;
 use rules::MAX_WAYS;
 use rules::MIN_MEMORY;
 use rules::NOT_WELL_FORMED;
@@ -30,37 +29,12 @@ use rules::WritePolicy;
 
 // ---- figures and lengths
 
-// "Sets: 1, 2, 4, 8, 16, 32 or 64."
-fn sets_allowed(n: u32) -> bool
-    ensures { λ r. ⌜ r ≡ setsAllowed n ⌝ }
-{
-    if n == 1 {
-        return true;
-    }
-    if n == 2 {
-        return true;
-    }
-    if n == 4 {
-        return true;
-    }
-    if n == 8 {
-        return true;
-    }
-    if n == 16 {
-        return true;
-    }
-    if n == 32 {
-        return true;
-    }
-    n == MAX_SETS
-}
-
 // The figures are allowed.
 pub fn figures_allowed(figures: Figures, size: usize) -> bool
     ensures { λ r. ⌜ r ≡ figuresAllowed figures size ⌝ }
 {
     let ways = figures.ways;
-    if sets_allowed(figures.sets) {
+    if rules::sets_allowed(figures.sets) {
         if ways < 1 {
             return false;
         }

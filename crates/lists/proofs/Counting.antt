@@ -4,11 +4,12 @@ use mathlib.Core.Bool.{Bool, true, false, cond, _&&_}
 use mathlib.Core.List.{List, [], _∷_}
 use mathlib.Core.Logic.{⊎-elim}
 use Prim.Native.Nat.{ℕ, zero, suc, _+_, _-_, _<_, _≤_}
-use native.Mathlib.Nat.{eq-or-lt-of-le, le-of-suc-le-suc, not-suc-le-zero}
+use native.Mathlib.Nat.{le-trans, eq-or-lt-of-le, le-of-suc-le-suc, not-suc-le-zero}
 use native.Mathlib.Omega.{arith}
 use lib.Dec.{ltb}
 use lib.ListN.{length, getD, drop, drop-of-length-le}
 use lib.Seq.{drop-cons}
+use borrow.Author.Tests.{ltb-true, ltb-false}
 use Rattle.lists.specs.Padded.{every}
 use Rattle.lists.specs.Counted.{firstFrom, allFrom, someFrom, greatestFrom, stepsFrom, eachFrom}
 use Rattle.lists.proofs.Cond.{either, and-left, and-right, and-both}
@@ -61,6 +62,13 @@ module _ (p : ℕ → Bool) where
   some-none zero i h = refl
   some-none (suc n) i h = rw (h i (omega arith) (omega arith)) (some-none n (suc i) (λ k a b. h k (omega arith) (omega arith)))
 
+-- two tests that agree on the numbers looked at
+pub first-same : (p r : ℕ → Bool) (n i : ℕ) → ((k : ℕ) → i ≤ k → k < i + n → p k ≡ r k) → firstFrom p i n ≡ firstFrom r i n
+unfolding firstFrom
+first-same p r zero i h = refl
+first-same p r (suc n) i h =
+    rw (h i (omega arith) (omega arith), first-same p r n (suc i) (λ k a b. h k (omega arith) (omega arith)))
+
 -- ---- the greatest
 
 pub greatest-in : (g : ℕ → ℕ) (lo hi n best i : ℕ) → (lo ≤ best) × (best < hi) → lo ≤ i → i + n ≤ hi
@@ -71,6 +79,26 @@ greatest-in g lo hi (suc n) best i h a b =
     greatest-in g lo hi n (cond (ltb (g best) (g i)) i best) (suc i)
     (either (λ r. (lo ≤ r) × (r < hi)) (ltb (g best) (g i)) (λ e. (a, omega arith)) (λ e. h))
     (omega arith) (omega arith)
+
+-- none of them exceeds it
+pub greatest-most : (g : ℕ → ℕ) (n best i : ℕ)
+    → (g best ≤ g (greatestFrom g best i n)) × ((k : ℕ) → i ≤ k → k < i + n → g k ≤ g (greatestFrom g best i n))
+unfolding greatestFrom
+greatest-most g zero best i = (omega arith, λ k a b. let no : ⊥ = omega arith in absurd no)
+greatest-most g (suc n) best i =
+    let next = cond (ltb (g best) (g i)) i best in
+    let r = greatest-most g n next (suc i) in
+    let both : (g best ≤ g next) × (g i ≤ g next) =
+    either (λ r. (g best ≤ g r) × (g i ≤ g r)) (ltb (g best) (g i))
+    (λ e. let l = ltb-true (g best) (g i) e in (omega arith, omega arith))
+    (λ e. let l = ltb-false (g best) (g i) e in (omega arith, omega arith)) in (
+      le-trans (both .0) (r .0),
+      λ k a b.
+          ⊎-elim
+          (λ q. subst (λ (j : ℕ). g j ≤ g (greatestFrom g next (suc i) n)) q (le-trans (both .1) (r .0)))
+          (λ l. r .1 k l (omega arith))
+          (eq-or-lt-of-le a),
+    )
 
 -- ---- steps
 

@@ -54,10 +54,15 @@ module _ {A : Type 0} where
   every-first p t d [] e g = e
   every-first p t d (x ∷ l) e g = either (λ y. p y ≡ true) (t x) (λ _. and-left _ _ g) (λ _. every-first p t d l e (and-right (p x) _ g))
 
-  pub every-head : (p : A → Bool) (d : A) (l : List A) → p d ≡ true → every p l ≡ true → p (getD l 0 d) ≡ true
+  -- of any place, where the default passes too
+  pub every-at : (p : A → Bool) (d : A) → p d ≡ true → (l : List A) → every p l ≡ true → (k : ℕ) → p (getD l k d) ≡ true
   unfolding every
-  every-head p d [] e g = e
-  every-head p d (x ∷ l) e g = and-left _ _ g
+  every-at p d e [] g k = e
+  every-at p d e (x ∷ l) g zero = and-left _ _ g
+  every-at p d e (x ∷ l) g (suc k) = every-at p d e l (and-right (p x) _ g) k
+
+  pub every-head : (p : A → Bool) (d : A) (l : List A) → p d ≡ true → every p l ≡ true → p (getD l 0 d) ≡ true
+  every-head p d l e g = every-at p d e l g 0
 
   pub every-placed : (p t : A → Bool) (e : A) (l : List A) → p e ≡ true → every p l ≡ true → every p (placed t e l) ≡ true
   unfolding every placed

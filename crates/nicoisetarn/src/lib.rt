@@ -2,10 +2,13 @@
 // calls, and look at it.
 // An image that stands for no state is refused and never repaired. Calls and answers go by numbers.
 ghost use mathlib.Core.Path.{_≡_};
+ghost use lib.ListN.{length};
+ghost use Rattle.study.specs.Study.{studied, scratchAfter};
 ghost use Rattle.nicoisetarn.specs.Steps.{leftOf, started, stepped, lineShown};
 ghost use Rattle.nicoisetarn.specs.Batch.{batchLeftOf, ran};
 ghost use Rattle.nicoisetarn.specs.Claims.{RefusedImagesKept, UnknownCallsKept, LooksKept, BatchesAreRuns};
 use images::Image;
+use study::StudyResult;
 
 mod answers;
 mod batch;
@@ -161,6 +164,15 @@ pub extern "C" fn nicoisetarn_show_line_in(
     ensures { λ r. ⌜ r ≡ lineShown address (now (image .entry)) (now (cache .entry)) (now (memory .entry)) ⌝ }
 {
     steps::show_image(*image, address, cache, memory)
+}
+
+// The ways study (02, card 5): no image and no call on one. The four hit counts and the four rates, and a scratch that is zero afterwards;
+// or the number of the refusal, zeros, and the scratch as it was.
+#[no_mangle]
+pub extern "C" fn nicoisetarn_study_ways(items: &[u32], sets: u32, scratch: &mut [u32]) -> StudyResult
+    ensures { λ r. ⌜ (r ≡ studied (now (items .entry)) sets (length (now (scratch .entry)))) × (now (scratch .exit) ≡ scratchAfter (now (items .entry)) sets (now (scratch .entry))) ⌝ }
+{
+    study::study(items, sets, scratch)
 }
 
 // ---- what is claimed of images: functions that do nothing and promise it

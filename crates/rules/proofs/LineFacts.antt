@@ -65,7 +65,7 @@ pub record At (b : Hierarchy) (l : ℕ) : Type 0 where
 
 -- ---- check 1
 
-sets-bound : (n : ℕ) → setsAllowed n ≡ true → (0 < n) × (n ≤ 64)
+pub sets-bound : (n : ℕ) → setsAllowed n ≡ true → (0 < n) × (n ≤ 64)
 unfolding setsAllowed
 sets-bound n e =
     cases (eqb n 1) (λ h. let q = eqb-true n 1 h in (omega arith, omega arith)) λ h1.

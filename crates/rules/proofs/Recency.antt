@@ -102,7 +102,7 @@ module _ (b : Hierarchy) (cache memory : List ℕ) (r : Recency b) where
 -- ---- use
 
 -- what a use does to the age of slot k
-data Aged (v a k old new : ℕ) : Type 0 where
+pub data Aged (v a k old new : ℕ) : Type 0 where
   used : k ≡ v → new ≡ 0 → Aged v a k old new
   grown : old < a → new ≡ old + 1 → Aged v a k old new
   kept : a < old → new ≡ old → Aged v a k old new
@@ -185,7 +185,7 @@ module _ (b : Hierarchy) (s v : ℕ) (s-in : s < b .figures .sets) (low : setSta
   abbrev new : Hierarchy
   new = useSlot s v b
 
-  use-out : (k : ℕ) → (setStart b s ≤ k → k < setStart b s + b .figures .ways → ⊥) → tagAt (new .tags) k ≡ tagAt (b .tags) k
+  pub use-out : (k : ℕ) → (setStart b s ≤ k → k < setStart b s + b .figures .ways → ⊥) → tagAt (new .tags) k ≡ tagAt (b .tags) k
   unfolding useSlot
   use-out k o = each-same _ (b .tags) noTag k (λ t. aged-out _ _ v _ k t o low high)
 
@@ -194,7 +194,7 @@ module _ (b : Hierarchy) (s v : ℕ) (s-in : s < b .figures .sets) (low : setSta
   use-unused k h = use-out k (λ p q. omega (arith, set-room s (b .figures .sets) (b .figures .ways) s-in))
 
   module _ (room : slots b ≤ length (b .tags)) (r : Recency b) where
-    use-in :
+    pub use-in :
         (k : ℕ) → setStart b s ≤ k → k < setStart b s + b .figures .ways
         → Aged v (tagAt (b .tags) v .age) k (tagAt (b .tags) k .age) (tagAt (new .tags) k .age)
     unfolding useSlot
@@ -278,7 +278,7 @@ start-table f = each-length _ 0 (replicate 256 noTag) ∙ length-replicate 256 n
 
 module _ (f : Figures) (room : f .sets * f .ways ≤ 256) where
   -- a slot's age is its way
-  start-age :
+  pub start-age :
       (s k : ℕ) → s < f .sets → s * f .ways ≤ k → k < s * f .ways + f .ways → tagAt (startTags f) k .age ≡ k - s * f .ways
   start-age s k h p q =
       let r = set-room s (f .sets) (f .ways) h in

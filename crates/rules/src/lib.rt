@@ -1,6 +1,8 @@
 // The declared types of the load/store model: figures, a tag record, an entry of each queue, a checkpoint, the miss register, and what
-// the tag lookup answers; and the numbers that every crate names. The rules over them stand in specs/, and what is claimed of the rules
-// is promised here by functions that do nothing.
+// the tag lookup answers; the numbers that every crate names, and the test of a set count. The rules over them stand in specs/, and what is
+// claimed of the rules is promised here by functions that do nothing.
+ghost use mathlib.Core.Path.{_≡_};
+ghost use Rattle.rules.specs.Shape.{setsAllowed};
 ghost use Rattle.rules.specs.Claims.{RefusedCallsKeep, RefusalsExact, RefusalTableHolds, NumbersGiven, DroppedStretches, RestoredStretches, CheckpointsAreExact, KeptWellFormed, ValuesAreRight, WaitsAreExact, WaitStatusIsExact, LookupIsExact, FlushesAreExact, FlatMemoryIsKept, WordsAreExact};
 
 // The figures of a store that a start chooses. (02, card 1: "A start may choose this profile.")
@@ -149,6 +151,8 @@ pub const BAD_NAME: u32 = 19;
 pub const NAME_IN_USE: u32 = 20;
 // return, name not in use, or set when last is 4294967295
 pub const CHECKPOINT_UNAVAILABLE: u32 = 21;
+// 02, card 5: list, item, set count or scratch outside the figures of the study
+pub const BAD_STUDY: u32 = 22;
 
 // ---- free places, unused records: "all zero"
 
@@ -185,6 +189,33 @@ pub const NO_FIGURES: Figures = Figures {
     ways: 0,
     policy: WritePolicy::WriteBack,
 };
+
+// ---- the figures
+
+// The set count is one of 01's: "Sets: 1, 2, 4, 8, 16, 32 or 64."
+pub fn sets_allowed(n: u32) -> bool
+    ensures { λ r. ⌜ r ≡ setsAllowed n ⌝ }
+{
+    if n == 1 {
+        return true;
+    }
+    if n == 2 {
+        return true;
+    }
+    if n == 4 {
+        return true;
+    }
+    if n == 8 {
+        return true;
+    }
+    if n == 16 {
+        return true;
+    }
+    if n == 32 {
+        return true;
+    }
+    n == MAX_SETS
+}
 
 // ---- the claims about the rules: functions that do nothing and promise them
 

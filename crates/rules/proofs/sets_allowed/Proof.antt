@@ -1,8 +1,8 @@
 -- `sets_allowed` meets its contract.
 use Rattle.rules.specs.Shape.{setsAllowed}
 use Rattle.lists.proofs.Loops.{tests}
-use Rattle.line_checks.proofs.sets_allowed.Statement.{statement}
-use Rattle.line_checks.proofs.sets_allowed.Tie as tie
+use Rattle.rules.proofs.sets_allowed.Statement.{statement}
+use Rattle.rules.proofs.sets_allowed.Tie as tie
 
 returns : tie.Need-returns
 unfolding setsAllowed
