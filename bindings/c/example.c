@@ -1,9 +1,9 @@
 /*
  * A bench in C: plays the scope paper's worked script by calls and prints what the script player prints for it, then
  * a batch and its answers, then a drain in write-through, then drains to two words of a line and their flush, then marks
- * that are set and returned to, then loads that wait, their line requested or not. It checks the boundary: words, what the
- * image tells, refused calls, numbers that no call and no profile has, loads that wait, dirty marks, checkpoints, both
- * profiles, show line, and batches.
+ * that are set and returned to, then loads that wait, their line requested or not, then a ways study. It checks the
+ * boundary: words, what the image tells, refused calls, numbers that no call and no profile has, loads that wait, dirty
+ * marks, checkpoints, both profiles, show line, batches, and studies.
  * Exits with 1, and a line on standard error, where a check fails.
  */
 #include "nicoisetarn.h"
@@ -245,7 +245,7 @@ static void check_words(void) {
     }
     for (uint32_t number = 0; number < 300; number++) {
         const int known = (number >= NICOISETARN_REFUSED_FIGURES && number <= NICOISETARN_REFUSED_VALUE) ||
-                          (number >= NICOISETARN_REFUSED_STATE && number <= NICOISETARN_REFUSED_NO_CHECKPOINT);
+                          (number >= NICOISETARN_REFUSED_STATE && number <= NICOISETARN_REFUSED_STUDY);
         CHECK((*nicoisetarn_refusal_words(number) != '\0') == known);
     }
     CHECK(strcmp(nicoisetarn_refusal_words(NICOISETARN_REFUSED_FLUSH), "flush: a committed store is held") == 0);
@@ -773,6 +773,79 @@ static void check_batch_refused(void) {
     CHECK(memcmp(&b, &before, sizeof b) == 0);
 }
 
+/* ---- the ways study */
+
+/* Sixteen line numbers, in one set: one hits with two ways, two more with three, and one more with four. */
+static const uint32_t lines[] = {0, 1, 0, 2, 1, 3, 2, 0, 4, 5, 6, 7, 8, 9, 10, 11};
+
+enum { LINES = sizeof lines / sizeof *lines };
+
+/* Line numbers in the scratch, which a study must not see. */
+static void fill_scratch(uint32_t *scratch, size_t length) {
+    for (size_t at = 0; at < length; at++) {
+        scratch[at] = (uint32_t)at % 5;
+    }
+}
+
+static void play_study(void) {
+    uint32_t scratch[NICOISETARN_STUDY_SCRATCH];
+    fill_scratch(scratch, NICOISETARN_STUDY_SCRATCH);
+    const nicoisetarn_study study = nicoisetarn_study_ways(lines, LINES, 1, scratch, NICOISETARN_STUDY_SCRATCH);
+    CHECK(study.refusal == 0);
+    for (size_t place = 0; place < NICOISETARN_STUDY_WAYS; place++) {
+        printf("ways %lu: hits %lu, rate %lu\n", (unsigned long)place + 1, (unsigned long)study.hits[place],
+               (unsigned long)study.rates[place]);
+    }
+    for (size_t at = 0; at < NICOISETARN_STUDY_SCRATCH; at++) {
+        CHECK(scratch[at] == 0);
+    }
+}
+
+/* An empty list gives zeros, and clears the scratch. */
+static void check_empty_study(void) {
+    const nicoisetarn_study zeros = {0, {0, 0, 0, 0}, {0, 0, 0, 0}};
+    uint32_t scratch[NICOISETARN_STUDY_SCRATCH];
+    fill_scratch(scratch, NICOISETARN_STUDY_SCRATCH);
+    const nicoisetarn_study study = nicoisetarn_study_ways(lines, 0, 64, scratch, NICOISETARN_STUDY_SCRATCH);
+    CHECK(memcmp(&study, &zeros, sizeof study) == 0);
+    CHECK(all_zero((const uint8_t *)scratch, sizeof scratch));
+}
+
+/* 22 for each figure alone: the result is zeros, and items and scratch stay, whatever its length. */
+static void check_refused_studies(void) {
+    static uint32_t many[NICOISETARN_STUDY_ITEMS + 1];
+    const uint32_t too_high[] = {0, NICOISETARN_STUDY_LINES};
+    const struct {
+        const uint32_t *items;
+        size_t length;
+        uint32_t sets;
+        size_t scratch;
+    } refused[] = {
+        {many, NICOISETARN_STUDY_ITEMS + 1, 1, NICOISETARN_STUDY_SCRATCH},
+        {too_high, 2, 1, NICOISETARN_STUDY_SCRATCH},
+        {lines, LINES, 0, NICOISETARN_STUDY_SCRATCH},
+        {lines, LINES, 3, NICOISETARN_STUDY_SCRATCH},
+        {lines, LINES, 128, NICOISETARN_STUDY_SCRATCH},
+        {lines, LINES, 1, 0},
+        {lines, LINES, 1, 256},
+        {lines, LINES, 1, NICOISETARN_STUDY_SCRATCH - 1},
+        {lines, LINES, 1, NICOISETARN_STUDY_SCRATCH + 1},
+    };
+    const nicoisetarn_study wanted = {NICOISETARN_REFUSED_STUDY, {0, 0, 0, 0}, {0, 0, 0, 0}};
+    uint32_t scratch[NICOISETARN_STUDY_SCRATCH + 1], before[NICOISETARN_STUDY_SCRATCH + 1];
+    fill_scratch(scratch, NICOISETARN_STUDY_SCRATCH + 1);
+    memcpy(before, scratch, sizeof scratch);
+    for (size_t place = 0; place < sizeof refused / sizeof *refused; place++) {
+        const nicoisetarn_study study = nicoisetarn_study_ways(
+            refused[place].items, refused[place].length, refused[place].sets, scratch, refused[place].scratch);
+        CHECK(memcmp(&study, &wanted, sizeof study) == 0);
+        CHECK(memcmp(scratch, before, sizeof scratch) == 0);
+    }
+    CHECK(nicoisetarn_study_ways(many, NICOISETARN_STUDY_ITEMS, 1, scratch, NICOISETARN_STUDY_SCRATCH).hits[0] ==
+          NICOISETARN_STUDY_ITEMS - 1);
+    CHECK(scratch[NICOISETARN_STUDY_SCRATCH] == before[NICOISETARN_STUDY_SCRATCH]);
+}
+
 int main(void) {
     bench b;
     play(&b);
@@ -781,6 +854,7 @@ int main(void) {
     play_dirty_words(&b);
     play_checkpoints(&b);
     play_waits(&b);
+    play_study();
     check_words();
     check_image();
     check_refusals();
@@ -804,5 +878,7 @@ int main(void) {
     check_batch_waits();
     check_batch_lengths();
     check_batch_refused();
+    check_empty_study();
+    check_refused_studies();
     return 0;
 }

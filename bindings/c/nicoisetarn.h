@@ -53,6 +53,15 @@
  *     nicoisetarn_run(&unit, calls, answers, 2); ran
  *     nicoisetarn_answer_at(answers, 1);         value, number 5: 9
  *
+ * The ways study needs no unit: how often a list of line numbers would hit in caches of 1, 2, 3 and 4 ways, with as many
+ * sets as the planner likes.
+ *
+ *     static const uint32_t lines[] = {0, 1, 0, 1};
+ *     static uint32_t scratch[NICOISETARN_STUDY_SCRATCH];
+ *
+ *     nicoisetarn_study_ways(lines, 4, 1, scratch, NICOISETARN_STUDY_SCRATCH);
+ *                                                hits 0, 2, 2, 2; rates 0, 500, 500, 500 per thousand
+ *
  * Who owns what. The bench owns everything: the image of the unit's state, the cache bytes and the memory bytes.
  * A nicoisetarn_unit only says where they are. The library keeps nothing between calls, allocates nothing and may
  * be called from several threads on different units. Image, cache and memory can be copied and stored byte for
@@ -98,6 +107,10 @@ extern "C" {
 #define NICOISETARN_CHECKPOINTS 8    /* places of marks, and the greatest name of one */
 #define NICOISETARN_RECORDS 256      /* tag records: set * ways + way names one */
 #define NICOISETARN_IMAGE_BYTES 2048 /* bytes of an image */
+#define NICOISETARN_STUDY_WAYS 4     /* ways study: with 1 to so many ways */
+#define NICOISETARN_STUDY_ITEMS 65536 /* ways study: the most line numbers of a list */
+#define NICOISETARN_STUDY_LINES 4096 /* ways study: each line number is below so many */
+#define NICOISETARN_STUDY_SCRATCH 640 /* ways study: numbers of the scratch */
 
 /* Profiles that a start may choose: what a drain does with a store. */
 typedef enum nicoisetarn_write_profile {
@@ -166,8 +179,8 @@ typedef enum nicoisetarn_kind {
 
 /*
  * Refusals, by the numbers of the scope paper. The first that applies is given, in the order 1, 10, 2, 3, 4, 5,
- * 13, then 11 or 12; each of 14 to 18 follows 10, and so do 19, 20 and 21, in this order. (6 is the script player's, for
- * a line that it cannot read.)
+ * 13, then 11 or 12; each of 14 to 18 follows 10, and so do 19, 20 and 21, in this order. 22 is the ways study's, and its
+ * only one. (6 is the script player's, for a line that it cannot read.)
  */
 typedef enum nicoisetarn_refusal {
     NICOISETARN_REFUSED_FIGURES = 1,      /* sets, ways or a length is not allowed or disagrees with the image */
@@ -186,7 +199,8 @@ typedef enum nicoisetarn_refusal {
     NICOISETARN_REFUSED_FLUSH = 18,       /* flush: a committed store is held */
     NICOISETARN_REFUSED_NAME = 19,        /* checkpoint, restore: the name is not 1 to 8 */
     NICOISETARN_REFUSED_NAME_IN_USE = 20, /* checkpoint: a mark in force has the name */
-    NICOISETARN_REFUSED_NO_CHECKPOINT = 21 /* restore: no mark has the name; checkpoint: the last number is 4294967295 */
+    NICOISETARN_REFUSED_NO_CHECKPOINT = 21, /* restore: no mark has the name; checkpoint: the last number is 4294967295 */
+    NICOISETARN_REFUSED_STUDY = 22 /* ways study: the list, an item, the set count or the scratch is not allowed */
 } nicoisetarn_refusal;
 
 /* The word of a kind, as the script player prints it; empty where there is no such kind. */
@@ -239,6 +253,7 @@ static inline const char *nicoisetarn_refusal_words(uint32_t number) {
     case NICOISETARN_REFUSED_NAME: return "name outside 1 to 8";
     case NICOISETARN_REFUSED_NAME_IN_USE: return "set: name in use";
     case NICOISETARN_REFUSED_NO_CHECKPOINT: return "return: name not in use, or set when last is 4294967295";
+    case NICOISETARN_REFUSED_STUDY: return "study: list, item, set count or scratch outside its figures";
     default: return "";
     }
 }
@@ -490,6 +505,35 @@ static inline nicoisetarn_answer nicoisetarn_answer_at(const uint32_t *answers, 
     const nicoisetarn_answer answer = {numbers[0], numbers[1], numbers[2]};
     return answer;
 }
+
+/* ---- the ways study */
+
+/*
+ * What a study gives. refusal: 0, or NICOISETARN_REFUSED_STUDY, and then all the others are 0. hits[n]: the items that hit
+ * with n + 1 ways. rates[n]: those hits per thousand items, rounded to the nearest, a half up; 0 for an empty list.
+ */
+typedef struct nicoisetarn_study {
+    uint32_t refusal;
+    uint32_t hits[NICOISETARN_STUDY_WAYS];
+    uint32_t rates[NICOISETARN_STUDY_WAYS];
+} nicoisetarn_study;
+
+NICOISETARN_ASSERT(sizeof(nicoisetarn_study) == 36, "a study has 36 bytes");
+NICOISETARN_ASSERT(offsetof(nicoisetarn_study, hits) == 4, "hits stand behind the refusal");
+NICOISETARN_ASSERT(offsetof(nicoisetarn_study, rates) == 20, "rates stand behind hits");
+
+/*
+ * Runs a list of line numbers through the tags of four caches of so many sets, with 1, 2, 3 and 4 ways. All begin empty.
+ * An item hits where its line is present; an absent line takes the lowest invalid way of its set, else the one used
+ * longest ago; every item uses its line. What hits with some ways hits with more.
+ * The lengths count numbers. The items are only read. The scratch may hold anything, is zero afterwards, and is no part of
+ * the items; neither is NULL, also where its length is 0, and both are aligned as uint32_t are.
+ * Refused by 22: the list has more than NICOISETARN_STUDY_ITEMS items, an item is not below NICOISETARN_STUDY_LINES, the
+ * sets are not 1, 2, 4, 8, 16, 32 or 64, or the scratch has not exactly NICOISETARN_STUDY_SCRATCH numbers. The scratch
+ * then stays as it was.
+ */
+nicoisetarn_study nicoisetarn_study_ways(const uint32_t *items, size_t items_length, uint32_t sets,
+                                         uint32_t *scratch, size_t scratch_length);
 
 /* ---- what an image holds, to be printed or compared; these read whatever is there, refused or not */
 

@@ -20,6 +20,7 @@
 //! - `long`: long random scripts.
 //! - `met`: what scripts met, and what they must meet.
 //! - `struck`: scripts with dropped stretches struck from them.
+//! - `study`: the ways study, with all that belongs to it.
 //! - `arguments`: the command lines of the programs.
 //! - `times`: medians of what was timed.
 //!
@@ -49,6 +50,7 @@ pub mod script;
 pub mod stored;
 pub mod stretch;
 pub mod struck;
+pub mod study;
 pub mod times;
 pub mod traffic;
 pub mod types;

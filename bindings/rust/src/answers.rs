@@ -8,8 +8,8 @@ use crate::boundary::{self, AnswerImage};
 /// changed nothing.
 ///
 /// The first that applies is given, in the order 1, 10, 2, 3, 4, 5, 13, then 11 or
-/// 12; each of 14 to 18 follows 10, and so do 19, 20 and 21, in this order. (6 is the
-/// script player's.)
+/// 12; each of 14 to 18 follows 10, and so do 19, 20 and 21, in this order. 22 is the
+/// ways study's, and its only one. (6 is the script player's.)
 #[derive(Clone, Copy, Debug, PartialEq, Eq, Hash)]
 #[repr(u32)]
 pub enum Refusal {
@@ -49,11 +49,13 @@ pub enum Refusal {
     /// Restore: no mark in force has the name. Checkpoint: the last number is
     /// 4294967295.
     NoCheckpoint = 21,
+    /// Ways study: the list, an item, the set count or the scratch is not allowed.
+    Study = 22,
 }
 
 impl Refusal {
     /// All refusals, by rising numbers.
-    pub const ALL: [Refusal; 17] = [
+    pub const ALL: [Refusal; 18] = [
         Refusal::Figures,
         Refusal::Width,
         Refusal::Alignment,
@@ -71,6 +73,7 @@ impl Refusal {
         Refusal::Name,
         Refusal::NameInUse,
         Refusal::NoCheckpoint,
+        Refusal::Study,
     ];
 
     /// The scope paper's number.
@@ -106,6 +109,7 @@ impl Refusal {
             Refusal::Name => "name outside 1 to 8",
             Refusal::NameInUse => "set: name in use",
             Refusal::NoCheckpoint => "return: name not in use, or set when last is 4294967295",
+            Refusal::Study => "study: list, item, set count or scratch outside its figures",
         }
     }
 }
@@ -197,7 +201,7 @@ pub(crate) fn told(answer: AnswerImage) -> Result<Answer, Refusal> {
 }
 
 /// The refusal of a number that the library gave.
-fn refusal_of(number: u32) -> Refusal {
+pub(crate) fn refusal_of(number: u32) -> Refusal {
     match Refusal::of_number(number) {
         Some(refusal) => refusal,
         None => panic!("the library has no refusal {number}"),

@@ -59,6 +59,22 @@ const _: () = {
     assert!(offset_of!(AnswerImage, first) == 4 && offset_of!(AnswerImage, second) == 8);
 };
 
+/// What a ways study gives, as the library lays it out.
+#[derive(Clone, Copy, Debug)]
+#[repr(C)]
+pub struct StudyResult {
+    /// The number of the refusal, 0 where there is none.
+    pub refusal: u32,
+    pub hits: [u32; 4],
+    pub rates: [u32; 4],
+}
+
+const _: () = {
+    assert!(size_of::<StudyResult>() == 36 && align_of::<StudyResult>() == 4);
+    assert!(offset_of!(StudyResult, refusal) == 0);
+    assert!(offset_of!(StudyResult, hits) == 4 && offset_of!(StudyResult, rates) == 20);
+};
+
 extern "C" {
     fn nicoisetarn_start_2048_in(
         image: *mut Image,
@@ -103,6 +119,14 @@ extern "C" {
         memory: *const u8,
         memory_length: usize,
     ) -> AnswerImage;
+
+    fn nicoisetarn_study_ways(
+        items: *const u32,
+        items_length: usize,
+        sets: u32,
+        scratch: *mut u32,
+        scratch_length: usize,
+    ) -> StudyResult;
 }
 
 /// A start on an image.
@@ -183,6 +207,16 @@ pub fn show_line(image: &Image, address: u32, cache: &[u8], memory: &[u8]) -> An
     // its own length; the library only reads them and keeps no pointer; any bytes
     // are an image.
     unsafe { nicoisetarn_show_line_in(image, address, cache, cache_length, memory, memory_length) }
+}
+
+/// A ways study in a scratch.
+pub fn study_ways(items: &[u32], sets: u32, scratch: &mut [u32]) -> StudyResult {
+    let (items_length, scratch_length) = (items.len(), scratch.len());
+    let (items, scratch) = (items.as_ptr(), scratch.as_mut_ptr());
+    // SAFETY: both references are live, not null, aligned and initialised, and do not
+    // overlap, as the scratch is exclusive; each slice goes with its own length; the
+    // library only reads the items and keeps no pointer.
+    unsafe { nicoisetarn_study_ways(items, items_length, sets, scratch, scratch_length) }
 }
 
 /// The image with these bytes.

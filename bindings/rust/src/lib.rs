@@ -116,6 +116,21 @@
 //! assert!(image.show_line(&cache, &memory, 4).bytes.is_empty());
 //! # Ok::<(), Refusal>(())
 //! ```
+//!
+//! The ways study needs no unit: a planner gives the line numbers of a program, one for
+//! each access, and learns how often they would hit with 1, 2, 3 and 4 ways. The program
+//! `ways` of this crate reads such a list, prints the table and draws it.
+//!
+//! ```
+//! use nicoisetarn::{study_ways, Refusal, STUDY_SCRATCH};
+//!
+//! let mut scratch = [7; STUDY_SCRATCH];
+//! let study = study_ways(&[0, 1, 0, 1], 1, &mut scratch)?;
+//! assert_eq!((study.hits, study.rates), ([0, 2, 2, 2], [0, 500, 500, 500]));
+//! assert_eq!(scratch, [0; STUDY_SCRATCH]);
+//! assert_eq!(study_ways(&[4096], 1, &mut scratch), Err(Refusal::Study));
+//! # Ok::<(), Refusal>(())
+//! ```
 
 #![deny(missing_docs)]
 #![deny(unsafe_code)]
@@ -127,6 +142,7 @@ mod batch;
 mod boundary;
 mod calls;
 mod image;
+mod study;
 mod unit;
 
 pub use answers::{Answer, Refusal};
@@ -136,4 +152,5 @@ pub use image::{
     Checkpoint, Figures, HeldStore, Image, ListedLoad, Tag, WritePolicy, CHECKPOINTS, LINE, LOADS,
     MAX_MEMORY, MAX_SETS, MAX_WAYS, MIN_MEMORY, RECORDS, STORES, WORD,
 };
+pub use study::{study_ways, Study, STUDY_ITEMS, STUDY_LINES, STUDY_SCRATCH, STUDY_WAYS};
 pub use unit::Unit;

@@ -169,7 +169,11 @@ pub extern "C" fn nicoisetarn_show_line_in(
 // The ways study (02, card 5): no image and no call on one. The four hit counts and the four rates, and a scratch that is zero afterwards;
 // or the number of the refusal, zeros, and the scratch as it was.
 #[no_mangle]
-pub extern "C" fn nicoisetarn_study_ways(items: &[u32], sets: u32, scratch: &mut [u32]) -> StudyResult
+pub extern "C" fn nicoisetarn_study_ways(
+    items: &[u32],
+    sets: u32,
+    scratch: &mut [u32],
+) -> StudyResult
     ensures { λ r. ⌜ (r ≡ studied (now (items .entry)) sets (length (now (scratch .entry)))) × (now (scratch .exit) ≡ scratchAfter (now (items .entry)) sets (now (scratch .entry))) ⌝ }
 {
     study::study(items, sets, scratch)

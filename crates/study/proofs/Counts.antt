@@ -19,7 +19,7 @@ use Rattle.rules.proofs.LineFacts.{sets-bound}
 use Rattle.study.specs.declared.StudyResult.{StudyResult}
 use Rattle.study.specs.Study.{scratchSize, lineLimit, itemsAllowed, studyAllowed, hits, hitCount, hitCounts, ratesOf, counted}
 use Rattle.study.specs.Stack.{distance, touched, stacksFrom, distancesFrom, emptyStacks, distances}
-use Rattle.study.specs.Scratch.{placesOf, Kept, TouchedAt, below, tally, oneMore, addedHits, OneMoreFits, CountGiven, RatesFit}
+use Rattle.study.specs.Scratch.{placesOf, HoldsStacks, TouchedAt, below, tally, oneMore, addedHits, OneMoreFits, CountGiven, CountLeft, RatesFit}
 use Rattle.study.specs.Claims.{HitsByDistance}
 use Rattle.study.proofs.Stack.{apart, apart-stacks}
 use Rattle.study.proofs.Distances.{hits-by-distance}
@@ -72,7 +72,8 @@ tally-more d ds = rw (below-more 1 d ds, below-more 2 d ds, below-more 3 d ds, b
 pub record Counting (items : List ℕ) (sets : ℕ) (scratch₀ : List ℕ) (i : ℕ) (scratch hs : List ℕ) : Type 0 where
   pub few : i ≤ length items
   pub long : length scratch ≡ length scratch₀
-  pub kept : Kept sets (stacks sets (take i items)) scratch
+  pub kept : HoldsStacks sets (stacks sets (take i items)) scratch
+  pub rest : (k : ℕ) → placesOf sets ≤ k → getD scratch k 0 ≡ getD scratch₀ k 0
   pub tallied : hs ≡ tally (distances sets (take i items))
 
 module _ (items : List ℕ) (sets : ℕ) (scratch₀ : List ℕ) (given : CountGiven items sets scratch₀) where
@@ -81,7 +82,7 @@ module _ (items : List ℕ) (sets : ℕ) (scratch₀ : List ℕ) (given : CountG
 
   pub counting-none : Counting items sets scratch₀ 0 scratch₀ (replicate 4 0)
   unfolding distances stacksFrom distancesFrom below filter
-  counting-none = record { few = omega arith; long = refl; kept = given .empty; tallied = refl }
+  counting-none = record { few = omega arith; long = refl; kept = given .empty; rest = λ k h. refl; tallied = refl }
 
   pub set-small : (l : ℕ) → l % sets < 64
   set-small l = omega (arith, mod-lt l (some-sets .0), some-sets .1)
@@ -127,11 +128,14 @@ module _ (items : List ℕ) (sets : ℕ) (scratch₀ : List ℕ) (given : CountG
           few = omega arith;
           long = t .long ∙ g .long;
           kept = rw (e, stacks-more sets l (take i items) emptyStacks) (touched-kept sets K scratch next l r (some-sets .0) (g .kept) once t′);
+          rest = λ k a. t .rest k (λ p q z. omega (arith, mod-lt l (some-sets .0))) ∙ g .rest k a;
           tallied = rw (e, distances-more sets l (take i items) emptyStacks, tally-more, ← d, g .tallied);
         }
 
-    pub counting-all : length items ≤ i → hs ≡ tally (distances sets items)
-    counting-all h = rw (← take-all i items h) (g .tallied)
+    pub counting-all : length items ≤ i → CountLeft items sets hs scratch₀ scratch
+    counting-all h =
+        let e : take i items ≡ items = take-all i items h in
+        record { tallied = rw (← e) (g .tallied); long = g .long; held = rw (← e) (g .kept); rest = g .rest }
 
 -- ---- the hits
 

@@ -8,13 +8,13 @@ use native.Mathlib.Nat.{mul-le-mul}
 use native.Mathlib.Omega.{arith}
 use lib.Dec.{ltb, leb}
 use lib.ListN.{getD}
-use borrow.Author.Tests.{ltb-true, leb-true, lt-ltb, le-leb}
-use Rattle.lists.proofs.Cond.{and-left, and-right, and-both}
+use borrow.Author.Tests.{ltb-true, leb-true, lt-ltb}
+use Rattle.lists.proofs.Cond.{and-left, and-right}
 use Rattle.rules.specs.declared.Figures.{Figures}
 use Rattle.rules.specs.declared.WritePolicy.the-variants.{WriteBack}
 use Rattle.rules.specs.Shape.{Hierarchy, geometry, setsAllowed, waysAllowed}
 use Rattle.rules.proofs.LineFacts.{sets-bound}
-use Rattle.study.specs.Study.{tagsOnly, hitsFrom, hits}
+use Rattle.study.specs.Study.{emptyTags, hitsFrom, hits}
 use Rattle.study.specs.Stack.{distancesFrom, distances, emptyStacks}
 use Rattle.study.specs.Claims.{HitsByDistance, Inclusion}
 use Rattle.study.proofs.Items.{Stacked, item-stacked, item-present, item-figures, start-stacked}
@@ -32,15 +32,15 @@ hits-distances f (l ∷ items) K b e g =
 -- ---- from a start
 
 module _ (sets ways : ℕ) (s : setsAllowed sets ≡ true) (w : waysAllowed ways ≡ true) where
-  start : Stacked emptyStacks (tagsOnly sets ways)
+  start : Stacked emptyStacks (emptyTags sets ways)
   start =
       let m = leb-true ways 4 (and-right (leb 1 ways) _ w) in
       start-stacked sets ways (sets-bound sets s .0) (leb-true 1 ways (and-left _ _ w)) m (mul-le-mul (sets-bound sets s .1) m)
 
 pub hits-by-distance : HitsByDistance
-unfolding HitsByDistance hits distances tagsOnly
+unfolding HitsByDistance hits distances emptyTags
 hits-by-distance sets ways items s w =
-    hits-distances (geometry WriteBack sets ways) items emptyStacks (tagsOnly sets ways) refl (start sets ways s w)
+    hits-distances (geometry WriteBack sets ways) items emptyStacks (emptyTags sets ways) refl (start sets ways s w)
 
 -- ---- inclusion
 
@@ -51,7 +51,5 @@ more v w h (d ∷ ds) (suc k) e = more v w h ds k e
 
 pub inclusion : Inclusion
 unfolding Inclusion HitsByDistance
-inclusion sets v w items s a h m k e =
-    let p = and-both (leb 1 v) (leb v 4) (le-leb 1 v a) (le-leb v 4 (omega arith)) in
-    let q = and-both (leb 1 w) (leb w 4) (le-leb 1 w (omega arith)) (le-leb w 4 m) in
-    rw (hits-by-distance sets w items s q) (more v w h (distances sets items) k (rw (hits-by-distance sets v items s p) at e))
+inclusion sets v w items s a b h k e =
+    rw (hits-by-distance sets w items s b) (more v w h (distances sets items) k (rw (hits-by-distance sets v items s a) at e))

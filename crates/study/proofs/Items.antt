@@ -20,10 +20,10 @@ use Rattle.rules.specs.Shape.{Hierarchy, holding, geometry, noTag, tagAt, slots
 use Rattle.rules.specs.Lines.{slotOf, present, useSlot, useLine, victim, cleaned, install, writeBackSlot, fillLine}
 use Rattle.rules.proofs.Recency.{Ages, Aged, used, grown, kept, Recency, recency-ages, ages-recency, recency-same, use-lines, use-table, use-out, use-in, use-recency, victim-range, start-invalid, start-table, start-age}
 use Rattle.rules.proofs.LineFacts.{set-room}
-use Rattle.study.specs.Study.{tagsOnly, accessLine}
+use Rattle.study.specs.Study.{emptyTags, accessLine}
 use Rattle.study.specs.Stack.{touch, touched, distance, emptyStacks}
 use Rattle.study.proofs.Stack.{apart, apart-touched, apart-ends, apart-once, touch-above, touch-below}
-use Rattle.study.proofs.Ages.{ageAt, standsFor, InOrder, use-in-order, in-order-same, hit-tells, distance-least, present-distance}
+use Rattle.study.proofs.InOrder.{ageAt, standsFor, InOrder, use-in-order, in-order-same, hit-tells, distance-least, present-distance}
 
 -- the records of every set are its stack, cut to the ways
 pub record Stacked (K : ℕ → List ℕ) (b : Hierarchy) : Type 0 where
@@ -117,7 +117,7 @@ module _ (K : ℕ → List ℕ) (b : Hierarchy) (g : Stacked K b) (l : ℕ) wher
     use-set s h =
         elim (ℕ-discrete own s) [
           | yes e ↦ rw (eq-eqb own s e) (subst (λ (s : ℕ). InOrder (new .tags) ways (setStart b s) (touch (suc l) (K s))) e
-              (use-in-order ways (firstSlot b l) v (suc l) S (b .tags) (new .tags) ages here low high moved
+              (use-in-order ways (firstSlot b l) v (suc l) S (b .tags) (new .tags) here low high moved
               (new-stands v ∙ there) (λ k d. new-stands k ∙ ap standsFor (same k d)) above below))
           | no d ↦ rw (ne-eqb own s d) (in-order-same ways (setStart b s) (K s) (b .tags) (new .tags)
               (λ k p q. let e = elsewhere s k d p q in (ap (λ (t : Tag). t .age) e, ap standsFor e)) (g .in-order s h))
@@ -238,8 +238,8 @@ item-figures l b =
 
 -- ---- a start
 
-pub start-stacked : (sets ways : ℕ) → 0 < sets → 0 < ways → ways ≤ 4 → sets * ways ≤ 256 → Stacked emptyStacks (tagsOnly sets ways)
-unfolding tagsOnly apart
+pub start-stacked : (sets ways : ℕ) → 0 < sets → 0 < ways → ways ≤ 4 → sets * ways ≤ 256 → Stacked emptyStacks (emptyTags sets ways)
+unfolding emptyTags apart
 start-stacked sets ways ss sw most room =
     record {
       some-set = ss;
@@ -247,7 +247,7 @@ start-stacked sets ways ss sw most room =
       most-ways = most;
       room = room;
       table = start-table f;
-      recency = ages-recency (tagsOnly sets ways) (λ s h. record {
+      recency = ages-recency (emptyTags sets ways) (λ s h. record {
         small = λ k p q. omega (arith, start-age f room s k h p q);
         same = λ j k p q m n e. omega (arith, start-age f room s j h p q, start-age f room s k h m n);
       });

@@ -1,5 +1,6 @@
+pub mod ByComputing
 pub mod Stack
-pub mod Ages
+pub mod InOrder
 pub mod Items
 pub mod Distances
 pub mod Scratch

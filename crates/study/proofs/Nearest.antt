@@ -2,16 +2,12 @@
 use Prim.Native.Nat.{ℕ, _+_, _*_, _/_, _%_, _<_, _≤_}
 use mathlib.Core.Path.{_≡_, refl}
 use native.Mathlib.Nat.{mul-suc, mul-le-mul-left, mod-lt, div-add-mod}
-use native.Mathlib.Numerals.{add-one}
 use native.Mathlib.Omega.{arith}
 use borrow.Author.Tests.{ne-eqb}
-use Rattle.study.specs.Study.{rateOf}
+use Rattle.study.specs.Study.{perThousand, rateOf}
 use Rattle.study.specs.Claims.{HalfUp, RatesNearest}
 
--- b (r + 1), and b r' for a greater r'
-more : (b r : ℕ) → b * (r + 1) ≡ b * r + b
-more b r = rw (add-one r) (mul-suc b r)
-
+-- b r' for a greater r'
 least : (b r k : ℕ) → r < k → b * r + b ≤ b * k
 least b r k h = rw (← mul-suc b r) (mul-le-mul-left b h)
 
@@ -21,7 +17,7 @@ level j k p q = omega arith
 
 module _ (h n : ℕ) (some : 0 < n) where
   abbrev x : ℕ
-  x = 2000 * h + n
+  x = 2 * (perThousand * h) + n
 
   abbrev b : ℕ
   b = 2 * n
@@ -36,10 +32,10 @@ module _ (h n : ℕ) (some : 0 < n) where
   part = mod-lt x (omega arith)
 
   up : HalfUp h n q
-  up = record { low = omega (arith, parts); high = omega (arith, parts, part, more b q) }
+  up = record { low = omega (arith, parts); high = omega (arith, parts, part) }
 
   up-less : (r s : ℕ) → HalfUp h n r → HalfUp h n s → r < s → ⊥
-  up-less r s p t l = omega (arith, p .high, more b r, t .low, least b r s l)
+  up-less r s p t l = omega (arith, p .high, t .low, least b r s l)
 
 nearest : (h n : ℕ) → 0 < n → HalfUp h n (rateOf h n) × ((r : ℕ) → HalfUp h n r → r ≡ rateOf h n)
 unfolding rateOf

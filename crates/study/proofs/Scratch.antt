@@ -15,7 +15,7 @@ use Rattle.lists.specs.Counted.{firstFrom}
 use Rattle.lists.proofs.Counting.{first-hits, first-least, first-same}
 use Rattle.lists.proofs.CountedLoops.{first-hit, first-miss, first-end}
 use Rattle.study.specs.Stack.{touch, distance, touched}
-use Rattle.study.specs.Scratch.{placesOf, Kept, movedTo, TouchedAt}
+use Rattle.study.specs.Scratch.{placesOf, HoldsStacks, movedTo, TouchedAt}
 use Rattle.study.proofs.Stack.{apart, touch-above, touch-below}
 
 -- ---- the loop
@@ -99,7 +99,7 @@ module _ (first m : ℕ) (old : List ℕ) where
 
 -- ---- the stacks
 
-module _ (sets : ℕ) (K : ℕ → List ℕ) (old new : List ℕ) (l r : ℕ) (some : 0 < sets) (g : Kept sets K old)
+module _ (sets : ℕ) (K : ℕ → List ℕ) (old new : List ℕ) (l r : ℕ) (some : 0 < sets) (g : HoldsStacks sets K old)
     (once : (s : ℕ) → apart (K s) ≡ true) (t : TouchedAt (placesOf (l % sets)) (suc l) r old new) where
   abbrev own : ℕ
   own = l % sets
@@ -137,7 +137,7 @@ module _ (sets : ℕ) (K : ℕ → List ℕ) (old new : List ℕ) (l r : ℕ) (s
             ∙ sym (touch-below (suc l) S (once own) r d (omega arith) (stood (omega arith)) (omega arith)))
       ]
 
-  pub touched-kept : Kept sets (touched sets l K) new
+  pub touched-kept : HoldsStacks sets (touched sets l K) new
   unfolding touched
   touched-kept =
       record {

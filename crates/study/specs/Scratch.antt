@@ -8,17 +8,21 @@ use lib.ListN.{length, getD}
 use Rattle.lists.specs.Padded.{filter}
 use Rattle.lists.specs.Counted.{firstFrom}
 use Rattle.rules.specs.Shape.{setsAllowed}
-use Rattle.study.specs.Study.{mostItems, itemsAllowed}
-use Rattle.study.specs.Stack.{mostWays, emptyStacks}
+use Rattle.study.specs.Study.{mostWays, mostItems, itemsAllowed}
+use Rattle.study.specs.Stack.{emptyStacks, stacksFrom, distances}
 
 -- ---- the stacks in the scratch: the first four numbers of each set's stack
+
+-- "one of 01's set counts": the greatest
+abbrev pub mostSets : ℕ
+mostSets = 64
 
 -- where those of set s begin
 abbrev pub placesOf : ℕ → ℕ
 placesOf s = mostWays * s
 
 -- the scratch has the first four numbers of each stack
-pub record Kept (sets : ℕ) (K : ℕ → List ℕ) (scratch : List ℕ) : Type 0 where
+pub record HoldsStacks (sets : ℕ) (K : ℕ → List ℕ) (scratch : List ℕ) : Type 0 where
   pub entry : (s d : ℕ) → s < sets → d < mostWays → getD scratch (placesOf s + d) 0 ≡ getD (K s) d 0
 
 -- what moves to place d of the four from `first` on when m comes first
@@ -28,9 +32,13 @@ movedTo old first m (suc d) = getD old (first + d) 0
 
 -- m comes first of the four numbers from `first` on; r is the place of the four where it was, else 4
 pub record TouchedAt (first m r : ℕ) (old new : List ℕ) : Type 0 where
+  -- the length stays
   pub long : length new ≡ length old
+  -- r is the place where it was
   pub found : r ≡ firstFrom (λ d. eqb (getD old (first + d) 0) m) 0 mostWays
+  -- m comes first, and the numbers before its old place move down by one
   pub moved : (d : ℕ) → d ≤ r → d < mostWays → getD new (first + d) 0 ≡ movedTo old first m d
+  -- every other number stays
   pub rest : (k : ℕ) → (first ≤ k → k < first + mostWays → k ≤ first + r → ⊥) → getD new k 0 ≡ getD old k 0
 
 -- ---- the counts
@@ -62,8 +70,16 @@ pub record CountGiven (items : List ℕ) (sets : ℕ) (scratch : List ℕ) : Typ
   pub lines : itemsAllowed items ≡ true
   pub few : length items ≤ mostItems
   pub shaped : setsAllowed sets ≡ true
-  pub room : placesOf 64 ≤ length scratch
-  pub empty : Kept sets emptyStacks scratch
+  pub room : placesOf mostSets ≤ length scratch
+  pub empty : HoldsStacks sets emptyStacks scratch
+
+-- what the count leaves: the counts of all items, and their stacks in the scratch
+pub record CountLeft (items : List ℕ) (sets : ℕ) (hs old new : List ℕ) : Type 0 where
+  pub tallied : hs ≡ tally (distances sets items)
+  pub long : length new ≡ length old
+  pub held : HoldsStacks sets (stacksFrom sets items emptyStacks) new
+  -- the numbers behind those of the sets stay
+  pub rest : (k : ℕ) → placesOf sets ≤ k → getD new k 0 ≡ getD old k 0
 
 -- what the rates are given: counts and a number of items that are small enough
 pub record RatesFit (hs : List ℕ) (n : ℕ) : Type 0 where

@@ -8,10 +8,7 @@ use lib.Dec.{eqb}
 use lib.ListN.{getD}
 use Rattle.lists.specs.Padded.{filter}
 use Rattle.lists.specs.Counted.{firstFrom}
-
--- "for 1, 2, 3 and 4 ways"
-abbrev pub mostWays : ℕ
-mostWays = 4
+use Rattle.study.specs.Study.{mostWays}
 
 -- ---- one stack
 

@@ -1,5 +1,5 @@
 -- Choosing the ways (02, card 5): a list of line numbers run through 01's tags alone, for 1, 2, 3 and 4 ways. A definition for each
--- sentence of the card, in its order.
+-- sentence of the card, in its order. (That more ways keep every hit is claimed, in Claims.)
 use Prim.Native.Nat.{ℕ, _+_, _*_, _/_}
 use mathlib.Core.Bool.{Bool, cond, _&&_}
 use mathlib.Core.List.{List, [], _∷_}
@@ -15,10 +15,14 @@ use Rattle.study.specs.declared.StudyResult.{StudyResult}
 
 -- ---- the tags
 
+-- "for 1, 2, 3 and 4 ways"
+abbrev pub mostWays : ℕ
+mostWays = 4
+
 -- "through tags alone, empty at first": the records of 01's start, without cache and memory bytes. (The write policy decides nothing here:
 -- no store is written.)
-unfoldable pub tagsOnly : ℕ → ℕ → Hierarchy
-tagsOnly sets ways =
+unfoldable pub emptyTags : ℕ → ℕ → Hierarchy
+emptyTags sets ways =
     let f : Figures = geometry WriteBack sets ways in
     record { figures = f; size = 0; tags = startTags f; cache = []; memory = [] }
 
@@ -35,7 +39,7 @@ hitsFrom [] b = []
 hitsFrom (l ∷ items) b = present b l ∷ hitsFrom items (accessLine l b)
 
 unfoldable pub hits : ℕ → ℕ → List ℕ → List Bool
-hits sets ways items = hitsFrom items (tagsOnly sets ways)
+hits sets ways items = hitsFrom items (emptyTags sets ways)
 
 -- how many hit
 unfoldable pub hitCount : ℕ → ℕ → List ℕ → ℕ
@@ -45,9 +49,13 @@ hitCount sets ways items = length (filter (λ h. h) (hits sets ways items))
 unfoldable pub hitCounts : ℕ → List ℕ → List ℕ
 hitCounts sets items = hitCount sets 1 items ∷ hitCount sets 2 items ∷ hitCount sets 3 items ∷ hitCount sets 4 items ∷ []
 
+-- "per thousand"
+abbrev pub perThousand : ℕ
+perThousand = 1000
+
 -- "rates per thousand, rounded half up; an empty list gives zeros": h hits of n items, 1000 h / n + 1/2 rounded down
 unfoldable pub rateOf : ℕ → ℕ → ℕ
-rateOf h n = cond (eqb n 0) 0 ((2000 * h + n) / (2 * n))
+rateOf h n = cond (eqb n 0) 0 ((2 * (perThousand * h) + n) / (2 * n))
 
 -- "four rates": one for each count
 abbrev pub ratesOf : List ℕ → ℕ → List ℕ
@@ -70,7 +78,7 @@ itemsAllowed items = every (λ l. ltb l lineLimit) items
 abbrev pub scratchSize : ℕ
 scratchSize = 640
 
--- what 22 does not refuse, with a scratch of so many numbers: "with one of 01's set counts"
+-- what 22 does not refuse; size is the length of the scratch. "with one of 01's set counts"
 unfoldable pub studyAllowed : List ℕ → ℕ → ℕ → Bool
 studyAllowed items sets size =
     leb (length items) mostItems && (itemsAllowed items && (setsAllowed sets && eqb size scratchSize))
@@ -81,11 +89,11 @@ abbrev pub counted : ℕ → List ℕ → StudyResult
 counted sets items =
     record { refusal = 0; hits = hitCounts sets items; rates = ratesOf (hitCounts sets items) (length items) }
 
--- "22"; the counts and rates of a refused study, which 02 leaves free, are zero
+-- "22"; 01: a refusal "returns the number alone", so the counts and rates, which the struct has all the same, are zero
 abbrev pub refusedStudy : StudyResult
-refusedStudy = record { refusal = 22; hits = replicate 4 0; rates = replicate 4 0 }
+refusedStudy = record { refusal = 22; hits = replicate mostWays 0; rates = replicate mostWays 0 }
 
--- the result, with a scratch of so many numbers: what they are decides nothing
+-- the result. "empty at first whatever the scratch holds": of the scratch only its length, size, is looked at
 unfoldable pub studied : List ℕ → ℕ → ℕ → StudyResult
 studied items sets size = cond (studyAllowed items sets size) (counted sets items) refusedStudy
 

@@ -5,22 +5,21 @@ ghost use mathlib.Core.Path.{_≡_};
 ghost use mathlib.Core.Bool.{true};
 ghost use Prim.Native.Nat.{_+_, _<_, _≤_};
 ghost use lib.ListN.{length, replicate};
-ghost use Rattle.study.specs.Study.{itemsAllowed, studyAllowed, rateOf, ratesOf, counted, studied, scratchAfter};
-ghost use Rattle.study.specs.Stack.{distances};
-ghost use Rattle.study.specs.Scratch.{RatesFit, TouchedAt, OneMoreFits, CountGiven, tally, oneMore, addedHits};
+ghost use Rattle.study.specs.Study.{mostWays, mostItems, itemsAllowed, studyAllowed, rateOf, ratesOf, counted, studied, scratchAfter};
+ghost use Rattle.study.specs.Scratch.{TouchedAt, OneMoreFits, CountGiven, CountLeft, RatesFit, oneMore, addedHits};
 ghost use Rattle.study.specs.Claims.{Inclusion, HitsByDistance, RatesNearest};
 ghost use Rattle.study.specs.Examples.{Examples};
 use rules::BAD_STUDY;
 
 // "for 1, 2, 3 and 4 ways"
-pub const WAY_COUNTS: usize = 4;
+pub const STUDY_WAYS: usize = 4;
 
 // "The list has at most 65,536 items, each below 4,096."
 pub const MAX_ITEMS: usize = 65536;
 
 pub const LINE_LIMIT: u32 = 4096;
 
-// "The lent scratch has exactly 640 numbers of 32 bits"
+// "The lent scratch has exactly 640 numbers of 32 bits". (The stacks take four for each set, 256 at most; the others are only cleared.)
 pub const SCRATCH_SIZE: usize = 640;
 
 // What a study gives: the number of the refusal, 0 where it is accepted; the hits and the rates per thousand with 1, 2, 3 and 4 ways,
@@ -28,8 +27,8 @@ pub const SCRATCH_SIZE: usize = 640;
 #[repr(C)]
 pub struct StudyResult {
     pub refusal: u32,
-    pub hits: [u32; 4],
-    pub rates: [u32; 4],
+    pub hits: [u32; STUDY_WAYS],
+    pub rates: [u32; STUDY_WAYS],
 }
 
 // ---- the figures
@@ -66,17 +65,18 @@ fn study_allowed(items: &[u32], sets: u32, size: usize) -> bool
 
 // ---- the stacks
 
-// A line comes first of the four numbers of its set; the others up to its old place move down by one. The answer is that place, or 4.
-fn touch_at(scratch: &mut [u32], first: usize, line: u32) -> usize
-    requires { ⌜ first + 4 ≤ length (now scratch) ⌝ }
-    ensures { λ r. ⌜ TouchedAt first line r (now (scratch .entry)) (now (scratch .exit)) ⌝ }
+// An entry (line + 1) comes first of the four numbers of its set; the others up to its old place move down by one. The answer is that
+// place, or 4.
+fn touch_at(scratch: &mut [u32], first: usize, entry: u32) -> usize
+    requires { ⌜ first + mostWays ≤ length (now scratch) ⌝ }
+    ensures { λ r. ⌜ TouchedAt first entry r (now (scratch .entry)) (now (scratch .exit)) ⌝ }
 {
-    let mut carried = line;
+    let mut carried = entry;
     let mut d: usize = 0;
-    while d < WAY_COUNTS {
+    while d < STUDY_WAYS {
         let old = scratch[first + d];
         scratch[first + d] = carried;
-        if old == line {
+        if old == entry {
             return d;
         }
         carried = old;
@@ -88,14 +88,14 @@ fn touch_at(scratch: &mut [u32], first: usize, line: u32) -> usize
 // ---- the counts
 
 fn one_more(n: u32, d: usize, ways: usize) -> u32
-    requires { ⌜ n < 65536 ⌝ }
+    requires { ⌜ n < mostItems ⌝ }
     ensures { λ r. ⌜ r ≡ oneMore n d ways ⌝ }
 {
     if d < ways { n + 1 } else { n }
 }
 
 // An item at distance d is counted.
-fn add_hits(hits: [u32; 4], d: usize) -> [u32; 4]
+fn add_hits(hits: [u32; STUDY_WAYS], d: usize) -> [u32; STUDY_WAYS]
     requires { ⌜ OneMoreFits hits ⌝ }
     ensures { λ r. ⌜ r ≡ addedHits hits d ⌝ }
 {
@@ -106,16 +106,16 @@ fn add_hits(hits: [u32; 4], d: usize) -> [u32; 4]
     [one, two, three, four]
 }
 
-// The hits of the items with 1, 2, 3 and 4 ways. The scratch begins as zeros.
-fn count_hits(items: &[u32], sets: u32, scratch: &mut [u32]) -> [u32; 4]
+// The hits of the items with 1, 2, 3 and 4 ways. The scratch begins as zeros, and is left with the stacks of the items.
+fn count_hits(items: &[u32], sets: u32, scratch: &mut [u32]) -> [u32; STUDY_WAYS]
     requires { ⌜ CountGiven (now items) sets (now scratch) ⌝ }
-    ensures { λ r. ⌜ (r ≡ tally (distances sets (now (items .entry)))) × (length (now (scratch .exit)) ≡ length (now (scratch .entry))) ⌝ }
+    ensures { λ r. ⌜ CountLeft (now (items .entry)) sets r (now (scratch .entry)) (now (scratch .exit)) ⌝ }
 {
-    let mut hits = [0u32; 4];
+    let mut hits = [0u32; STUDY_WAYS];
     let mut i: usize = 0;
     while i < items.len() {
         let l = items[i];
-        let first = WAY_COUNTS * ((l % sets) as usize);
+        let first = STUDY_WAYS * ((l % sets) as usize);
         let d = touch_at(scratch, first, l + 1);
         let more = add_hits(hits, d);
         hits = more;
@@ -126,18 +126,20 @@ fn count_hits(items: &[u32], sets: u32, scratch: &mut [u32]) -> [u32; 4]
 
 // ---- the rates
 
+const PER_THOUSAND: u32 = 1000;
+
 // "rates per thousand, rounded half up; an empty list gives zeros"
 fn rate(hits: u32, n: u32) -> u32
-    requires { ⌜ (hits ≤ 65536) × (n ≤ 65536) ⌝ }
+    requires { ⌜ (hits ≤ mostItems) × (n ≤ mostItems) ⌝ }
     ensures { λ r. ⌜ r ≡ rateOf hits n ⌝ }
 {
     if n == 0 {
         return 0;
     }
-    (2000 * hits + n) / (2 * n)
+    (2 * (PER_THOUSAND * hits) + n) / (2 * n)
 }
 
-fn rates(hits: [u32; 4], n: u32) -> [u32; 4]
+fn rates(hits: [u32; STUDY_WAYS], n: u32) -> [u32; STUDY_WAYS]
     requires { ⌜ RatesFit hits n ⌝ }
     ensures { λ r. ⌜ r ≡ ratesOf hits n ⌝ }
 {
@@ -150,7 +152,7 @@ fn rates(hits: [u32; 4], n: u32) -> [u32; 4]
 
 // ---- the study
 
-// The scratch is cleared before the count, whatever it holds, and behind it.
+// The scratch is cleared before the count, whatever it holds, and after it.
 fn study_accepted(items: &[u32], sets: u32, scratch: &mut [u32]) -> StudyResult
     requires { ⌜ studyAllowed (now items) sets (length (now scratch)) ≡ true ⌝ }
     ensures { λ r. ⌜ (r ≡ counted sets (now (items .entry))) × (now (scratch .exit) ≡ replicate (length (now (scratch .entry))) 0) ⌝ }
@@ -176,8 +178,8 @@ pub fn study(items: &[u32], sets: u32, scratch: &mut [u32]) -> StudyResult
     }
     StudyResult {
         refusal: BAD_STUDY,
-        hits: [0u32; 4],
-        rates: [0u32; 4],
+        hits: [0u32; STUDY_WAYS],
+        rates: [0u32; STUDY_WAYS],
     }
 }
 
@@ -193,7 +195,7 @@ pub fn hits_by_distance()
     ensures { λ r. ⌜ HitsByDistance ⌝ }
 {}
 
-// A rate is the nearest whole number, of two the greater.
+// A rate is the nearest whole number, of two the greater; of no items it is 0.
 pub fn rates_nearest()
     ensures { λ r. ⌜ RatesNearest ⌝ }
 {}

@@ -1,6 +1,6 @@
-//! Starts, calls and batches by numbers, which the crate does not offer: what the
-//! library says of a number that no profile or no call has, and which operands it
-//! looks at.
+//! Starts, calls, batches and studies by numbers, which the crate does not offer: what
+//! the library says of a number that no profile or no call has, which operands it looks
+//! at, and all that a refused study gives.
 #![allow(dead_code)]
 
 use compare::types::{Answer, Call};
@@ -32,6 +32,18 @@ pub type Listed = [u32; 6];
 pub const UNKNOWN: Listed = [255, 0, 0, 0, 0, 0];
 /// A number that is in no answer, to see what is written.
 pub const UNTOUCHED: u32 = 0xA5A5_A5A5;
+
+/// What the library gives for a ways study: the refusal, or 0, the hits and the rates.
+#[derive(Clone, Copy, Debug, PartialEq, Eq)]
+#[repr(C)]
+pub struct StudyNumbers {
+    pub refusal: u32,
+    pub hits: [u32; 4],
+    pub rates: [u32; 4],
+}
+
+/// A refused study.
+pub const STUDY_REFUSED: StudyNumbers = StudyNumbers { refusal: 22, hits: [0; 4], rates: [0; 4] };
 
 extern "C" {
     fn nicoisetarn_start_2048_in(
@@ -68,6 +80,14 @@ extern "C" {
         memory: *mut u8,
         memory_length: usize,
     ) -> Numbers;
+
+    fn nicoisetarn_study_ways(
+        items: *const u32,
+        items_length: usize,
+        sets: u32,
+        scratch: *mut u32,
+        scratch_length: usize,
+    ) -> StudyNumbers;
 }
 
 /// A start by its sets, its ways and the number of its profile.
@@ -173,4 +193,11 @@ pub fn answer_of(answer: Answer) -> Listed {
         Answer::WaitsRequested(number) => (14, number, 0),
     };
     [kind, first, second, 0, 0, 0]
+}
+
+/// A ways study.
+pub fn study(items: &[u32], sets: u32, scratch: &mut [u32]) -> StudyNumbers {
+    let (listed, lent) = (items.len(), scratch.len());
+    // SAFETY: two slices with their lengths, of which one is exclusive.
+    unsafe { nicoisetarn_study_ways(items.as_ptr(), listed, sets, scratch.as_mut_ptr(), lent) }
 }

@@ -15,30 +15,42 @@ zero-numbers-requires c κs = search needs
 
 count-hits-requires : tie.Need-count-hits-requires
 count-hits-requires c κs =
-    let s = c .before .before .before .before .before .before .before in
-    subst (λ (l : List ℕ). CountGiven (s .args .items .now) (s .args .sets) l) (sym (c .before .before .before .zero-numbers .ensures))
-    (allowed-given _ _ _ (allowed-tells _ _ _ (s .pre)))
+    let cleared = c .before .before .before in
+    let entered = cleared .before .before .before .before in
+    subst (λ (l : List ℕ). CountGiven (entered .args .items .now) (entered .args .sets) l) (sym (cleared .zero-numbers .ensures))
+    (allowed-given _ _ _ (allowed-tells _ _ _ (entered .pre)))
 
 zero-numbers-requires-2 : tie.Need-zero-numbers-requires-2
 zero-numbers-requires-2 c κs = search needs
 
 cast-n : tie.Need-cast-n
-cast-n c = omega (arith, allowed-tells _ _ _ (c .before .before .before .before .before .before .before .before .before .before .before .before .before .before .pre) .few)
+cast-n c =
+    let counted = c .before .before .before .before .before .before in
+    let cleared = counted .before .before .before .before in
+    let allowed = cleared .before .before .before .before .pre in
+    omega (arith, allowed-tells _ _ _ allowed .few)
 
 rates-requires : tie.Need-rates-requires
 rates-requires c κs =
-    allowed-rated _ _ _ (allowed-tells _ _ _ (c .before .before .before .before .before .before .before .before .before .before .before .before .before .before .pre)) _ (c .before .before .before .before .before .before .count-hits .ensures .0)
+    let counted = c .before .before .before .before .before .before in
+    let cleared = counted .before .before .before .before in
+    let allowed = cleared .before .before .before .before .pre in
+    allowed-rated _ _ _ (allowed-tells _ _ _ allowed) _ (counted .count-hits .ensures .tallied)
 
 same-length : tie.Need-same-length
 same-length c = search needs
 
 returns : tie.Need-returns
 returns c =
-    let counted = c .before .before .before .before .before .before .before in
-    let cleared = counted .before .before .before .before in (
-      allowed-counted _ _ _ (allowed-tells _ _ _ (c .before .before .before .before .before .before .before .before .before .before .before .before .before .before .before .pre)) _ _ (counted .count-hits .ensures .0) (c .rates .ensures),
-      c .before .before .before .zero-numbers2 .ensures
-          ∙ ap (λ (n : ℕ). replicate n 0) (counted .count-hits .ensures .1 ∙ (ap length (cleared .zero-numbers .ensures) ∙ length-replicate {A = ℕ} (length (c .before .before .before .before .before .before .before .before .before .before .before .before .before .before .before .args .scratch .now)) 0)),
+    let again = c .before .before .before in
+    let counted = again .before .before .before .before in
+    let cleared = counted .before .before .before .before in
+    let entered = cleared .before .before .before .before in
+    let n = length (entered .args .scratch .now) in
+    let hits = counted .count-hits .ensures in (
+      allowed-counted _ _ _ (allowed-tells _ _ _ (entered .pre)) _ _ (hits .tallied) (c .rates .ensures),
+      again .zero-numbers2 .ensures
+          ∙ ap (λ (n : ℕ). replicate n 0) (hits .long ∙ (ap length (cleared .zero-numbers .ensures) ∙ length-replicate {A = ℕ} n 0)),
     )
 
 pub study-accepted-spec : {M : Type 1} → statement M

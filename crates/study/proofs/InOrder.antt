@@ -42,7 +42,7 @@ pub record InOrder (tags : List Tag) (ways f : ℕ) (S : List ℕ) : Type 0 wher
 -- ---- a use, in its set
 
 -- Slot v of the set from slot f on is used, and then stands for m: above its age m does not stand, and below it nothing moves.
-module _ (ways f v m : ℕ) (S : List ℕ) (old new : List Tag) (ages : Ages old ways f) (g : InOrder old ways f S) (low : f ≤ v) (high : v < f + ways)
+module _ (ways f v m : ℕ) (S : List ℕ) (old new : List Tag) (g : InOrder old ways f S) (low : f ≤ v) (high : v < f + ways)
     (moved : (k : ℕ) → f ≤ k → k < f + ways → Aged v (ageAt old v) k (ageAt old k) (ageAt new k))
     (there : standsFor (tagAt new v) ≡ m)
     (others : (k : ℕ) → (k ≡ v → ⊥) → standsFor (tagAt new k) ≡ standsFor (tagAt old k))
