@@ -1,6 +1,6 @@
 //! Times the calls of the proved library beside those of the Rust model, which
 //! makes the same checks at each call, and prints the tables; then lists of calls
-//! (`batches`).
+//! (`batches`) and the ways study (`studies`).
 //!
 //! `cargo bench -- [--rounds N] [--calls N] [--runs N]`: the best of so many rounds,
 //! which alternate, of so many calls each; for lists the medians of so many runs.
@@ -10,6 +10,7 @@ mod batches;
 mod beside;
 #[path = "../tests/numbered/mod.rs"]
 mod numbered;
+mod studies;
 
 use std::hint::black_box;
 use std::ops::Range;
@@ -441,7 +442,8 @@ fn tables(read: &Arguments) -> Result<(), String> {
         read.rounds, read.calls
     );
     SETUPS.into_iter().try_for_each(|setup| table(read, setup))?;
-    batches::tables(read)
+    batches::tables(read)?;
+    studies::table(read)
 }
 
 fn main() -> ExitCode {

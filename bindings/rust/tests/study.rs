@@ -4,6 +4,7 @@
 
 mod numbered;
 
+use compare::counts::Counts;
 use compare::study::random::{self, Input};
 use compare::study::{self, counts, plain};
 use nicoisetarn::{study_ways, Refusal, Study, STUDY_ITEMS, STUDY_LINES, STUDY_SCRATCH};
@@ -33,11 +34,11 @@ fn compared(input: &Input) -> StudyNumbers {
 
 #[test]
 fn random_lists_are_studied_as_by_the_model() {
-    let mut met = Default::default();
+    let mut met = Counts::default();
     for seed in 0..INPUTS {
         let input = random::input(seed);
         compared(&input);
-        counts::add(&mut met, counts::count(&input, &plain::expected(&input)));
+        met.add(&counts::count(&input, &plain::expected(&input)));
     }
     assert_eq!(counts::lacking(&met), Vec::<String>::new());
 }
