@@ -497,10 +497,10 @@ fn policies_of_images() {
 #[test]
 fn refusals_have_their_numbers() {
     let numbers: Vec<u32> = Refusal::ALL.iter().map(|refusal| refusal.number()).collect();
-    assert_eq!(numbers, [1, 2, 3, 4, 5, 10, 11, 12, 13, 14, 15, 16, 17, 18, 19, 20, 21]);
+    assert_eq!(numbers, [1, 2, 3, 4, 5, 10, 11, 12, 13, 14, 15, 16, 17, 18, 19, 20, 21, 22]);
     for refusal in Refusal::ALL {
         assert_eq!(Refusal::of_number(refusal.number()), Some(refusal));
     }
-    assert_eq!([6, 7, 22].map(Refusal::of_number), [None; 3]);
+    assert_eq!([6, 7, 23].map(Refusal::of_number), [None; 3]);
     assert_eq!(Refusal::Flush.to_string(), "refused 18: flush: a committed store is held");
 }
