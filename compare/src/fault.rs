@@ -5,12 +5,18 @@ use crate::faulty;
 use crate::model::{Machine, Right};
 use crate::types::Step;
 
+/// Names the faults of something: there is a right one, `Right`, and in `faulty` one for
+/// each fault, and all of them have the function.
 macro_rules! faults {
-    ($($(#[$doc:meta])* $name:ident),* $(,)?) => {
+    (
+        $(#[$said:meta])*
+        fn $function:ident -> $kind:ty;
+        $($(#[$doc:meta])* $name:ident),* $(,)?
+    ) => {
         /// A way of being wrong.
         #[derive(Clone, Copy, Debug, PartialEq, Eq)]
         pub enum Fault {
-            /// The right model.
+            /// None: the right one.
             None,
             $($(#[$doc])* $name),*
         }
@@ -19,18 +25,23 @@ macro_rules! faults {
         pub const ALL: &[Fault] = &[$(Fault::$name),*];
 
         impl Fault {
-            /// The machine that has this fault.
-            pub fn step(self) -> Step {
+            $(#[$said])*
+            pub fn $function(self) -> $kind {
                 match self {
-                    Fault::None => Right::step,
-                    $(Fault::$name => faulty::$name::step),*
+                    Fault::None => Right::$function,
+                    $(Fault::$name => faulty::$name::$function),*
                 }
             }
         }
     };
 }
 
+pub(crate) use faults;
+
 faults! {
+    /// The machine that has this fault.
+    fn step -> Step;
+
     /// Sham: a load waits without looking.
     LoadAlwaysWaits,
     /// Sham: fills and drains are pretended, bytes move at a flush only.

@@ -8,44 +8,42 @@
 //! adds 1 to the larger ones (in a full set all are 0 then, as with `AgesStartAtZero`).
 
 use super::{faulty, Hits, Planner, Planning, Right};
+use crate::fault::faults;
 
 /// The hits of each item of a list that is allowed.
 pub type ByItem = fn(items: &[u32], sets: u32) -> Vec<Hits>;
 
-macro_rules! faults {
-    ($($(#[$doc:meta])* $name:ident),* $(,)?) => {
-        /// A way of being wrong.
-        #[derive(Clone, Copy, Debug, PartialEq, Eq)]
-        pub enum Fault {
-            /// The right study.
-            None,
-            $($(#[$doc])* $name),*
-        }
+impl Fault {
+    /// The study that has this fault.
+    pub fn study(self) -> Planning {
+        self.planned()().study
+    }
 
-        /// Every fault.
-        pub const ALL: &[Fault] = &[$(Fault::$name),*];
-
-        impl Fault {
-            /// The study that has this fault.
-            pub fn study(self) -> Planning {
-                match self {
-                    Fault::None => Right::study,
-                    $(Fault::$name => faulty::$name::study),*
-                }
-            }
-
-            /// The hits of each item with this fault.
-            pub fn by_item(self) -> ByItem {
-                match self {
-                    Fault::None => Right::by_item,
-                    $(Fault::$name => faulty::$name::by_item),*
-                }
-            }
-        }
-    };
+    /// The hits of each item with this fault.
+    pub fn by_item(self) -> ByItem {
+        self.planned()().by_item
+    }
 }
 
+/// What a planner makes of a list.
+pub struct Planned {
+    study: Planning,
+    by_item: ByItem,
+}
+
+/// A planner with both.
+trait Plans: Planner {
+    fn planned() -> Planned {
+        Planned { study: Self::study, by_item: Self::by_item }
+    }
+}
+
+impl<P: Planner> Plans for P {}
+
 faults! {
+    /// The planner that has this fault.
+    fn planned -> fn() -> Planned;
+
     /// Hits with w ways are those in the ways below w of one cache of four.
     HitsByWayNumber,
     /// The counts of w ways stand at w + 1.
