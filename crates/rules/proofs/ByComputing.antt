@@ -18,7 +18,7 @@ use Rattle.rules.specs.Words.{DrainedTo, Unmarked}
 use Rattle.rules.specs.Lines.{dirtyWords, fillLine}
 use Rattle.rules.specs.Flat.{flatBefore, flatCommitted}
 use Rattle.lists.specs.Bytes.{valueAt}
-use Rattle.rules.specs.Examples.{table, script, stretchOf, whole, seenAnswers, struckAnswers, seenEnd, struckEnd, evicting, inquiring, waitingOnly, draining, otherCache, beginning, past, flatValue, twoLines, reusing, overtaken, evictedFlush, storeMisses, storeHits, afterIdle, writingTwice, storeToRequested, storedLine, drainingThrough, linePresent, marksAfter, markOf, sameByte, oneWord, twoWords, fourWords, evictedWord, bothPresent, threeWords, allDiffer}
+use Rattle.rules.specs.Examples.{seen, table, script, stretchOf, whole, seenAnswers, struckAnswers, seenEnd, struckEnd, evicting, inquiring, waitingOnly, draining, otherCache, beginning, past, flatValue, twoLines, reusing, overtaken, evictedFlush, storeMisses, storeHits, afterIdle, writingTwice, storeToRequested, storedLine, drainingThrough, linePresent, marksAfter, markOf, sameByte, oneWord, twoWords, fourWords, evictedWord, bothPresent, threeWords, allDiffer}
 use Rattle.rules.specs.States.{tag, richTags, richCache, richStores, richLoads, richCheckpoints, richQueues, richLines, cleanTags, cleanCache, clauses, broken, brokenClauses}
 use Rattle.rules.specs.RefusalTable.{startRows, inputRows, stateRows, clauseRows, orderRows, AsStarted, AsGiven, GivenUnder}
 use Rattle.rules.specs.Computed.{computed}
@@ -27,8 +27,7 @@ use Rattle.rules.specs.Computed.{computed}
 
 pub start-refusals : (p : WritePolicy) → AsStarted p startRows
 unfolding computed startRows
-start-refusals WriteBack = refl
-start-refusals WriteThrough = refl
+start-refusals p = refl
 
 pub input-refusals : (p : WritePolicy) → GivenUnder p inputRows
 unfolding computed inputRows
@@ -52,7 +51,7 @@ refusals-in-order WriteThrough = refl
 -- ---- the shared table, and 01's worked script
 
 -- the table: what the rules give is what 01 says, all eight examples
-pub table-holds : map (λ e. e .seen) table ≡ map (λ e. e .expected) table
+pub table-holds : map seen table ≡ map (λ e. e .expected) table
 unfolding computed table
 table-holds = refl
 
@@ -184,8 +183,7 @@ draining-struck-ends = refl
 -- the start of each is accepted
 pub two-lines-start : (p : WritePolicy) → startAnswer (geometry p 1 1) otherCache twoLines ≡ ready
 unfolding computed
-two-lines-start WriteBack = refl
-two-lines-start WriteThrough = refl
+two-lines-start p = refl
 
 -- a value answered after its number was used again: byte 4 is store 1's, byte 5 as found; the dropped store does not count
 pub reusing-answers :

@@ -25,9 +25,14 @@ pub data Shown : Type 0 where
   gives : List Answer → Shown
   numbers : List ℕ → Shown
 
+-- a state, what is looked at there, and what 01 says of it. (A function of the state, and not its value: the checker then computes it once.)
 pub record Example : Type 0 where
-  pub seen : Shown
+  pub at : World
+  pub looked : World → Shown
   pub expected : Shown
+
+abbrev pub seen : Example → Shown
+seen e = e .looked (e .at)
 
 -- a start that found zeros
 abbrev pub fresh : ℕ → ℕ → ℕ → World
@@ -98,40 +103,45 @@ unfoldable pub table : List Example
 table =
     -- "two-byte 43707 stored at 4, byte 17 at 5; a two-byte load at 4 gives 4539"
     record {
-      seen = runs (fresh 1 1 32) (store 4 2 43707 ∷ store 5 1 17 ∷ load 4 2 ∷ []);
+      at = fresh 1 1 32;
+      looked = λ w. runs w (store 4 2 43707 ∷ store 5 1 17 ∷ load 4 2 ∷ []);
       expected = gives (stored 1 ∷ stored 2 ∷ value 3 4539 ∷ []);
     }
     -- "two sets, address 52: line 3, set 1"
     ∷ record {
-      seen = numbers (lineOf 52 ∷ setOf (fresh 2 1 64 .hierarchy) (lineOf 52) ∷ []);
+      at = fresh 2 1 64;
+      looked = λ w. numbers (lineOf 52 ∷ setOf (w .hierarchy) (lineOf 52) ∷ []);
       expected = numbers (3 ∷ 1 ∷ []);
     }
     -- "h 2, last 4: abort 3, 4, 5 pass; 2 and 6 give 16"
     ∷ record {
-      seen = each twoOfFour (abort 3 ∷ abort 4 ∷ abort 5 ∷ abort 2 ∷ abort 6 ∷ []);
+      at = twoOfFour;
+      looked = λ w. each w (abort 3 ∷ abort 4 ∷ abort 5 ∷ abort 2 ∷ abort 6 ∷ []);
       expected = gives (kept 2 ∷ kept 3 ∷ kept 4 ∷ refused 16 ∷ refused 16 ∷ []);
     }
     -- "same: commit 2, 3, 4 pass; 1 and 5 give 15"
     ∷ record {
-      seen = each twoOfFour (commit 2 ∷ commit 3 ∷ commit 4 ∷ commit 1 ∷ commit 5 ∷ []);
+      at = twoOfFour;
+      looked = λ w. each w (commit 2 ∷ commit 3 ∷ commit 4 ∷ commit 1 ∷ commit 5 ∷ []);
       expected = gives (committed 2 ∷ committed 3 ∷ committed 4 ∷ refused 15 ∷ refused 15 ∷ []);
     }
     -- "memory 32: a word at 28 passes, 30 gives 3, 32 gives 4"
     ∷ record {
-      seen = each (fresh 1 1 32) (load 28 4 ∷ load 30 4 ∷ load 32 4 ∷ []);
+      at = fresh 1 1 32;
+      looked = λ w. each w (load 28 4 ∷ load 30 4 ∷ load 32 4 ∷ []);
       expected = gives (waits 1 ∷ refused 3 ∷ refused 4 ∷ []);
     }
     -- "byte value 255 passes, 256 gives 5"
     ∷ record {
-      seen = each (fresh 1 1 32) (store 0 1 255 ∷ store 0 1 256 ∷ []);
+      at = fresh 1 1 32;
+      looked = λ w. each w (store 0 1 255 ∷ store 0 1 256 ∷ []);
       expected = gives (stored 1 ∷ refused 5 ∷ []);
     }
     -- "load 1 of byte 0 waits, store 2 there, commit 2, idle, reply. Idle now does nothing; inquiry 1 gives the old byte;
     -- the next idle drains 2"
     ∷ record {
-      seen =
-          runs (started (geometry WriteBack 1 1) (9 ∷ replicate 15 0))
-          (load 0 1 ∷ store 0 1 7 ∷ commit 2 ∷ idle ∷ reply ∷ idle ∷ retry 1 ∷ idle ∷ []);
+      at = started (geometry WriteBack 1 1) (9 ∷ replicate 15 0);
+      looked = λ w. runs w (load 0 1 ∷ store 0 1 7 ∷ commit 2 ∷ idle ∷ reply ∷ idle ∷ retry 1 ∷ idle ∷ []);
       expected =
           gives
           (waits 1 ∷ stored 2 ∷ committed 2 ∷ requested 0 ∷ filled 0 ∷ idled ∷ value 1 9 ∷ drained 2 ∷ []);
@@ -139,14 +149,11 @@ table =
     -- "one set, two ways: fill line 0, fill line 1, use 0; filling line 2 evicts 1": the victim is way 1, where line 1 was;
     -- then line 0 is in way 0, line 1 is absent (no way below 2 has it), and line 2 is in way 1
     ∷ record {
-      seen =
-          numbers
-          (slotOf twoFilled 1
-          ∷ victim twoFilled 2
-          ∷ slotOf (fillLine 2 twoFilled) 0
-          ∷ slotOf (fillLine 2 twoFilled) 1
-          ∷ slotOf (fillLine 2 twoFilled) 2
-          ∷ []);
+      at = world emptyQueues twoFilled;
+      looked = λ w.
+          let b = w .hierarchy in
+          let c = fillLine 2 b in
+          numbers (slotOf b 1 ∷ victim b 2 ∷ slotOf c 0 ∷ slotOf c 1 ∷ slotOf c 2 ∷ []);
       expected = numbers (1 ∷ 1 ∷ 0 ∷ 2 ∷ 1 ∷ []);
     }
     ∷ []
