@@ -272,7 +272,7 @@ past r = historyOf noHistory (r .calls) (beginning r)
 
 -- what flat memory holds for the load that last took number i
 abbrev pub flatValue : ℕ → Run → ℕ
-flatValue i r = valueAt (flatBefore i (past r) (r .found)) (loadOf i (past r) .address) (loadOf i (past r) .width)
+flatValue i r = let h = past r in valueAt (flatBefore i h (r .found)) (loadOf i h .address) (loadOf i h .width)
 
 -- two lines, in which byte a is a + 1
 abbrev pub twoLines : List ℕ
@@ -349,13 +349,15 @@ pub record AfterIdle : Type 0 where
   pub request : Request
 
 abbrev pub afterIdle : World → AfterIdle
-afterIdle w = record {
-  says = answer idle w;
-  memory = next idle w .hierarchy .memory;
-  cache = next idle w .hierarchy .cache;
-  records = take 2 (next idle w .hierarchy .tags);
-  request = next idle w .queues .request;
-}
+afterIdle w =
+    let v = next idle w in
+    record {
+      says = answer idle w;
+      memory = v .hierarchy .memory;
+      cache = v .hierarchy .cache;
+      records = take 2 (v .hierarchy .tags);
+      request = v .queues .request;
+    }
 
 -- a store to an absent line; the line comes for a load; a store to the line; a flush
 unfoldable pub writingTwice : WritePolicy → Run
