@@ -796,9 +796,7 @@ static void play_study(void) {
         printf("ways %lu: hits %lu, rate %lu\n", (unsigned long)place + 1, (unsigned long)study.hits[place],
                (unsigned long)study.rates[place]);
     }
-    for (size_t at = 0; at < NICOISETARN_STUDY_SCRATCH; at++) {
-        CHECK(scratch[at] == 0);
-    }
+    CHECK(all_zero((const uint8_t *)scratch, sizeof scratch));
 }
 
 /* An empty list gives zeros, and clears the scratch. */
@@ -811,9 +809,11 @@ static void check_empty_study(void) {
     CHECK(all_zero((const uint8_t *)scratch, sizeof scratch));
 }
 
-/* 22 for each figure alone: the result is zeros, and items and scratch stay, whatever its length. */
+/* As many items as a study takes, and one more, all of line 0. */
+static const uint32_t many[NICOISETARN_STUDY_ITEMS + 1];
+
+/* 22 for each figure alone: the result is zeros, and the scratch stays, whatever its length. */
 static void check_refused_studies(void) {
-    static uint32_t many[NICOISETARN_STUDY_ITEMS + 1];
     const uint32_t too_high[] = {0, NICOISETARN_STUDY_LINES};
     const struct {
         const uint32_t *items;
@@ -841,9 +841,17 @@ static void check_refused_studies(void) {
         CHECK(memcmp(&study, &wanted, sizeof study) == 0);
         CHECK(memcmp(scratch, before, sizeof scratch) == 0);
     }
-    CHECK(nicoisetarn_study_ways(many, NICOISETARN_STUDY_ITEMS, 1, scratch, NICOISETARN_STUDY_SCRATCH).hits[0] ==
-          NICOISETARN_STUDY_ITEMS - 1);
-    CHECK(scratch[NICOISETARN_STUDY_SCRATCH] == before[NICOISETARN_STUDY_SCRATCH]);
+}
+
+/* The longest list is accepted, and nothing past the scratch is written. */
+static void check_longest_study(void) {
+    uint32_t scratch[NICOISETARN_STUDY_SCRATCH + 1];
+    memset(scratch, 0xA5, sizeof scratch);
+    const uint32_t behind = scratch[NICOISETARN_STUDY_SCRATCH];
+    const nicoisetarn_study study =
+        nicoisetarn_study_ways(many, NICOISETARN_STUDY_ITEMS, 1, scratch, NICOISETARN_STUDY_SCRATCH);
+    CHECK(study.hits[0] == NICOISETARN_STUDY_ITEMS - 1 && study.rates[0] == 1000);
+    CHECK(scratch[NICOISETARN_STUDY_SCRATCH - 1] == 0 && scratch[NICOISETARN_STUDY_SCRATCH] == behind);
 }
 
 int main(void) {
@@ -880,5 +888,6 @@ int main(void) {
     check_batch_refused();
     check_empty_study();
     check_refused_studies();
+    check_longest_study();
     return 0;
 }

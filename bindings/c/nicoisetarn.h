@@ -53,8 +53,8 @@
  *     nicoisetarn_run(&unit, calls, answers, 2); ran
  *     nicoisetarn_answer_at(answers, 1);         value, number 5: 9
  *
- * The ways study needs no unit: how often a list of line numbers would hit in caches of 1, 2, 3 and 4 ways, with as many
- * sets as the planner likes.
+ * The ways study needs no unit: how often a list of line numbers would hit in caches of 1, 2, 3 and 4 ways, with 1, 2, 4, 8,
+ * 16, 32 or 64 sets.
  *
  *     static const uint32_t lines[] = {0, 1, 0, 1};
  *     static uint32_t scratch[NICOISETARN_STUDY_SCRATCH];
@@ -64,8 +64,8 @@
  *
  * Who owns what. The bench owns everything: the image of the unit's state, the cache bytes and the memory bytes.
  * A nicoisetarn_unit only says where they are. The library keeps nothing between calls, allocates nothing and may
- * be called from several threads on different units. Image, cache and memory can be copied and stored byte for
- * byte, as long as the three stay together.
+ * be called from several threads on different units, and for studies with different scratches. Image, cache and memory
+ * can be copied and stored byte for byte, as long as the three stay together.
  *
  * What the bench owes at each call. The three pointers are not NULL, also where a length is 0; they point to
  * initialised bytes that can be read and written, and that do not overlap; nobody else writes them during the
@@ -527,7 +527,8 @@ NICOISETARN_ASSERT(offsetof(nicoisetarn_study, rates) == 20, "rates stand behind
  * An item hits where its line is present; an absent line takes the lowest invalid way of its set, else the one used
  * longest ago; every item uses its line. What hits with some ways hits with more.
  * The lengths count numbers. The items are only read. The scratch may hold anything, is zero afterwards, and is no part of
- * the items; neither is NULL, also where its length is 0, and both are aligned as uint32_t are.
+ * the items; neither is NULL, also where its length is 0; both are aligned as uint32_t are, and nobody else writes them
+ * during the call.
  * Refused by 22: the list has more than NICOISETARN_STUDY_ITEMS items, an item is not below NICOISETARN_STUDY_LINES, the
  * sets are not 1, 2, 4, 8, 16, 32 or 64, or the scratch has not exactly NICOISETARN_STUDY_SCRATCH numbers. The scratch
  * then stays as it was.

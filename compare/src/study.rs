@@ -1,8 +1,8 @@
 //! The ways study of card 5: a list of line numbers run through the tags of four caches,
 //! of 1, 2, 3 and 4 ways, which keep their records in a lent scratch.
 //!
-//! `Right` is this study and nothing else. It asks for its steps by `Self`, so that
-//! another planner can have one of them otherwise.
+//! `Planner` has the right study as steps that ask for each other by `Self`; `Right`
+//! overrides none of them, a planner of `faulty` one.
 //!
 //! - `plain`: the card once more, from the list alone.
 //! - `fault`: the named ways of being wrong; `faulty` has a planner for each.
@@ -17,7 +17,7 @@ pub mod random;
 
 /// Items of the longest list.
 pub const MAX_ITEMS: usize = 65_536;
-/// Line numbers, from 0.
+/// Each line number is below this.
 pub const LINES: u32 = 4_096;
 /// The most sets; each power of two up to it is a set count.
 pub const MAX_SETS: u32 = 64;
@@ -28,7 +28,7 @@ pub const RECORDS: usize = WAYS * (WAYS + 1) / 2;
 /// Numbers of the scratch: a record for each way of each set of each cache.
 pub const SCRATCH: usize = MAX_SETS as usize * RECORDS;
 /// What the rates are out of.
-pub const PER: u32 = 1_000;
+pub const PER_THOUSAND: u32 = 1_000;
 /// The refusal of a list, item, set count or scratch outside the figures.
 pub const REFUSAL: u32 = 22;
 
@@ -219,7 +219,7 @@ pub trait Planner {
         if items == 0 {
             return 0;
         }
-        (2 * PER * hits + items) / (2 * items)
+        (2 * PER_THOUSAND * hits + items) / (2 * items)
     }
 
     /// Leaves the scratch zero.

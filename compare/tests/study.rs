@@ -102,33 +102,47 @@ fn longest_list() {
     assert_eq!(studied(&pairs, 1), Study { hits: [0, 65_534, 65_534, 65_534], rates });
 }
 
-/// Each refusal beside a neighbour that is accepted.
+/// A list that is too long, beside the longest.
 #[test]
-fn refusals_and_neighbours() {
+fn lists_outside() {
     assert_eq!((MAX_ITEMS, LINES, MAX_SETS, SCRATCH, REFUSAL), (65_536, 4_096, 64, 640, 22));
     assert!(is_refused(&vec![0; 65_537], 1, 640));
     assert_eq!(studied(&vec![0; 65_536], 1).hits, [65_535; WAYS]);
-    for bad in [4_096, 4_097, 65_536, u32::MAX] {
-        for at in 0..3 {
-            let mut items = [4_095; 3];
-            items[at] = bad;
-            assert!(is_refused(&items, 1, 640), "{bad} at {at}");
-        }
+}
+
+/// Items that are no line, at each place, beside the last line.
+#[test]
+fn items_outside() {
+    let bad = [4_096, 4_097, 65_536, u32::MAX];
+    for (bad, at) in bad.into_iter().flat_map(|bad| [0, 1, 2].map(|at| (bad, at))) {
+        let mut items = [4_095; 3];
+        items[at] = bad;
+        assert!(is_refused(&items, 1, 640), "{bad} at {at}");
     }
     assert_eq!(studied(&[4_095; 3], 1).hits, [2; WAYS]);
-    for sets in (0..300).chain([1 << 31, u32::MAX]) {
-        for items in [&[][..], &[0, 1, 0]] {
-            assert_eq!(is_refused(items, sets, 640), !SETS.contains(&sets), "{sets} sets");
-        }
-    }
-    for length in 0..1_300 {
-        for items in [&[][..], &[0, 1, 0]] {
-            assert_eq!(is_refused(items, 1, length), length != 640, "scratch of {length}");
-        }
+}
+
+/// A list that is empty, and one that is not.
+const LISTS: [&[u32]; 2] = [&[], &[0, 1, 0]];
+
+/// Every set count is one of the paper's, or refused.
+#[test]
+fn set_counts_outside() {
+    let counts = (0..300).chain([1 << 31, u32::MAX]);
+    for (sets, items) in counts.flat_map(|sets| LISTS.map(|items| (sets, items))) {
+        assert_eq!(is_refused(items, sets, 640), !SETS.contains(&sets), "{sets} sets");
     }
 }
 
-/// Every short list of five lines, with one set and with two.
+/// Every other length of the scratch is refused.
+#[test]
+fn scratches_outside() {
+    for (length, items) in (0..1_300).flat_map(|length| LISTS.map(|items| (length, items))) {
+        assert_eq!(is_refused(items, 1, length), length != 640, "scratch of {length}");
+    }
+}
+
+/// Every list of at most seven items of five lines, with one set and with two.
 #[test]
 fn every_short_list() {
     const LONGEST: u32 = 7;

@@ -4,6 +4,7 @@
 use std::mem::{align_of, offset_of, size_of, transmute};
 
 use crate::image::{Figures, Image};
+use crate::study::STUDY_WAYS;
 
 // Kinds of answers.
 pub const KIND_REFUSED: u32 = 0;
@@ -65,8 +66,8 @@ const _: () = {
 pub struct StudyResult {
     /// The number of the refusal, 0 where there is none.
     pub refusal: u32,
-    pub hits: [u32; 4],
-    pub rates: [u32; 4],
+    pub hits: [u32; STUDY_WAYS],
+    pub rates: [u32; STUDY_WAYS],
 }
 
 const _: () = {

@@ -17,7 +17,7 @@ const INPUTS: u64 = 20_000;
 fn numbers(answer: Result<study::Study, u32>) -> StudyNumbers {
     match answer {
         Ok(study) => StudyNumbers { refusal: 0, hits: study.hits, rates: study.rates },
-        Err(_) => STUDY_REFUSED,
+        Err(refusal) => StudyNumbers { refusal, ..STUDY_REFUSED },
     }
 }
 
@@ -48,24 +48,39 @@ fn input(items: Vec<u32>, sets: u32, scratch: usize) -> Input {
     Input { seed: 0, items, sets, scratch: (1..=scratch as u32).collect() }
 }
 
+/// Items that are allowed.
+const LINES: [u32; 4] = [0, 5, 0, STUDY_LINES - 1];
+
 #[test]
-fn each_limit_alone_refuses() {
-    let lines = || vec![0, 5, 0, STUDY_LINES - 1];
+fn set_counts_alone_refuse() {
     for sets in (0..130).chain([256, 1 << 31, u32::MAX]) {
         let allowed = sets.is_power_of_two() && sets <= 64;
-        let told = compared(&input(lines(), sets, STUDY_SCRATCH));
+        let told = compared(&input(LINES.to_vec(), sets, STUDY_SCRATCH));
         assert_eq!(told == STUDY_REFUSED, !allowed, "{sets} sets");
     }
-    for scratch in (0..2 * STUDY_SCRATCH).filter(|length| *length != STUDY_SCRATCH) {
-        assert_eq!(compared(&input(lines(), 1, scratch)), STUDY_REFUSED, "scratch of {scratch}");
+}
+
+#[test]
+fn scratches_alone_refuse() {
+    for scratch in 0..2 * STUDY_SCRATCH {
+        let told = compared(&input(LINES.to_vec(), 1, scratch));
+        assert_eq!(told == STUDY_REFUSED, scratch != STUDY_SCRATCH, "scratch of {scratch}");
     }
-    for item in [STUDY_LINES, STUDY_LINES + 1, 1 << 16, 1 << 31, u32::MAX] {
-        for place in 0..4 {
-            let mut items = lines();
-            items[place] = item;
-            assert_eq!(compared(&input(items, 1, STUDY_SCRATCH)), STUDY_REFUSED, "item {item}");
-        }
+}
+
+#[test]
+fn items_alone_refuse() {
+    let bad = [STUDY_LINES, STUDY_LINES + 1, 1 << 16, 1 << 31, u32::MAX];
+    for (place, item) in (0..4).flat_map(|place| bad.map(|item| (place, item))) {
+        let mut items = LINES.to_vec();
+        items[place] = item;
+        let told = compared(&input(items, 1, STUDY_SCRATCH));
+        assert_eq!(told, STUDY_REFUSED, "item {item} at {place}");
     }
+}
+
+#[test]
+fn lengths_of_lists() {
     let longest = compared(&input(vec![7; STUDY_ITEMS], 64, STUDY_SCRATCH));
     assert_eq!((longest.hits, longest.rates), ([STUDY_ITEMS as u32 - 1; 4], [1000; 4]));
     assert_eq!(compared(&input(vec![7; STUDY_ITEMS + 1], 64, STUDY_SCRATCH)), STUDY_REFUSED);

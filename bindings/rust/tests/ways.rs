@@ -1,7 +1,9 @@
 //! The program `ways`: its table and its picture of a stored list, which stand in docs/,
 //! and what it says of input that it cannot read.
 
+use std::ffi::OsStr;
 use std::io::Write;
+use std::os::unix::ffi::OsStrExt;
 use std::path::{Path, PathBuf};
 use std::process::{Command, Output, Stdio};
 use std::{env, fs, process};
@@ -12,7 +14,7 @@ fn page(name: &str) -> PathBuf {
 }
 
 /// Runs the program with some words on its command line and this input.
-fn run(words: &[&str], input: &[u8]) -> Output {
+fn run(words: &[&OsStr], input: &[u8]) -> Output {
     let mut program = Command::new(env!("CARGO_BIN_EXE_ways"))
         .args(words)
         .stdin(Stdio::piped())
@@ -51,7 +53,7 @@ fn the_stored_list_has_this_table_and_this_picture() {
     assert_eq!(printed(&list), table);
 
     let drawn = env::temp_dir().join(format!("ways-{}.svg", process::id()));
-    let output = run(&["--svg", drawn.to_str().expect("a name")], &list);
+    let output = run(&["--svg".as_ref(), drawn.as_os_str()], &list);
     let picture = fs::read_to_string(&drawn).expect("it is drawn");
     fs::remove_file(&drawn).expect("it goes");
     assert!(output.status.success());
@@ -96,24 +98,42 @@ fn malformed_input_is_refused_at_its_line() {
     for (input, said) in wrong {
         assert_eq!(refused(input.as_bytes()), said, "{input:?}");
     }
-    let long = format!("4\n{}\n", "9".repeat(1000));
-    assert_eq!(refused(long.as_bytes()), format!("line 2: {:?}.. is not {line}", "9".repeat(24)));
-    assert_eq!(refused(b"4\n\xFF\n"), format!("line 2: \"\u{FFFD}\" is not {line}"));
+    assert_eq!(refused(b"4\n1\n\xFF\n"), format!("line 3: \"\u{FFFD}\" is not {line}"));
+}
+
+#[test]
+fn long_lines_are_refused_unread() {
+    let said = |line| format!("line {line}: longer than 64 bytes");
+    let line = |length: usize| " ".repeat(length - 1) + "7";
+    assert!(printed(format!("1\n{}\n{}", line(63), line(63)).as_bytes()).contains("500"));
+    assert_eq!(refused(format!("1\n{}\n", line(64)).as_bytes()), said(2));
+    assert_eq!(refused(&b"\0".repeat(10_000_000)), said(1));
 }
 
 #[test]
 fn the_longest_list_is_accepted_and_no_longer_one() {
     let longest = "2\n".to_string() + &"5\n".repeat(65_536);
     assert!(printed(longest.as_bytes()).contains("   1  65535          1000\n"));
-    let longer = longest + "5\n";
-    assert_eq!(refused(longer.as_bytes()), "line 65538: more than 65536 line numbers");
+    let refused = |more| refused((longest.clone() + more).as_bytes());
+    assert_eq!(refused("5\n"), "line 65538: more than 65536 line numbers");
+    assert_eq!(refused("\n"), "line 65538: empty, in place of a line number (0 to 4095)");
 }
 
 #[test]
 fn other_words_are_refused() {
-    for words in [&["--svg"][..], &["--svg", "a", "b"], &["list.txt"], &["--help"]] {
+    let odd = OsStr::from_bytes(b"\xFF");
+    let [svg, name] = ["--svg", "list.txt"].map(OsStr::new);
+    for words in [&[svg][..], &[svg, name, name], &[name], &[odd], &[odd, name]] {
         let output = run(words, b"4\n");
         assert!(!output.status.success() && output.stdout.is_empty(), "{words:?}");
         assert_eq!(output.stderr, b"ways: called as ways [--svg FILE] < LIST\n", "{words:?}");
     }
+}
+
+#[test]
+fn a_picture_that_cannot_be_written_is_told_before_the_table() {
+    let nowhere = OsStr::from_bytes(b"no such folder/\xFF.svg");
+    let output = run(&["--svg".as_ref(), nowhere], b"4\n");
+    assert!(!output.status.success() && output.stdout.is_empty(), "{output:?}");
+    assert!(output.stderr.starts_with(b"ways: no such folder/"), "{output:?}");
 }

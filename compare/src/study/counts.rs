@@ -4,7 +4,7 @@ use std::collections::BTreeMap;
 
 use super::plain::{outside, Expected};
 use super::random::{Input, ONE_CACHE};
-use super::{Hits, Study, LINES, MAX_ITEMS, PER, SCRATCH, WAYS};
+use super::{Hits, Study, LINES, MAX_ITEMS, PER_THOUSAND, SCRATCH, WAYS};
 use crate::counts::{Counts, Needed};
 
 /// What must be met, each with a number: once in so many inputs is enough.
@@ -103,6 +103,7 @@ pub fn count(input: &Input, expected: &Expected) -> Counts {
         Ok(study) => {
             count_input(&mut counts, input);
             count_hits(&mut counts, input, &expected.hits);
+            count_evictions(&mut counts, input, &expected.hits);
             count_rates(&mut counts, input.items.len() as u32, study);
         }
         Err(_) => count_refusal(&mut counts, input),
@@ -129,25 +130,28 @@ fn count_input(counts: &mut Counts, input: &Input) {
     counts.met("study with line 4,095", input.items.contains(&(LINES - 1)));
 }
 
-/// Counts hits by the fewest ways that do, and evictions: each miss fetches a line, and
-/// with w ways a set has room for w.
+/// Counts hits by the fewest ways that do, and late misses.
 fn count_hits(counts: &mut Counts, input: &Input, hits: &[Hits]) {
     for (at, name) in HITS.into_iter().enumerate() {
         counts.met(name, hits.iter().any(|item| item[at] && !item[..at].contains(&true)));
     }
-    let mut fetched: BTreeMap<u32, [usize; WAYS]> = BTreeMap::new();
     let mut used = vec![false; LINES as usize];
-    let mut again = false;
+    let again = input.items.iter().zip(hits).any(|(line, item)| {
+        let before = std::mem::replace(&mut used[*line as usize], true);
+        before && !item[WAYS - 1]
+    });
+    counts.met("miss with 4 ways of a line used before", again);
+}
+
+/// Counts evictions: each miss fetches a line, and with w ways a set has room for w.
+fn count_evictions(counts: &mut Counts, input: &Input, hits: &[Hits]) {
+    let mut fetched: BTreeMap<u32, [usize; WAYS]> = BTreeMap::new();
     for (line, item) in input.items.iter().zip(hits) {
         let set = fetched.entry(line % input.sets).or_default();
         set.iter_mut().zip(item).for_each(|(misses, hit)| *misses += usize::from(!hit));
-        again |= used[*line as usize] && !item[WAYS - 1];
-        used[*line as usize] = true;
     }
-    counts.met("miss with 4 ways of a line used before", again);
-    for (at, name) in EVICTIONS.into_iter().enumerate() {
-        counts.met(name, fetched.values().any(|misses| misses[at] > at + 1));
-    }
+    let evicted = |at: usize| fetched.values().any(|misses| misses[at] > at + 1);
+    EVICTIONS.into_iter().enumerate().for_each(|(at, name)| counts.met(name, evicted(at)));
 }
 
 /// Counts where the rates lie between whole numbers.
@@ -155,9 +159,9 @@ fn count_rates(counts: &mut Counts, items: u32, study: &Study) {
     if items == 0 {
         return;
     }
-    // In parts of an item: the whole number below each rate, and what is above that.
-    let whole = study.hits.map(|hits| PER * hits / items);
-    let above = study.hits.map(|hits| PER * hits % items);
+    // The whole number below each rate, and the rest, in parts of the number of items.
+    let whole = study.hits.map(|hits| PER_THOUSAND * hits / items);
+    let above = study.hits.map(|hits| PER_THOUSAND * hits % items);
     let half = above.map(|above| 2 * above == items);
     for (name, half) in HALVES.into_iter().zip(half) {
         counts.met(name, half);
@@ -167,7 +171,7 @@ fn count_rates(counts: &mut Counts, items: u32, study: &Study) {
     counts.met("rate at a half above an odd number", parity(1));
     counts.met("rate rounded up", above.iter().any(|above| 2 * above > items));
     counts.met("rate rounded down", above.iter().any(|above| *above != 0 && 2 * above < items));
-    counts.met("rate of a thousand", study.rates.contains(&PER));
+    counts.met("rate of a thousand", study.rates.contains(&PER_THOUSAND));
 }
 
 /// Counts what is outside the figures.

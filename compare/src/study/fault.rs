@@ -1,11 +1,12 @@
-//! The named ways of a study to be wrong. Each is a planner of its own in `faulty`; a row
-//! here names it, and the compiler asks for the planner.
+//! The faults of a study, by name. Each is a planner of its own in `faulty`; a row here
+//! names it, and the compiler asks for the planner.
 //!
-//! Left out, since the answers are the same: a victim of greatest age though a way is
-//! invalid, or the highest invalid way (until a set is full its invalid ways have the
+//! Left out, since they answer as the right study: a victim of greatest age though a way
+//! is invalid, or the highest invalid way (until a set is full its invalid ways have the
 //! greatest ages, and no answer tells a way); a use that adds 1 to every other age where
-//! ages have room for it (they keep the order of use); a use that leaves the other ages, or
-//! adds 1 to the larger ones (in a full set all are 0 then, as with `AgesStartAtZero`).
+//! ages have room for it (they keep the order of use). Left out, since they answer as
+//! `AgesStartAtZero`: a use that leaves the other ages, or adds 1 to the larger ones (in a
+//! full set all are 0 then).
 
 use super::{faulty, Hits, Planner, Planning, Right};
 use crate::fault::faults;
@@ -25,13 +26,13 @@ impl Fault {
     }
 }
 
-/// What a planner makes of a list.
+/// The two functions of a planner.
 pub struct Planned {
     study: Planning,
     by_item: ByItem,
 }
 
-/// A planner with both.
+/// Every planner has both.
 trait Plans: Planner {
     fn planned() -> Planned {
         Planned { study: Self::study, by_item: Self::by_item }
@@ -41,7 +42,7 @@ trait Plans: Planner {
 impl<P: Planner> Plans for P {}
 
 faults! {
-    /// The planner that has this fault.
+    /// Gives the functions of the planner that has this fault.
     fn planned -> fn() -> Planned;
 
     /// Hits with w ways are those in the ways below w of one cache of four.
@@ -135,7 +136,7 @@ faults! {
     TakesAnyLastItem,
     /// Items are checked by their low 16 bits.
     TakesHighItems,
-    /// No set is taken.
+    /// A set count of 0 is taken.
     TakesNoSets,
     /// Three sets are taken.
     TakesThreeSets,

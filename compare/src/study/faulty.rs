@@ -4,7 +4,7 @@
 use super::random::ONE_CACHE;
 use super::{
     age, present, ways, Hits, Planner, Right, Study, AGE, LINES, LINE_UNIT, MAX_ITEMS, MAX_SETS,
-    PER, RECORDS, SCRATCH, WAYS,
+    PER_THOUSAND, RECORDS, SCRATCH, WAYS,
 };
 
 // The counts.
@@ -191,7 +191,7 @@ pub struct RateRoundedDown;
 
 impl Planner for RateRoundedDown {
     fn rate(hits: u32, items: u32) -> u32 {
-        (PER * hits).checked_div(items).unwrap_or(0)
+        (PER_THOUSAND * hits).checked_div(items).unwrap_or(0)
     }
 }
 
@@ -199,7 +199,7 @@ pub struct RateRoundedUp;
 
 impl Planner for RateRoundedUp {
     fn rate(hits: u32, items: u32) -> u32 {
-        (PER * hits).div_ceil(items.max(1))
+        (PER_THOUSAND * hits).div_ceil(items.max(1))
     }
 }
 
@@ -222,7 +222,7 @@ impl Planner for RateHalfEven {
 
 /// Does a rate lie at an exact half?
 fn at_half(hits: u32, items: u32) -> bool {
-    items != 0 && 2 * (PER * hits % items) == items
+    items != 0 && 2 * (PER_THOUSAND * hits % items) == items
 }
 
 pub struct RateOfOneMore;
@@ -270,7 +270,7 @@ pub struct EmptyGivesThousand;
 impl Planner for EmptyGivesThousand {
     fn rate(hits: u32, items: u32) -> u32 {
         match items {
-            0 => PER,
+            0 => PER_THOUSAND,
             _ => Right::rate(hits, items),
         }
     }

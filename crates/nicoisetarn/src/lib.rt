@@ -1,5 +1,5 @@
 // The boundary for C and Rust: functions that start an image of the state where the caller stores it, step it by one call or by a list of
-// calls, and look at it.
+// calls, and look at it; and the ways study, which has no image.
 // An image that stands for no state is refused and never repaired. Calls and answers go by numbers.
 ghost use mathlib.Core.Path.{_≡_};
 ghost use lib.ListN.{length};

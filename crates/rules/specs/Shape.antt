@@ -61,6 +61,10 @@ topNumber = 4294967295
 unfoldable pub setsAllowed : ℕ → Bool
 setsAllowed n = eqb n 1 || (eqb n 2 || (eqb n 4 || (eqb n 8 || (eqb n 16 || (eqb n 32 || eqb n 64)))))
 
+-- the greatest of them
+abbrev pub mostSets : ℕ
+mostSets = 64
+
 -- "Ways: 1 to 4."
 abbrev pub waysAllowed : ℕ → Bool
 waysAllowed n = leb 1 n && leb n 4

@@ -12,7 +12,7 @@ use lib.Seq.{sets, sets-eq, take-at, length-take-le}
 use borrow.Author.Tests.{ne-eqb, le-leb, lt-leb, leb-true, leb-false}
 use Rattle.lists.proofs.Cond.{cases, either, and-left, and-right, wrong}
 use Rattle.rules.specs.declared.Figures.{Figures}
-use Rattle.rules.specs.Shape.{World, world, lineBytes, setsAllowed, waysAllowed, figuresAllowed}
+use Rattle.rules.specs.Shape.{World, world, lineBytes, setsAllowed, waysAllowed, figuresAllowed, mostSets}
 use Rattle.rules.specs.Calls.{Outcome}
 use Rattle.rules.specs.Calls as rules
 use Rattle.rules.specs.WellFormed.{wellFormed}
@@ -28,7 +28,7 @@ use Rattle.script.specs.Commands.{Command, start, make}
 use Rattle.script.specs.Play.{effect, refusedEffect, malformedLine, zeros, zeroCache}
 use Rattle.script.specs.Play as script
 use Rattle.script_text.specs.Written.{Wrote, lineRoom, inRoom}
-use Rattle.script_play.specs.Player.{mostSets, mostWays, largestMemory, largestCache, cacheUsed, memoryUsed, runOf, runFormed, lentOf, laidIn, RunAt, runAt, afterLine, PlaysCommand, MakesCall}
+use Rattle.script_play.specs.Player.{mostWays, largestMemory, largestCache, cacheUsed, memoryUsed, runOf, runFormed, lentOf, laidIn, RunAt, runAt, afterLine, PlaysCommand, MakesCall}
 use Rattle.script_play.specs.declared.line.AfterLine.{AfterLine}
 use Rattle.script_play.proofs.Figures.{SameFigures, figures-kept}
 

@@ -9,7 +9,7 @@ use lib.Dec.{leb, eqb}
 use lib.ListN.{length, take, drop}
 use lib.Seq.{sets}
 use Rattle.rules.specs.declared.Figures.{Figures}
-use Rattle.rules.specs.Shape.{World, lineBytes}
+use Rattle.rules.specs.Shape.{World, lineBytes, mostSets}
 use Rattle.rules.specs.Calls.{Call}
 use Rattle.rules.specs.WellFormed.{wellFormed}
 use Rattle.model.specs.State.{worldOf, answerOf}
@@ -30,10 +30,7 @@ use Rattle.script_play.specs.declared.input.Ran.{Ran}
 
 -- ---- figures
 
--- the most that 01 allows: sets, ways, the bytes of a memory, and those of a cache
-abbrev pub mostSets : ℕ
-mostSets = 64
-
+-- the most that 01 allows: ways, the bytes of a memory, and those of a cache
 abbrev pub mostWays : ℕ
 mostWays = 4
 

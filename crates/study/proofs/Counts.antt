@@ -17,7 +17,7 @@ use Rattle.lists.proofs.Selected.{filter-append}
 use Rattle.rules.specs.Shape.{setsAllowed, waysAllowed}
 use Rattle.rules.proofs.LineFacts.{sets-bound}
 use Rattle.study.specs.declared.StudyResult.{StudyResult}
-use Rattle.study.specs.Study.{scratchSize, lineLimit, itemsAllowed, studyAllowed, hits, hitCount, hitCounts, ratesOf, counted}
+use Rattle.study.specs.Study.{scratchSize, mostItems, lineLimit, itemsAllowed, studyAllowed, hits, hitCount, hitCounts, ratesOf, counted}
 use Rattle.study.specs.Stack.{distance, touched, stacksFrom, distancesFrom, emptyStacks, distances}
 use Rattle.study.specs.Scratch.{placesOf, HoldsStacks, TouchedAt, below, tally, oneMore, addedHits, OneMoreFits, CountGiven, CountLeft, RatesFit}
 use Rattle.study.specs.Claims.{HitsByDistance}
@@ -88,9 +88,9 @@ module _ (items : List ℕ) (sets : ℕ) (scratch₀ : List ℕ) (given : CountG
   set-small l = omega (arith, mod-lt l (some-sets .0), some-sets .1)
 
   -- what an item is below
-  pub line-small : (i : ℕ) → getD items i 0 < 4096
+  pub line-small : (i : ℕ) → getD items i 0 < lineLimit
   unfolding itemsAllowed
-  line-small i = ltb-true _ 4096 (every-at (λ l. ltb l lineLimit) 0 refl items (given .lines) i)
+  line-small i = ltb-true _ lineLimit (every-at (λ l. ltb l lineLimit) 0 refl items (given .lines) i)
 
   module _ (i : ℕ) (scratch hs : List ℕ) (g : Counting items sets scratch₀ i scratch hs) where
     abbrev l : ℕ
@@ -160,7 +160,7 @@ counts-small sets ways items = omega (arith, below-most ways (distances sets ite
 -- ---- what an allowed study gives
 
 pub record Allowed (items : List ℕ) (sets n : ℕ) : Type 0 where
-  pub few : length items ≤ 65536
+  pub few : length items ≤ mostItems
   pub lines : itemsAllowed items ≡ true
   pub shaped : setsAllowed sets ≡ true
   pub long : n ≡ scratchSize
@@ -168,10 +168,10 @@ pub record Allowed (items : List ℕ) (sets n : ℕ) : Type 0 where
 pub allowed-tells : (items : List ℕ) (sets n : ℕ) → studyAllowed items sets n ≡ true → Allowed items sets n
 unfolding studyAllowed
 allowed-tells items sets n e =
-    let f = and-right (leb (length items) 65536) _ e in
+    let f = and-right (leb (length items) mostItems) _ e in
     let g = and-right (itemsAllowed items) _ f in
     record {
-      few = leb-true (length items) 65536 (and-left (leb (length items) 65536) _ e);
+      few = leb-true (length items) mostItems (and-left (leb (length items) mostItems) _ e);
       lines = and-left (itemsAllowed items) _ f;
       shaped = and-left (setsAllowed sets) _ g;
       long = eqb-true n scratchSize (and-right (setsAllowed sets) _ g);

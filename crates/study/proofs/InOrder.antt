@@ -60,7 +60,7 @@ module _ (ways f v m : ℕ) (S : List ℕ) (old new : List Tag) (g : InOrder old
       rw z′ (others k (unlike k (λ e. omega arith)) ∙ (g .held k p q ∙ sym (touch-above m S (ageAt old k) (λ c a. above c (omega arith)))))
   held-at k p q n (kept l z) = rw z (others k (unlike k (λ e. omega arith)) ∙ (g .held k p q ∙ sym (below k p q l)))
 
-  -- a slot whose age is now d
+  -- a slot whose age is d after the use
   now-at : (k : ℕ) → f ≤ k → k < f + ways → (d : ℕ) → ((n : ℕ) → Aged v (ageAt old v) k (ageAt old k) n → n ≡ d) → WayOf new ways f d
   now-at k p q d h = record { slot = k; low = p; high = q; aged = h (ageAt new k) (moved k p q) }
 

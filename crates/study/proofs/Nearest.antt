@@ -7,7 +7,7 @@ use borrow.Author.Tests.{ne-eqb}
 use Rattle.study.specs.Study.{perThousand, rateOf}
 use Rattle.study.specs.Claims.{HalfUp, RatesNearest}
 
--- b r' for a greater r'
+-- a multiple of b by a greater number is at least b more
 least : (b r k : ℕ) → r < k → b * r + b ≤ b * k
 least b r k h = rw (← mul-suc b r) (mul-le-mul-left b h)
 

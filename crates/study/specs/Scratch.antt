@@ -7,15 +7,11 @@ use lib.Dec.{ltb, eqb}
 use lib.ListN.{length, getD}
 use Rattle.lists.specs.Padded.{filter}
 use Rattle.lists.specs.Counted.{firstFrom}
-use Rattle.rules.specs.Shape.{setsAllowed}
+use Rattle.rules.specs.Shape.{mostSets, setsAllowed}
 use Rattle.study.specs.Study.{mostWays, mostItems, itemsAllowed}
 use Rattle.study.specs.Stack.{emptyStacks, stacksFrom, distances}
 
 -- ---- the stacks in the scratch: the first four numbers of each set's stack
-
--- "one of 01's set counts": the greatest
-abbrev pub mostSets : ℕ
-mostSets = 64
 
 -- where those of set s begin
 abbrev pub placesOf : ℕ → ℕ
@@ -55,6 +51,7 @@ tally ds = below 1 ds ∷ below 2 ds ∷ below 3 ds ∷ below 4 ds ∷ []
 abbrev pub oneMore : ℕ → ℕ → ℕ → ℕ
 oneMore n d ways = cond (ltb d ways) (n + 1) n
 
+-- each count with an item at distance d
 abbrev pub addedHits : List ℕ → ℕ → List ℕ
 addedHits hs d = oneMore (getD hs 0 0) d 1 ∷ oneMore (getD hs 1 0) d 2 ∷ oneMore (getD hs 2 0) d 3 ∷ oneMore (getD hs 3 0) d 4 ∷ []
 

@@ -39,5 +39,6 @@ unfoldable pub distancesFrom : ℕ → List ℕ → (ℕ → List ℕ) → List 
 distancesFrom sets [] K = []
 distancesFrom sets (l ∷ items) K = distance (suc l) (K (l % sets)) ∷ distancesFrom sets items (touched sets l K)
 
+-- .. from empty stacks
 unfoldable pub distances : ℕ → List ℕ → List ℕ
 distances sets items = distancesFrom sets items emptyStacks

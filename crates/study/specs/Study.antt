@@ -71,6 +71,7 @@ mostItems = 65536
 abbrev pub lineLimit : ℕ
 lineLimit = 4096
 
+-- every item is such a line
 unfoldable pub itemsAllowed : List ℕ → Bool
 itemsAllowed items = every (λ l. ltb l lineLimit) items
 
@@ -85,6 +86,7 @@ studyAllowed items sets size =
 
 -- ---- the answer, and the scratch
 
+-- an accepted study
 abbrev pub counted : ℕ → List ℕ → StudyResult
 counted sets items =
     record { refusal = 0; hits = hitCounts sets items; rates = ratesOf (hitCounts sets items) (length items) }

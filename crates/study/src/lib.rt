@@ -65,8 +65,8 @@ fn study_allowed(items: &[u32], sets: u32, size: usize) -> bool
 
 // ---- the stacks
 
-// An entry (line + 1) comes first of the four numbers of its set; the others up to its old place move down by one. The answer is that
-// place, or 4.
+// An entry (line + 1) comes first of the four numbers of its set. The numbers before its place move down by one, or, where it is not there,
+// all four do and the last leaves. The answer is its place before, or 4.
 fn touch_at(scratch: &mut [u32], first: usize, entry: u32) -> usize
     requires { ⌜ first + mostWays ≤ length (now scratch) ⌝ }
     ensures { λ r. ⌜ TouchedAt first entry r (now (scratch .entry)) (now (scratch .exit)) ⌝ }
@@ -87,6 +87,7 @@ fn touch_at(scratch: &mut [u32], first: usize, entry: u32) -> usize
 
 // ---- the counts
 
+// A count with an item at distance d: one more if it hits with so many ways.
 fn one_more(n: u32, d: usize, ways: usize) -> u32
     requires { ⌜ n < mostItems ⌝ }
     ensures { λ r. ⌜ r ≡ oneMore n d ways ⌝ }
@@ -139,6 +140,7 @@ fn rate(hits: u32, n: u32) -> u32
     (2 * (PER_THOUSAND * hits) + n) / (2 * n)
 }
 
+// The rate of each count among n items.
 fn rates(hits: [u32; STUDY_WAYS], n: u32) -> [u32; STUDY_WAYS]
     requires { ⌜ RatesFit hits n ⌝ }
     ensures { λ r. ⌜ r ≡ ratesOf hits n ⌝ }

@@ -4,7 +4,7 @@
 #![allow(dead_code)]
 
 use compare::types::{Answer, Call};
-use nicoisetarn::Image;
+use nicoisetarn::{Image, STUDY_WAYS};
 
 /// An answer of the library: its kind and two numbers.
 #[derive(Clone, Copy, Debug, PartialEq, Eq)]
@@ -38,12 +38,13 @@ pub const UNTOUCHED: u32 = 0xA5A5_A5A5;
 #[repr(C)]
 pub struct StudyNumbers {
     pub refusal: u32,
-    pub hits: [u32; 4],
-    pub rates: [u32; 4],
+    pub hits: [u32; STUDY_WAYS],
+    pub rates: [u32; STUDY_WAYS],
 }
 
 /// A refused study.
-pub const STUDY_REFUSED: StudyNumbers = StudyNumbers { refusal: 22, hits: [0; 4], rates: [0; 4] };
+pub const STUDY_REFUSED: StudyNumbers =
+    StudyNumbers { refusal: 22, hits: [0; STUDY_WAYS], rates: [0; STUDY_WAYS] };
 
 extern "C" {
     fn nicoisetarn_start_2048_in(

@@ -8,6 +8,7 @@ mod input;
 mod picture;
 mod table;
 
+use std::ffi::OsString;
 use std::io::{self, Write};
 use std::path::PathBuf;
 use std::process::ExitCode;
@@ -20,28 +21,27 @@ use nicoisetarn::{study_ways, STUDY_SCRATCH};
 const USAGE: &str = "ways [--svg FILE] < LIST";
 
 /// Reads the command line: the file to draw into.
-fn read_words(mut words: impl Iterator<Item = String>) -> Result<Option<PathBuf>, String> {
-    match (words.next().as_deref(), words.next(), words.next()) {
+fn read_words(mut words: impl Iterator<Item = OsString>) -> Result<Option<PathBuf>, String> {
+    match (words.next(), words.next(), words.next()) {
         (None, _, _) => Ok(None),
-        (Some("--svg"), Some(file), None) => Ok(Some(file.into())),
+        (Some(word), Some(file), None) if word == "--svg" => Ok(Some(file.into())),
         _ => Err(format!("called as {USAGE}")),
     }
 }
 
-/// Studies the list of standard input, prints the table and draws it.
+/// Studies the list of standard input, draws the study and prints its table.
 fn run() -> Result<(), String> {
-    let drawn = read_words(env::args().skip(1))?;
+    let drawn = read_words(env::args_os().skip(1))?;
     let list = List::read(io::stdin().lock()).map_err(|wrong| wrong.to_string())?;
     let mut scratch = [0; STUDY_SCRATCH];
     let study =
         study_ways(&list.items, list.sets, &mut scratch).map_err(|refusal| refusal.to_string())?;
-    let text = table::table(&list, &study);
-    io::stdout().write_all(text.as_bytes()).map_err(|wrong| format!("standard output: {wrong}"))?;
     if let Some(file) = drawn {
         let named = |wrong| format!("{}: {wrong}", file.display());
         fs::write(&file, picture::picture(&list, &study)).map_err(named)?;
     }
-    Ok(())
+    let text = table::table(&list, &study);
+    io::stdout().write_all(text.as_bytes()).map_err(|wrong| format!("standard output: {wrong}"))
 }
 
 fn main() -> ExitCode {

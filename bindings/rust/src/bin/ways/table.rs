@@ -5,7 +5,7 @@ use nicoisetarn::Study;
 use crate::input::List;
 
 /// A number with its noun.
-pub fn counted(number: usize, noun: &str) -> String {
+fn counted(number: usize, noun: &str) -> String {
     match number {
         1 => format!("1 {noun}"),
         _ => format!("{number} {noun}s"),
