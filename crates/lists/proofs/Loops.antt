@@ -14,7 +14,8 @@ use lib.Seq.{drop-cons, take-all, take-suc, set-append-seam, set-out}
 use borrow.Author.Tests.{eq-eqb, ne-eqb, lt-ltb, le-ltb, le-leb, lt-leb, ltb-true, ltb-false}
 use Rattle.lists.specs.Counted.{someFrom}
 use Rattle.lists.specs.Padded.{any, every, freeLast, rising, first, position, final, filter, without, shifted, placed, cut, changed}
-use Rattle.lists.proofs.Cond.{both, either, cases, and-left, and-right}
+use Rattle.lists.proofs.Selected.{filter-append, filter-most}
+use Rattle.lists.proofs.Cond.{either, cases, and-left, and-right}
 
 -- the tests of the code, as the tests of a definition: `search tests` closes a return that follows tests on numbers
 pub ruleset tests = (eq-eqb, ne-eqb, lt-ltb, le-ltb, le-leb, lt-leb)
@@ -342,20 +343,10 @@ module _ {A : Type 0} (p : A → Bool) (free : A) where
   abbrev pub kept : ℕ → List A → List A
   kept i l = filter fails (take i l)
 
-  kept-most : (l : List A) → length (filter fails l) ≤ length l
-  unfolding filter
-  kept-most [] = omega arith
-  kept-most (x ∷ l) = either (λ (r : List A). length r ≤ suc (length l)) (fails x) (λ _. omega (arith, kept-most l)) (λ _. omega (arith, kept-most l))
-
-  filter-join : (k l : List A) → filter fails (k ++ l) ≡ filter fails k ++ filter fails l
-  unfolding filter
-  filter-join [] l = refl
-  filter-join (x ∷ k) l = both (λ (r : List A). r ++ filter fails l) {s = fails x} {t = fails x} refl (λ _. ap (λ (r : List A). x ∷ r) (filter-join k l)) (λ _. filter-join k l)
-
   kept-next : (d : A) (i : ℕ) (l : List A) → i < length l → kept (suc i) l ≡ cond (p (getD l i d)) (kept i l) (kept i l ++ getD l i d ∷ [])
   unfolding filter
   kept-next d i l h =
-      rw (take-suc l i d h, filter-join (take i l) (getD l i d ∷ []))
+      rw (take-suc l i d h, filter-append fails (take i l) (getD l i d ∷ []))
       (cases (p (getD l i d)) (λ e. rw e (append-nil (kept i l))) (λ e. rw e))
 
   replicate-more : (k : ℕ) → replicate k free ++ free ∷ [] ≡ replicate (suc k) free
@@ -369,7 +360,7 @@ module _ {A : Type 0} (p : A → Bool) (free : A) where
   packed k (x ∷ l) e = cases (p x)
       (λ t.
       let e′ : k + length (filter fails l) ≡ suc (length l) = rw t at e in
-      let more : suc (k - 1) ≡ k = omega (arith, kept-most l) in
+      let more : suc (k - 1) ≡ k = omega (arith, filter-most fails l) in
       rw t
       (ap (λ (r : List A). r ++ free ∷ []) (packed (k - 1) l (omega arith))
       ∙ append-assoc (filter fails l) (replicate (k - 1) free) (free ∷ [])
@@ -404,7 +395,7 @@ module _ {A : Type 0} (p : A → Bool) (free : A) where
       let y : A = getD l i d in
       let h′ : i < length l = omega arith in
       let k : kept (i + 1) l ≡ kept i l ++ y ∷ [] = rw (add-one i, kept-next d i l h′, t) in
-      let room : n - length (kept i l) ≡ suc (n - (length (kept i l) + 1)) = omega (arith, kept-most (take i l), length-take i l) in
+      let room : n - length (kept i l) ≡ suc (n - (length (kept i l) + 1)) = omega (arith, filter-most fails (take i l), length-take i l) in
       record {
         count = rw (k, f, length-append (kept i l) (y ∷ [])) (ap (λ (j : ℕ). j + 1) (g .count));
         made =
@@ -416,4 +407,4 @@ module _ {A : Type 0} (p : A → Bool) (free : A) where
   pack-all {n} {l} {i} {c} {out} len h g =
       let all : take i l ≡ l = take-all i l (omega arith) in
       let e : c ≡ length (filter fails l) = rw all at (g .count) in
-      (rw all at (g .made)) ∙ sym (packed (n - c) l (omega (arith, kept-most l)))
+      (rw all at (g .made)) ∙ sym (packed (n - c) l (omega (arith, filter-most fails l)))

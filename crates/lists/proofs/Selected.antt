@@ -1,12 +1,13 @@
 -- Selections: what `filter`, `any` and `final` say of one another, of two lists, and of the changes of a queue.
-use Prim.Native.Nat.{ℕ}
+use Prim.Native.Nat.{ℕ, suc, _≤_}
 use mathlib.Core.Path.{_≡_, refl, sym, _∙_, ap}
 use mathlib.Core.Bool.{Bool, true, false, cond, not, _&&_, _||_, false≢true}
 use mathlib.Core.List.{List, [], _∷_, _++_, append-nil}
 use lib.Dec.{ltb, eqb}
-use lib.ListN.{getD}
+use native.Mathlib.Omega.{arith}
+use lib.ListN.{length, getD}
 use Rattle.lists.specs.Padded.{any, every, rising, final, filter, shifted, placed, changed}
-use Rattle.lists.proofs.Cond.{both, cases, and-left, and-right, or-left, or-right}
+use Rattle.lists.proofs.Cond.{both, either, cases, and-left, and-right, or-left, or-right}
 
 module _ {A : Type 0} where
   -- ---- filter
@@ -16,6 +17,13 @@ module _ {A : Type 0} where
   filter-append p [] ys = refl
   filter-append p (x ∷ xs) ys =
       both (λ (r : List A). r ++ filter p ys) {s = p x} {t = p x} refl (λ _. ap (λ (r : List A). x ∷ r) (filter-append p xs ys)) (λ _. filter-append p xs ys)
+
+  -- it is no longer than the list
+  pub filter-most : (p : A → Bool) (xs : List A) → length (filter p xs) ≤ length xs
+  unfolding filter
+  filter-most p [] = omega arith
+  filter-most p (x ∷ xs) =
+      either (λ (r : List A). length r ≤ suc (length xs)) (p x) (λ _. omega (arith, filter-most p xs)) (λ _. omega (arith, filter-most p xs))
 
   pub filter-all : (p : A → Bool) (xs : List A) → every p xs ≡ true → filter p xs ≡ xs
   unfolding filter every

@@ -19,7 +19,7 @@ use Rattle.rules.specs.Shape.{Hierarchy, holding, noTag, tagAt, withAge,
 use Rattle.rules.specs.Lines.{agedAt, useSlot, dirtyAt, isDirty, victim}
 use Rattle.rules.specs.WellFormed.{ageGood, setAged, recencyFormed}
 use Rattle.rules.specs.Runs.{startTags, started}
-use Rattle.rules.proofs.Records.{set-room, at-set, SameLines}
+use Rattle.rules.proofs.Records.{set-room, sets-apart, at-set, SameLines}
 use Rattle.rules.proofs.Dirty.{aged-byte, aged-dirty, no-tag-clean, clean-few}
 
 -- ---- the ages of a set
@@ -210,11 +210,7 @@ module _ (b : Hierarchy) (s v : ℕ) (s-in : s < b .figures .sets) (low : setSta
             small = λ k p q. aged-small (r .ages s s-in .small v low high) (r .ages s s-in .small k p q) (use-in k p q);
             same = λ j k p q m n e. aged-same (r .ages s s-in .same j k p q m n) (use-in j p q) (use-in k m n) e;
           })
-          | no d ↦ ages-same (b .tags) _ (b .figures .ways) (setStart b i) (λ k p q. ap (λ (t : Tag). t .age) (use-out k (λ m n.
-              elim (decLt i s) [
-                | yes l ↦ omega (arith, set-room i s (b .figures .ways) l)
-                | no l ↦ let l′ : s < i = omega arith in omega (arith, set-room s i (b .figures .ways) l′)
-              ]))) (r .ages i h)
+          | no d ↦ ages-same (b .tags) _ (b .figures .ways) (setStart b i) (λ k p q. ap (λ (t : Tag). t .age) (use-out k (sets-apart i s (b .figures .ways) k d p q))) (r .ages i h)
         ]
 
     pub use-recency : Recency new

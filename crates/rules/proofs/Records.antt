@@ -14,6 +14,14 @@ use Rattle.rules.specs.Shape.{noTag, tagAt}
 pub set-room : (s t w : ℕ) → s < t → s * w + w ≤ t * w
 set-room s t w h = rw (← suc-mul) (mul-le-mul-right w h)
 
+-- no slot is one of two sets
+pub sets-apart : (s t w k : ℕ) → (s ≡ t → ⊥) → s * w ≤ k → k < s * w + w → t * w ≤ k → k < t * w + w → ⊥
+sets-apart s t w k d p q m n =
+    elim (decLt s t) [
+      | yes h ↦ omega (arith, set-room s t w h)
+      | no h ↦ let h′ : t < s = omega arith in omega (arith, set-room t s w h′)
+    ]
+
 -- a fact of each record of a table in which one was written
 pub at-set :
     (tags : List Tag) (v : ℕ) (t : Tag) → v < length tags → (P : ℕ → Tag → Type 0) → P v t

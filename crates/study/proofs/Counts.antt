@@ -11,9 +11,9 @@ use lib.ListN.{length, getD, take, replicate, length-append, length-replicate}
 use lib.Seq.{take-suc, take-all, length-take-le}
 use borrow.Author.Tests.{ltb-true, leb-true, eqb-true}
 use Rattle.lists.specs.Padded.{filter}
-use Rattle.lists.proofs.Cond.{either, cases, and-left, and-right}
+use Rattle.lists.proofs.Cond.{cases, and-left, and-right}
 use Rattle.lists.proofs.Every.{every-at}
-use Rattle.lists.proofs.Selected.{filter-append}
+use Rattle.lists.proofs.Selected.{filter-append, filter-most}
 use Rattle.rules.specs.Shape.{setsAllowed, waysAllowed}
 use Rattle.rules.proofs.LineFacts.{sets-bound}
 use Rattle.study.specs.declared.StudyResult.{StudyResult}
@@ -58,10 +58,8 @@ below-more ways d ds =
     ∙ cases (ltb d ways) (λ e. rw e) (λ e. rw e (omega arith)))
 
 below-most : (ways : ℕ) (ds : List ℕ) → below ways ds ≤ length ds
-unfolding below filter
-below-most ways [] = omega arith
-below-most ways (d ∷ ds) =
-    either (λ (r : List ℕ). length r ≤ suc (length ds)) (ltb d ways) (λ _. omega (arith, below-most ways ds)) (λ _. omega (arith, below-most ways ds))
+unfolding below
+below-most ways ds = filter-most (λ d. ltb d ways) ds
 
 tally-more : (d : ℕ) (ds : List ℕ) → tally (ds ++ d ∷ []) ≡ addedHits (tally ds) d
 tally-more d ds = rw (below-more 1 d ds, below-more 2 d ds, below-more 3 d ds, below-more 4 d ds)

@@ -2,10 +2,10 @@
 use Prim.Native.Nat.{ℕ, zero, suc, _+_, _*_, _<_, _≤_}
 use mathlib.Core.Path.{_≡_, refl, sym, ap, subst, _∙_}
 use mathlib.Core.Bool.{Bool, true, false, not}
-use mathlib.Core.List.{List}
+use mathlib.Core.List.{List, []}
 use native.Mathlib.Nat.{mod-lt, not-suc-le-zero, le-of-suc-le-suc}
 use native.Mathlib.Omega.{arith}
-use native.Mathlib.Decide.{ℕ-discrete, decLt}
+use native.Mathlib.Decide.{ℕ-discrete}
 use lib.Dec.{ltb}
 use lib.ListN.{length, getD, set, length-set}
 use lib.Seq.{getD-set-same, getD-set-other}
@@ -18,8 +18,9 @@ use Rattle.rules.specs.declared.Tag.{Tag}
 use Rattle.rules.specs.declared.WritePolicy.the-variants.{WriteBack}
 use Rattle.rules.specs.Shape.{Hierarchy, holding, geometry, noTag, tagAt, slots, setOf, setStart, firstSlot}
 use Rattle.rules.specs.Lines.{slotOf, present, useSlot, useLine, victim, cleaned, install, writeBackSlot, fillLine}
-use Rattle.rules.proofs.Recency.{Ages, Aged, used, grown, kept, Recency, recency-ages, ages-recency, recency-same, use-lines, use-table, use-out, use-in, use-recency, victim-range, start-invalid, start-table, start-age}
-use Rattle.rules.proofs.LineFacts.{set-room}
+use Rattle.rules.proofs.Recency.{Ages, Aged, used, grown, kept, Recency, recency-ages, recency-same, use-lines, use-table, use-out, use-in, use-recency, victim-range, start-invalid, start-table, start-age, start-recency}
+use Rattle.rules.specs.Runs.{startTags, started}
+use Rattle.rules.proofs.Records.{set-room, sets-apart}
 use Rattle.study.specs.Study.{emptyTags, accessLine}
 use Rattle.study.specs.Stack.{touch, touched, distance, emptyStacks}
 use Rattle.study.proofs.Stack.{apart, apart-touched, apart-ends, apart-once, touch-above, touch-below}
@@ -99,17 +100,9 @@ module _ (K : ℕ → List ℕ) (b : Hierarchy) (g : Stacked K b) (l : ℕ) wher
     moved : (k : ℕ) → firstSlot b l ≤ k → k < firstSlot b l + ways → Aged v (ageAt (b .tags) v) k (ageAt (b .tags) k) (ageAt (new .tags) k)
     moved k p q = aged-by (mid-ages v) (mid-ages k) (use-in mid own v own-in low high mid-room mid-recency k p q)
 
-    -- a slot of another set
-    apart-from : (s k : ℕ) → (own ≡ s → ⊥) → setStart b s ≤ k → k < setStart b s + ways → firstSlot b l ≤ k → k < firstSlot b l + ways → ⊥
-    apart-from s k d p q r t =
-        elim (decLt own s) [
-          | yes h ↦ omega (arith, set-room own s ways h)
-          | no h ↦ let h′ : s < own = omega arith in omega (arith, set-room s own ways h′)
-        ]
-
     elsewhere : (s k : ℕ) → (own ≡ s → ⊥) → setStart b s ≤ k → k < setStart b s + ways → tagAt (new .tags) k ≡ tagAt (b .tags) k
     elsewhere s k d p q =
-        let o = apart-from s k d p q in
+        let o = sets-apart s own ways k (λ e. d (sym e)) p q in
         use-out mid own v own-in low high k o ∙ same k (λ e. o (omega arith) (omega arith))
 
     use-set : (s : ℕ) → s < b .figures .sets → InOrder (new .tags) ways (setStart b s) (touched (b .figures .sets) l K s)
@@ -239,7 +232,7 @@ item-figures l b =
 -- ---- a start
 
 pub start-stacked : (sets ways : ℕ) → 0 < sets → 0 < ways → ways ≤ 4 → sets * ways ≤ 256 → Stacked emptyStacks (emptyTags sets ways)
-unfolding emptyTags apart
+unfolding emptyTags started apart
 start-stacked sets ways ss sw most room =
     record {
       some-set = ss;
@@ -247,10 +240,7 @@ start-stacked sets ways ss sw most room =
       most-ways = most;
       room = room;
       table = start-table f;
-      recency = ages-recency (emptyTags sets ways) (λ s h. record {
-        small = λ k p q. omega (arith, start-age f room s k h p q);
-        same = λ j k p q m n e. omega (arith, start-age f room s j h p q, start-age f room s k h m n);
-      });
+      recency = recency-same (started f [] .hierarchy) [] [] (start-recency f room []) (startTags f) (λ k. refl);
       once = λ s. refl;
       in-order = λ s h. record {
         way = λ d l. record {
