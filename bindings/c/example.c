@@ -1,9 +1,9 @@
 /*
  * A bench in C: plays the scope paper's worked script by calls and prints what the script player prints for it, then
  * a batch and its answers, then a drain in write-through, then drains to two words of a line and their flush, then marks
- * that are set and returned to, then loads that wait, their line requested or not, then a ways study. It checks the
- * boundary: words, what the image tells, refused calls, numbers that no call and no profile has, loads that wait, dirty
- * marks, checkpoints, both profiles, show line, batches, and studies.
+ * that are set and returned to, then loads that wait, their line requested or not, then loads fed from held stores, then a
+ * ways study. It checks the boundary: words, what the image tells, refused calls, numbers that no call and no profile has,
+ * loads that wait, loads fed from held stores, dirty marks, checkpoints, both profiles, show line, batches, and studies.
  * Exits with 1, and a line on standard error, where a check fails.
  */
 #include "nicoisetarn.h"
@@ -232,6 +232,52 @@ static void play_waits(bench *b) {
     print(nicoisetarn_retry(&unit, 3)); /* nobody has requested line 0 */
 }
 
+/* ---- loads fed from held stores, printed */
+
+/* One set of two ways, 48 bytes of memory: lines 0 and 1 are present, line 1 used last; two operations are committed. */
+typedef struct {
+    nicoisetarn_image image;
+    uint8_t cache[NICOISETARN_CACHE_BYTES(1, 2)];
+    uint8_t memory[48];
+} two_ways;
+
+static nicoisetarn_unit lent_two(two_ways *b) {
+    return (nicoisetarn_unit){&b->image, b->cache, sizeof b->cache, b->memory, sizeof b->memory};
+}
+
+static void make_two(two_ways *b, uint32_t profile) {
+    nicoisetarn_unit unit = lent_two(b);
+    memset(b, 0, sizeof *b);
+    CHECK(nicoisetarn_start_with(&unit, 1, 2, profile).kind == NICOISETARN_KIND_READY);
+    for (uint32_t number = 1; number <= 2; number++) {
+        CHECK(nicoisetarn_load(&unit, NICOISETARN_LINE * (number - 1), 1).kind == NICOISETARN_KIND_WAITS);
+        CHECK(nicoisetarn_commit(&unit, number).kind == NICOISETARN_KIND_COMMITTED);
+        CHECK(nicoisetarn_idle(&unit).kind == NICOISETARN_KIND_REQUEST);
+        CHECK(nicoisetarn_reply(&unit).kind == NICOISETARN_KIND_FILLED);
+        CHECK(nicoisetarn_retry(&unit, number).kind == NICOISETARN_KIND_VALUE);
+    }
+}
+
+/* Load 5 reads so many bytes of line 0, one of them out of store 3; line 2 then evicts the line that was used longer ago. */
+static void play_fed(uint32_t width) {
+    two_ways b;
+    nicoisetarn_unit unit = lent_two(&b);
+    make_two(&b, NICOISETARN_WRITE_BACK);
+    print(nicoisetarn_store(&unit, 0, 1, 7));
+    print(nicoisetarn_store(&unit, 16, 1, 8));
+    print(nicoisetarn_load(&unit, 0, width));
+    print(nicoisetarn_commit(&unit, 4));
+    print(nicoisetarn_idle(&unit)); /* store 3 drains to line 0, */
+    print(nicoisetarn_idle(&unit)); /* and store 4 to line 1 */
+    print(nicoisetarn_commit(&unit, 5)); /* uses line 0, if the load is not fed whole */
+    print(nicoisetarn_load(&unit, 32, 1));
+    print(nicoisetarn_commit(&unit, 6));
+    print(nicoisetarn_idle(&unit));
+    print(nicoisetarn_reply(&unit));
+    print(nicoisetarn_load(&unit, 0, 1)); /* line 0 */
+    print(nicoisetarn_load(&unit, 16, 1)); /* line 1 */
+}
+
 /* ---- words */
 
 /* Each kind and each refusal has words; other numbers have none. */
@@ -260,7 +306,7 @@ static int same(nicoisetarn_answer answer, uint32_t kind, uint32_t first, uint32
     return answer.kind == kind && answer.first == first && answer.second == second;
 }
 
-/* A store held, a load that waits, a load answered, and the waiting load's line requested. */
+/* A store held, a load that waits, a load fed from that store, and the waiting load's line requested. */
 static void make_busy(bench *b) {
     nicoisetarn_unit unit = lent(b);
     CHECK(same(start(b), NICOISETARN_KIND_READY, 0, 0));
@@ -284,7 +330,7 @@ static void check_figures(const nicoisetarn_image *image) {
 
 static void check_queues(const nicoisetarn_image *image) {
     const nicoisetarn_held_store store = {2, 8, 4, 0xCAFE}, no_store = {0, 0, 0, 0};
-    const nicoisetarn_listed_load waiting = {1, 16, 2, 1}, answered = {3, 8, 2, 0}, no_load = {0, 0, 0, 0};
+    const nicoisetarn_listed_load waiting = {1, 16, 2, 1, 0}, answered = {3, 8, 2, 0, 1}, no_load = {0, 0, 0, 0, 0};
     for (size_t place = 0; place <= NICOISETARN_STORES; place++) {
         const nicoisetarn_held_store found = nicoisetarn_store_at(image, place);
         CHECK(memcmp(&found, place == 0 ? &store : &no_store, sizeof found) == 0);
@@ -440,6 +486,50 @@ static void check_waits_for_store(void) {
     CHECK(same(nicoisetarn_idle(&unit), NICOISETARN_KIND_REQUEST, 0, 0));
     CHECK(same(nicoisetarn_retry(&unit, 2), NICOISETARN_KIND_WAITS_REQUESTED, 2, 0));
     CHECK(same(nicoisetarn_load(&unit, 16, 1), NICOISETARN_KIND_WAITS, 3, 0));
+}
+
+/* ---- loads fed from held stores */
+
+/* Wholly, by two stores; in part; not at all; and in part by a load that waits. Only the first is forwarded. */
+static void check_fed(uint32_t profile) {
+    const uint32_t forwarded[] = {1, 0, 0, 0}, waiting[] = {0, 0, 0, 1};
+    two_ways b;
+    nicoisetarn_unit unit = lent_two(&b);
+    make_two(&b, profile);
+    CHECK(same(nicoisetarn_store(&unit, 0, 1, 7), NICOISETARN_KIND_STORED, 3, 0));
+    CHECK(same(nicoisetarn_store(&unit, 1, 1, 8), NICOISETARN_KIND_STORED, 4, 0));
+    CHECK(same(nicoisetarn_store(&unit, 32, 1, 9), NICOISETARN_KIND_STORED, 5, 0));
+    CHECK(same(nicoisetarn_load(&unit, 0, 2), NICOISETARN_KIND_VALUE, 6, 0x0807));
+    CHECK(same(nicoisetarn_load(&unit, 0, 4), NICOISETARN_KIND_VALUE, 7, 0x0807));
+    CHECK(same(nicoisetarn_load(&unit, 2, 1), NICOISETARN_KIND_VALUE, 8, 0));
+    CHECK(same(nicoisetarn_load(&unit, 32, 2), NICOISETARN_KIND_WAITS, 9, 0));
+    for (size_t place = 0; place < 4; place++) {
+        const nicoisetarn_listed_load load = nicoisetarn_load_at(&b.image, place);
+        CHECK(load.number == 6 + place && load.waiting == waiting[place] && load.forwarded == forwarded[place]);
+    }
+    CHECK(nicoisetarn_tag_at(&b.image, 0).age == 1);
+    CHECK(same(nicoisetarn_commit(&unit, 6), NICOISETARN_KIND_COMMITTED, 6, 0));
+    CHECK(nicoisetarn_tag_at(&b.image, 0).age == 1); /* load 6 has left, and line 0 is not used */
+    CHECK(nicoisetarn_load_at(&b.image, 0).number == 7 && nicoisetarn_load_at(&b.image, 0).forwarded == 0);
+    CHECK(same(nicoisetarn_commit(&unit, 7), NICOISETARN_KIND_COMMITTED, 7, 0));
+    CHECK(nicoisetarn_tag_at(&b.image, 0).age == 0); /* load 7 uses it */
+}
+
+/* A load that waits and is forwarded, a free place that is, and a flag that is neither 0 nor 1. */
+static void check_damaged_fed(void) {
+    const size_t at = NICOISETARN_AT_LOADS / 4 + 3;
+    bench b, before;
+    nicoisetarn_unit unit = lent(&b);
+    make_busy(&b);
+    for (size_t place = 0; place < NICOISETARN_LOADS; place++) {
+        const uint32_t good = b.image.nicoisetarn_words[at + 4 * place];
+        b.image.nicoisetarn_words[at + 4 * place] = place == 1 ? UINT32_C(2) << 16 : good | UINT32_C(1) << 16;
+        before = b;
+        check_refused(nicoisetarn_idle(&unit), NICOISETARN_REFUSED_STATE, &b, &before);
+        b.image.nicoisetarn_words[at + 4 * place] = good;
+        CHECK(nicoisetarn_load_at(&b.image, place).forwarded == (place == 1));
+    }
+    CHECK(nicoisetarn_idle(&unit).kind == NICOISETARN_KIND_IDLE);
 }
 
 /* ---- dirty marks */
@@ -862,6 +952,8 @@ int main(void) {
     play_dirty_words(&b);
     play_checkpoints(&b);
     play_waits(&b);
+    play_fed(1); /* fed whole */
+    play_fed(2); /* half of it */
     play_study();
     check_words();
     check_image();
@@ -872,6 +964,9 @@ int main(void) {
     check_waits(NICOISETARN_WRITE_BACK);
     check_waits(NICOISETARN_WRITE_THROUGH);
     check_waits_for_store();
+    check_fed(NICOISETARN_WRITE_BACK);
+    check_fed(NICOISETARN_WRITE_THROUGH);
+    check_damaged_fed();
     check_dirty_marks();
     check_clean_words();
     check_refused_checkpoints();

@@ -30,6 +30,9 @@
  *     nicoisetarn_idle(&unit);                   drained 1
  *     nicoisetarn_flush(&unit);                  flushed 1: a word
  *
+ * A load whose bytes all came from held stores (02: fed from held stores) does not use its line when it commits, so that
+ * the line's age stays. Every other load does.
+ *
  * A checkpoint (02: set a mark) has a name, 1 to 8, and remembers the next operation number. A restore (02: return to a
  * mark) drops what was loaded and stored since, as an abort at that number does, and forgets the mark and all set later.
  *
@@ -357,7 +360,8 @@ static inline nicoisetarn_answer nicoisetarn_start(nicoisetarn_unit *unit, uint3
  * Load of width bytes: it takes the next number and joins the load queue. Each byte comes from the youngest older
  * held store that covers it, else from the cached line: value. While some byte has neither the load waits:
  * waits-requested where the miss register names its line, for whichever load or store, else waits. It requests
- * nothing and changes no age: a load is not yet known to be wanted.
+ * nothing and changes no age: a load is not yet known to be wanted. The queue keeps whether all of its bytes came from held
+ * stores (forwarded).
  * Refused by 2 (width), 3 (alignment), 4 (address), 13 (no number left), 12 (8 loads are listed).
  */
 static inline nicoisetarn_answer nicoisetarn_load(nicoisetarn_unit *unit, uint32_t address, uint32_t width) {
@@ -385,7 +389,8 @@ static inline nicoisetarn_answer nicoisetarn_retry(nicoisetarn_unit *unit, uint3
 
 /*
  * Commit of everything up to a number: committed. Answered loads up to it leave the queue in number order, each
- * using its line if that is present; waiting ones stay. Marks that remember a number up to it are forgotten.
+ * using its line if that is present, but for those that are forwarded, which use none, also where their stores have
+ * drained since; waiting ones stay. Marks that remember a number up to it are forgotten.
  * Refused by 15: the number is below the committed one or above the last.
  */
 static inline nicoisetarn_answer nicoisetarn_commit(nicoisetarn_unit *unit, uint32_t number) {
@@ -549,7 +554,7 @@ enum {
     NICOISETARN_AT_REQUESTED = 24,
     NICOISETARN_AT_REQUESTED_LINE = 28,
     NICOISETARN_AT_STORES = 32, /* 16 bytes each: number, address, width, value */
-    NICOISETARN_AT_LOADS = 288, /* 16 bytes each: number, address, width, waiting */
+    NICOISETARN_AT_LOADS = 288, /* 16 bytes each: number, address, width, waiting (2), forwarded (2) */
     NICOISETARN_AT_CHECKPOINTS = 416, /* 12 bytes each: name, number, rank */
     NICOISETARN_AT_RECORDS = 512 /* 6 bytes each: valid, dirty marks, line (2), age, 0 */
 };
@@ -566,9 +571,13 @@ typedef struct nicoisetarn_held_store {
     uint32_t number, address, width, value;
 } nicoisetarn_held_store;
 
-/* A listed load; all zero where the place is free. waiting: 1 while it waits, 0 once it is answered. */
+/*
+ * A listed load; all zero where the place is free. waiting: 1 while it waits, 0 once it is answered. forwarded: 1 where each
+ * of its bytes came from a held store when it was answered, else 0; an image with a load that waits and is forwarded is
+ * refused by 10.
+ */
 typedef struct nicoisetarn_listed_load {
-    uint32_t number, address, width, waiting;
+    uint32_t number, address, width, waiting, forwarded;
 } nicoisetarn_listed_load;
 
 /*
@@ -659,9 +668,14 @@ static inline nicoisetarn_held_store nicoisetarn_store_at(const nicoisetarn_imag
 
 /* The listed load in a place, the oldest in place 0; all zero past the last place. */
 static inline nicoisetarn_listed_load nicoisetarn_load_at(const nicoisetarn_image *image, size_t place) {
-    nicoisetarn_listed_load found = {0, 0, 0, 0};
+    nicoisetarn_listed_load found = {0, 0, 0, 0, 0};
     if (place < NICOISETARN_LOADS) {
-        memcpy(&found, &image->nicoisetarn_words[NICOISETARN_AT_LOADS / 4 + 4 * place], sizeof found);
+        const uint32_t *words = &image->nicoisetarn_words[NICOISETARN_AT_LOADS / 4 + 4 * place];
+        found.number = words[0];
+        found.address = words[1];
+        found.width = words[2];
+        found.waiting = words[3] & 0xFFFF;
+        found.forwarded = words[3] >> 16;
     }
     return found;
 }

@@ -76,7 +76,7 @@ pub fn name(name: u32) -> Option<u32> {
 pub type Clause = fn(&State, &[u8], &[u8]) -> bool;
 
 /// All the clauses with their names, in the order of the paper.
-pub const CLAUSES: [(&str, Clause); 30] = [
+pub const CLAUSES: [(&str, Clause); 31] = [
     ("committed at most last", committed_at_most_last),
     ("unused records zero", unused_records_zero),
     ("free places zero", free_places_zero),
@@ -96,6 +96,7 @@ pub const CLAUSES: [(&str, Clause); 30] = [
     ("accesses pass checks", accesses_pass_checks),
     ("committed loads wait", committed_loads_wait),
     ("waiting loads lack a byte", waiting_loads_lack_a_byte),
+    ("waiting loads not forwarded", waiting_loads_not_forwarded),
     ("request absent", request_absent),
     ("request in memory", request_in_memory),
     ("request wanted", request_wanted),
@@ -112,7 +113,7 @@ pub const CLAUSES: [(&str, Clause); 30] = [
 /// The clauses on the records in use, by their places in `CLAUSES`.
 const OF_RECORDS: std::ops::Range<usize> = 3..13;
 /// The clauses on the marks, which are the last ones.
-const OF_CHECKPOINTS: std::ops::Range<usize> = 22..CLAUSES.len();
+const OF_CHECKPOINTS: std::ops::Range<usize> = 23..CLAUSES.len();
 
 /// All clauses together, those on the records in one pass and those on the marks in
 /// another. It is asked only when check 1 has passed.
@@ -394,6 +395,11 @@ pub fn waiting_loads_lack_a_byte(state: &State, _: &[u8], _: &[u8]) -> bool {
             .fold(0, |bits, s| bits | word_mask(s.address, s.width));
         word_mask(load.address, load.width) & !covered != 0
     })
+}
+
+/// A load that waits is not yet answered, so that nothing says how it was.
+pub fn waiting_loads_not_forwarded(state: &State, _: &[u8], _: &[u8]) -> bool {
+    listed(state).iter().all(|load| load.answered || !load.forwarded)
 }
 
 /// "a requested line is absent".

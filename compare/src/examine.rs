@@ -5,7 +5,9 @@ use std::collections::BTreeSet;
 use crate::check;
 use crate::counts::{self, Counts};
 use crate::dropped::{self, given, Played};
+use crate::fed::{last_forwarded, Fed};
 use crate::flat::Flat;
+use crate::forwarded::Forwarded;
 use crate::plain;
 use crate::random::Run;
 use crate::rules::{self, Source};
@@ -22,12 +24,15 @@ pub struct Checks {
     pub rules: bool,
     /// Demand 2 over the run.
     pub flat: bool,
+    /// The marks of forwarded loads over the run, and each commit without them.
+    pub forwarded: bool,
     /// Demand 3 for every dropped stretch.
     pub dropped: bool,
 }
 
 impl Checks {
-    pub const ALL: Checks = Checks { rules: true, flat: true, dropped: true };
+    pub const ALL: Checks = Checks { rules: true, flat: true, forwarded: true, dropped: true };
+    pub const NONE: Checks = Checks { rules: false, flat: false, forwarded: false, dropped: false };
 }
 
 /// A run that fails, where and how.
@@ -63,7 +68,9 @@ struct Examiner<'a> {
     step: Step,
     checks: Checks,
     flat: Flat,
+    forwarded: Forwarded,
     counts: Counts,
+    fed: Fed,
     /// The numbers given out so far, and those given out more than once.
     used: BTreeSet<u32>,
     again: BTreeSet<u32>,
@@ -73,6 +80,8 @@ struct Examiner<'a> {
     at_mark: BTreeSet<usize>,
     /// The commits that raised h.
     raising: BTreeSet<usize>,
+    /// The loads that were forwarded.
+    forwarding: BTreeSet<usize>,
 }
 
 /// Plays a run on a machine under the checks. The checks of runs after a start
@@ -84,12 +93,15 @@ pub fn examine(run: &Run, step: Step, checks: Checks) -> Result<Counts, Failure>
         step,
         checks,
         flat: Flat::new(&run.found, first + 1, first),
+        forwarded: Forwarded::default(),
         counts: Counts::one_run(run.calls.len()),
+        fed: Fed::default(),
         used: BTreeSet::new(),
         again: BTreeSet::new(),
         evicting: BTreeSet::new(),
         at_mark: BTreeSet::new(),
         raising: BTreeSet::new(),
+        forwarding: BTreeSet::new(),
     };
     examiner.start()?;
     let whole = examiner.steps()?;
@@ -170,6 +182,9 @@ impl Examiner<'_> {
         if self.checks.flat {
             self.flat.observe(before, call, answer, after)?;
         }
+        if self.checks.forwarded {
+            self.forwarded.observe(self.step, before, call, answer, after)?;
+        }
         Ok(())
     }
 
@@ -212,9 +227,20 @@ impl Examiner<'_> {
             self.at_mark.insert(place);
         }
         self.counts.met_dirty(answer, Dirty::of(before.state), Dirty::of(after.state));
+        self.count_fed(place, before, answer, after);
         let numbered = matches!(call, Call::Load { .. } | Call::Store { .. });
         if numbered && answer.accepted() && !self.used.insert(after.state.last) {
             self.again.insert(after.state.last);
+        }
+    }
+
+    /// Counts what a call met of loads fed from held stores.
+    fn count_fed(&mut self, place: usize, before: Snapshot, answer: Answer, after: Snapshot) {
+        let call = self.run.calls[place];
+        self.fed.take(&mut self.counts, before.state, call, answer, after);
+        let made = matches!(call, Call::Load { .. }) && answer.accepted();
+        if made && last_forwarded(after.state) {
+            self.forwarding.insert(place);
         }
     }
 
@@ -346,6 +372,8 @@ impl Examiner<'_> {
         self.counts.met(stretch.kind.with_drain, load && drain);
         self.counts.met(stretch.kind.with_reply, load && reply);
         self.counts.met(stretch.kind.with_eviction, load && evicts);
+        let forwarded = self.forwarding.range(stretch.first..=stretch.end).next().is_some();
+        self.counts.met(stretch.kind.with_forwarded, forwarded);
         if stretch.kind.name == PLAIN.name {
             let at_mark = load && self.at_mark.contains(&stretch.first);
             self.counts.met("dropped stretch at a mark, load inside", at_mark);

@@ -197,6 +197,65 @@ faults! {
     /// "waits-requested" has the requested line's first address.
     RequestedTellsAddress,
 
+    /// No load is marked forwarded.
+    NeverForwarded,
+    /// Every load that its call answers is.
+    AlwaysForwarded,
+    /// One byte in a held store is enough.
+    ForwardedByAnyByte,
+    /// The first byte alone decides.
+    ForwardedByFirstByte,
+    /// The last byte alone decides.
+    ForwardedByLastByte,
+    /// One store must have all the bytes.
+    ForwardedByOneStore,
+    /// Held stores must have the whole aligned word.
+    ForwardedByWord,
+    /// Only committed stores count.
+    ForwardedByCommitted,
+    /// Only a load whose line is absent is marked.
+    ForwardedIfAbsent,
+    /// A load that waits with a byte in a held store is marked until it is answered.
+    WaitsForwarded,
+    /// It is marked and keeps the mark: it does not use its line.
+    WaitsForwardedKept,
+    /// An inquiry marks every load that it answers: a committed one does not use its line.
+    RetryForwards,
+    /// It does so where a held store has a byte.
+    RetryForwardsInPart,
+    /// It does so where held stores have all bytes, younger ones too.
+    RetryForwardsYounger,
+    /// A committed load with a byte in a held store does not use its line at an inquiry.
+    RetryPartlyUnused,
+    /// A commit uses the lines of forwarded loads too, as 01 says.
+    ForwardedIgnored,
+    /// It uses the lines of forwarded loads alone.
+    ForwardedExchanged,
+    /// It asks the stores that are held then.
+    ForwardedAtCommit,
+    /// It uses the line of a forwarded load none of whose bytes is held any more.
+    ForwardedUsesDrained,
+    /// It uses no line when one of its loads is forwarded.
+    ForwardedHidesOthers,
+    /// It leaves forwarded loads listed.
+    CommitKeepsForwarded,
+    /// A drain takes the mark of the loads that its store gave a byte.
+    DrainForgetsForwarded,
+    /// A commit takes the marks of the loads that stay.
+    CommitForgetsForwarded,
+    /// An abort takes the marks of the loads that stay.
+    AbortForgetsForwarded,
+    /// A commit moves the loads up and leaves the marks where they were.
+    CommitLeavesForwarded,
+    /// An abort leaves the marks of the dropped loads in their places.
+    AbortLeavesForwarded,
+    /// It does, and the next load there that is answered is marked.
+    ForwardedOutlives,
+    /// A load that waits and is marked counts as well formed.
+    TakesWaitingForwarded,
+    /// A mark in a free place counts as well formed.
+    TakesFreeForwarded,
+
     /// Write-through leaves the cached line as it is.
     ThroughLeavesLine,
     /// Write-through leaves memory as it is.
@@ -223,6 +282,8 @@ faults! {
     ThroughWantsForStore,
     /// In write-through no load says "waits-requested".
     ThroughNeverRequested,
+    /// In write-through no load is marked forwarded.
+    ThroughNeverForwarded,
 
     /// An abort n forgets marks at n too.
     AbortForgetsAtNumber,
@@ -301,7 +362,7 @@ faults! {
 }
 
 /// The faults of write-through alone. Scripts keep to write-back.
-pub const THROUGH: [Fault; 13] = [
+pub const THROUGH: [Fault; 14] = [
     Fault::ThroughLeavesLine,
     Fault::ThroughLeavesMemory,
     Fault::ThroughMarksDirty,
@@ -315,6 +376,7 @@ pub const THROUGH: [Fault; 13] = [
     Fault::ThroughTakesDirty,
     Fault::ThroughWantsForStore,
     Fault::ThroughNeverRequested,
+    Fault::ThroughNeverForwarded,
 ];
 
 /// The faults of marks alone. No script has a letter for them.
@@ -359,9 +421,11 @@ pub const CHECKPOINTS: [Fault; 37] = [
 ];
 
 /// The faults in what counts as well formed alone, which no run after a start tells.
-pub const OF_STATES: [Fault; 12] = [
+pub const OF_STATES: [Fault; 14] = [
     Fault::TakesFifthMark,
     Fault::TakesCleanWord,
+    Fault::TakesWaitingForwarded,
+    Fault::TakesFreeForwarded,
     Fault::ThroughTakesDirty,
     Fault::ThroughWantsForStore,
     Fault::TakesFreeCheckpoint,

@@ -1,9 +1,11 @@
 //! The faulty machines: each is the right one with one step made wrong, and some
 //! do not know the clause of well-formedness that they would else stop at.
-//! `fault` says what each does. `checkpoints` has those that are wrong about marks,
-//! `waits` those that are wrong about loads that wait.
+//! `fault` says what each does. `checkpoints` has those that are wrong about branch
+//! marks, `forwarded` those that are wrong about loads fed from held stores, `waits`
+//! those that are wrong about loads that wait.
 
 mod checkpoints;
+mod forwarded;
 mod waits;
 
 use std::ops::Range;
@@ -19,6 +21,7 @@ use crate::types::{
 };
 
 pub use checkpoints::*;
+pub use forwarded::*;
 pub use waits::*;
 
 /// Checks 1 and 10 of a machine that does not know one of the clauses.
@@ -207,7 +210,7 @@ impl Machine for CommitUsesReversed {
     fn use_leaving(state: &mut State, k: u32) {
         for place in (0..LOADS).rev() {
             let load = state.loads[place];
-            if leaves(&load, k) {
+            if leaves(&load, k) && Right::uses_line(state, &load) {
                 Right::use_line(state, line_of(load.address));
             }
         }

@@ -4,7 +4,7 @@
 use std::collections::BTreeMap;
 
 use crate::plain::covers;
-use crate::types::{Answer, Call, Snapshot, StoreEntry};
+use crate::types::{Answer, Call, Snapshot, State, StoreEntry};
 
 /// What a run has done so far, told by its calls and answers alone.
 pub struct Flat {
@@ -51,10 +51,14 @@ fn line_present(now: Snapshot, address: u64) -> bool {
 fn must_wait(now: Snapshot, number: u32, address: u32, width: u32) -> bool {
     (0..width as u64).any(|k| {
         let at = address as u64 + k;
-        let older = |s: &&StoreEntry| s.number != 0 && s.number < number;
-        let in_store = now.state.stores.iter().filter(older).any(|s| covers(s, at));
-        !in_store && !line_present(now, at)
+        !in_store(now.state, number, at) && !line_present(now, at)
     })
+}
+
+/// Is a byte in a held store older than load `number`?
+pub fn in_store(state: &State, number: u32, address: u64) -> bool {
+    let older = |s: &&StoreEntry| s.number != 0 && s.number < number;
+    state.stores.iter().filter(older).any(|s| covers(s, address))
 }
 
 /// Memory overlaid with the bytes of the valid lines.

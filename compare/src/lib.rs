@@ -8,6 +8,7 @@
 //! - `plain`: the same state read into lists and maps, or found ill formed.
 //! - `rules`: each call's rule once more, slow and plain.
 //! - `flat`: demand 2, over whole runs.
+//! - `forwarded`: loads fed from held stores, over whole runs.
 //! - `stretch`: the kinds of dropped stretches.
 //! - `dropped`: demand 3, over whole runs.
 //! - `script`: the script player.
@@ -17,6 +18,7 @@
 //! - `examine`: one run under all the checks.
 //! - `traffic`: the bytes that are written back.
 //! - `counts`: what runs met, and what they must meet.
+//! - `fed`: what they met of loads fed from held stores.
 //! - `long`: long random scripts.
 //! - `met`: what scripts met, and what they must meet.
 //! - `struck`: scripts with dropped stretches struck from them.
@@ -37,7 +39,9 @@ pub mod dropped;
 pub mod examine;
 pub mod fault;
 mod faulty;
+pub mod fed;
 pub mod flat;
+pub mod forwarded;
 pub mod long;
 mod maker;
 pub mod met;

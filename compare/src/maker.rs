@@ -1,6 +1,8 @@
 //! Makes the calls of random runs: crowded addresses, all the calls with bad ones
 //! among them, and turns that lead into rich situations. One table says how often
-//! each is made where.
+//! each is made where. `forwarded` has the turns of loads fed from held stores.
+
+mod forwarded;
 
 use crate::check;
 use crate::model::{Machine, Right};
@@ -98,6 +100,8 @@ const ROWS: &[Row] = &[
     row(Maker::crowd_queue, &[(Short, 1), (Branches, 1), (Long, 1), (Struck, 1)]),
     row(Maker::store_between_loads, &[(Short, 8)]),
     row(Maker::loads_beside_request, &[(Short, 3)]),
+    row(Maker::forwarded_load, &[(Short, 3), (Branches, 2), (Long, 3), (Struck, 2)]),
+    row(Maker::forwarded_victim, &[(Short, 2), (Branches, 1), (Long, 2)]),
 ];
 
 /// Dropped stretches within each other.
@@ -195,7 +199,7 @@ impl Maker {
         let any = self.rng.word();
         let stands = Right::gather(&self.state, &self.cache, u32::MAX, address, width);
         let value = match stands {
-            Ok(value) if any >> 61 == 0 => value,
+            Ok(loaded) if any >> 61 == 0 => loaded.value,
             _ => (any as u32) >> (32 - 8 * width),
         };
         self.push(Call::Store { address, width, value })
@@ -517,9 +521,14 @@ impl Maker {
         first
     }
 
-    /// A load of that line, its answer, and calls that carry the fills on.
+    /// A load of that line, now and then with a younger store there, its answer, and calls
+    /// that carry the fills on.
     fn load_beside_fills(&mut self, first: u32) -> Answer {
-        let answer = self.push(Call::Load { address: first ^ 8, width: 1 });
+        let (address, width) = (first ^ 8, 1);
+        let answer = self.push(Call::Load { address, width });
+        if self.rng.one_in(3) {
+            self.feed(address, width);
+        }
         for _ in 0..8 {
             let filled = self.state.request != Request::Free;
             self.push(if filled { Call::Reply } else { Call::Idle });

@@ -1,13 +1,14 @@
 //! What scripts met, told by the model line by line, and what they must meet.
 
 use crate::counts::{refused, Counts};
+use crate::fed::{last_forwarded, Fed};
 use crate::model::{Machine, Right};
 use crate::script::{command, Command, Playing};
 use crate::traffic::Dirty;
-use crate::types::{Answer, Call, Request};
+use crate::types::{Answer, Call, Request, State};
 
 /// What long scripts must meet, out of so many lines.
-pub const NEEDED: [(&str, u64); 41] = [
+pub const NEEDED: [(&str, u64); 53] = [
     ("accepted G", 40_000),
     ("accepted call", 2),
     ("stored", 20),
@@ -18,6 +19,18 @@ pub const NEEDED: [(&str, u64); 41] = [
     ("inquiry waits, another line requested", 1_500),
     ("inquiry waits, its line requested", 400),
     ("inquiry answered", 100),
+    ("load waits, a byte in a store", 400),
+    ("load forwarded", 100),
+    ("load forwarded by several stores", 300),
+    ("inquiry answered, committed, a byte in a store", 1_000),
+    ("load partly of stores committed", 200),
+    ("forwarded load committed, stores held", 200),
+    ("forwarded load committed, stores drained", 600),
+    ("forwarded load committed, line filled since", 1_500),
+    ("commit of forwarded and other loads of a set", 400),
+    ("commit with other ages than by 01 alone", 600),
+    ("eviction of another line than by 01 alone", 1_200),
+    ("forwarded load aborted", 800),
     ("kept", 100),
     ("committed", 40),
     ("request", 40),
@@ -58,6 +71,8 @@ pub struct Told {
     pub answer: Answer,
     /// Did a request stand before the line?
     pub requested: bool,
+    /// Did it make a load that was forwarded?
+    pub forwarded: bool,
     /// What was dirty before the line, and after it.
     pub before: Dirty,
     pub after: Dirty,
@@ -83,6 +98,11 @@ impl Default for Teller {
 }
 
 impl Teller {
+    /// The state, once there is one.
+    fn state(&self) -> Option<State> {
+        self.playing.now().map(|now| now.state.clone())
+    }
+
     fn dirty(&self) -> Dirty {
         self.playing.now().map_or(Dirty::default(), |now| Dirty::of(now.state))
     }
@@ -92,7 +112,10 @@ impl Teller {
         let requested = self.playing.now().is_some_and(|now| now.state.request != Request::Free);
         let (command, before) = (command(line), self.dirty());
         let answer = self.playing.answer(Some(line));
-        self.told.push(Told { command, answer, requested, before, after: self.dirty() });
+        let made = matches!(command, Some(Command::Step(Call::Load { .. }))) && answer.accepted();
+        let forwarded = made && self.playing.now().is_some_and(|now| last_forwarded(now.state));
+        let after = self.dirty();
+        self.told.push(Told { command, answer, requested, forwarded, before, after });
         answer
     }
 }
@@ -138,15 +161,31 @@ fn count_line(counts: &mut Counts, line: &[u8], told: Told) {
 
 /// Counts what a script met.
 pub fn count_script(counts: &mut Counts, script: &[u8]) {
-    let mut teller = Teller::default();
+    let (mut teller, mut fed) = (Teller::default(), Fed::default());
     for line in script.split_inclusive(|byte| *byte == b'\n') {
         match line.strip_suffix(b"\n") {
             Some(line) => {
+                let before = teller.state();
                 teller.line(line);
+                count_fed(counts, &mut fed, before, &teller);
                 teller.told.drain(..).for_each(|told| count_line(counts, line, told));
             }
             None => counts.met("last line without LF", true),
         }
     }
     counts.runs += 1;
+}
+
+/// Counts what the last line met of loads fed from held stores.
+fn count_fed(counts: &mut Counts, fed: &mut Fed, before: Option<State>, teller: &Teller) {
+    let (Some(told), Some(after)) = (teller.told.last(), teller.playing.now()) else {
+        return;
+    };
+    match (told.command, before) {
+        (Some(Command::Step(call)), Some(before)) => {
+            fed.take(counts, &before, call, told.answer, after);
+        }
+        _ if told.answer == Answer::Ready => *fed = Fed::default(),
+        _ => {}
+    }
 }

@@ -126,8 +126,15 @@ pub struct Due {
     pub record: Option<usize>,
 }
 
-/// What a load finds: its value, or what the lookup says of the line that it lacks.
-pub type Found = Result<u32, Lookup>;
+/// What answers a load: its value, and whether held stores gave all of its bytes.
+#[derive(Clone, Copy, Debug, PartialEq, Eq)]
+pub struct Loaded {
+    pub value: u32,
+    pub forwarded: bool,
+}
+
+/// What a load finds: its answer, or what the lookup says of the line that it lacks.
+pub type Found = Result<Loaded, Lookup>;
 
 /// Does a load leave the queue at a commit of k?
 pub fn leaves(load: &LoadEntry, k: u32) -> bool {
@@ -271,6 +278,13 @@ pub trait Machine {
         (word, missing)
     }
 
+    /// Did held stores give all the bytes of a load, by the bits that they left missing?
+    /// It is asked when the load is answered, and never again; its number, its address and
+    /// its width do not matter then.
+    fn forwarded(_: &State, _: u32, _: u32, _: u32, missing: u32) -> bool {
+        missing == 0
+    }
+
     /// The value of an access as load `number` sees it. When a byte is in no older
     /// held store and the line is not present, what the lookup says of the line.
     fn gather(state: &State, cache: &[u8], number: u32, address: u32, width: u32) -> Found {
@@ -286,13 +300,15 @@ pub trait Machine {
             }
         }
         let wanted = check::word_mask(address, width);
-        Ok((word & wanted) >> (8 * (address % 4)))
+        let value = (word & wanted) >> (8 * (address % 4));
+        let forwarded = Self::forwarded(state, number, address, width, missing);
+        Ok(Loaded { value, forwarded })
     }
 
     /// What load `number` answers by what it found.
     fn load_answer(number: u32, found: Found) -> Answer {
         match found {
-            Ok(value) => Answer::Value { number, value },
+            Ok(Loaded { value, .. }) => Answer::Value { number, value },
             Err(Lookup::Requested) => Answer::WaitsRequested(number),
             Err(_) => Answer::Waits(number),
         }
@@ -302,12 +318,15 @@ pub trait Machine {
     fn list_load(state: &mut State, address: u32, width: u32, found: Found) -> Answer {
         let number = state.last + 1;
         let place = check::listed(state).len();
-        state.loads[place] = LoadEntry { number, address, width, answered: found.is_ok() };
+        let (answered, forwarded) = (found.is_ok(), found.is_ok_and(|loaded| loaded.forwarded));
+        state.loads[place] = LoadEntry { number, address, width, answered, forwarded };
         state.last = number;
         Self::load_answer(number, found)
     }
 
-    /// A waiting load is answered: it uses its line and leaves if it is committed.
+    /// A waiting load is answered: it uses its line and leaves if it is committed. It has
+    /// a byte that no older held store covers, so that its line gave one: it is not
+    /// forwarded.
     fn answer_load(state: &mut State, place: usize) {
         let load = state.loads[place];
         if load.number <= state.committed {
@@ -439,11 +458,17 @@ pub trait Machine {
 
     // The steps of commit and abort.
 
+    /// Does a load that leaves at a commit use its line? Not when it was forwarded,
+    /// whatever has become of the stores since.
+    fn uses_line(_: &State, load: &LoadEntry) -> bool {
+        !load.forwarded
+    }
+
     /// The uses of a commit: answered loads numbered k or less, in number order.
     fn use_leaving(state: &mut State, k: u32) {
         for place in 0..LOADS {
             let load = state.loads[place];
-            if leaves(&load, k) {
+            if leaves(&load, k) && Self::uses_line(state, &load) {
                 Self::use_line(state, line_of(load.address));
             }
         }

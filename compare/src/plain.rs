@@ -290,6 +290,9 @@ fn waiting_loads(view: &View) -> Result<(), &'static str> {
         if !load.answered && !lacks {
             return Err("a waiting load has a byte that no older held store covers");
         }
+        if load.forwarded && !load.answered {
+            return Err("a waiting load is not fed from held stores");
+        }
     }
     Ok(())
 }

@@ -207,6 +207,12 @@ fn value(view: &View, number: u32, address: u32, width: u32) -> Option<u32> {
     Some(sum as u32)
 }
 
+/// Does load `number` find every byte in held stores?
+pub fn fed(view: &View, number: u32, address: u32, width: u32) -> bool {
+    let mut sources = (0..width).map(|k| source(view, number, address + k));
+    sources.all(|found| matches!(found, Some(Source::Store(_))))
+}
+
 /// Use: the line's way becomes the most recent of its set.
 fn use_line(view: &mut View, line: u32) {
     let Some(present) = view.present.get(&line) else {
@@ -215,6 +221,14 @@ fn use_line(view: &mut View, line: u32) {
     let order = &mut view.recency[present.set];
     order.retain(|way| *way != present.way);
     order.insert(0, present.way);
+}
+
+/// A load that leaves the list uses its line, unless held stores had all its bytes when it
+/// was answered. An inquiry never finds it so, which the rule does not lean on.
+fn use_unless_fed(view: &mut View, load: LoadEntry) {
+    if !load.forwarded {
+        use_line(view, load.address / 16);
+    }
 }
 
 /// The answer of a load or an inquiry about an address, by the state before the call. The
@@ -231,7 +245,8 @@ fn load(mut view: View, address: u32, width: u32) -> (Answer, View) {
     let number = view.last as u32 + 1;
     let found = value(&view, number, address, width);
     let answer = load_answer(&view, number, address, found);
-    view.loads.push(LoadEntry { number, address, width, answered: found.is_some() });
+    let forwarded = fed(&view, number, address, width);
+    view.loads.push(LoadEntry { number, address, width, answered: found.is_some(), forwarded });
     view.last += 1;
     (answer, view)
 }
@@ -248,12 +263,13 @@ fn retry(mut view: View, number: u32) -> (Answer, View) {
     let entry = *view.loads.iter().find(|l| asked(l)).expect("it waits");
     let found = value(&view, number, entry.address, entry.width);
     let answer = load_answer(&view, number, entry.address, found);
+    let forwarded = fed(&view, number, entry.address, entry.width);
     if found.is_some() && number as u64 <= view.committed {
         view.loads.retain(|load| !asked(load));
-        use_line(&mut view, entry.address / 16);
+        use_unless_fed(&mut view, LoadEntry { forwarded, ..entry });
     } else if found.is_some() {
         for load in view.loads.iter_mut().filter(|l| asked(l)) {
-            load.answered = true;
+            *load = LoadEntry { answered: true, forwarded, ..*load };
         }
     }
     (answer, view)
@@ -262,10 +278,8 @@ fn retry(mut view: View, number: u32) -> (Answer, View) {
 fn commit(mut view: View, k: u32) -> (Answer, View) {
     view.committed = k as u64;
     let leaving = |load: &LoadEntry| load.answered && load.number <= k;
-    let uses: Vec<u32> =
-        view.loads.iter().filter(|load| leaving(load)).map(|load| load.address / 16).collect();
-    for line in uses {
-        use_line(&mut view, line);
+    for load in view.loads.clone().into_iter().filter(leaving) {
+        use_unless_fed(&mut view, load);
     }
     view.loads.retain(|load| !leaving(load));
     view.marks.retain(|mark| mark.number > view.committed);

@@ -17,11 +17,13 @@ pub struct Given {
 /// A kind of stretch.
 pub struct Kind {
     /// The names under which such a stretch is counted: any, one with a load and a
-    /// drain inside, one with a load and a reply, one with a load and an eviction.
+    /// drain inside, one with a load and a reply, one with a load and an eviction, one
+    /// with a forwarded load.
     pub name: &'static str,
     pub with_drain: &'static str,
     pub with_reply: &'static str,
     pub with_eviction: &'static str,
+    pub with_forwarded: &'static str,
     /// Every stretch of this kind in a run whose first number is this.
     pub find: fn(u64, &[Given]) -> Vec<Stretch>,
     /// Is a call inside a stretch for n struck from it?
@@ -56,6 +58,7 @@ pub const PLAIN: Kind = Kind {
     with_drain: "dropped stretch, load and drain inside",
     with_reply: "dropped stretch, load and reply inside",
     with_eviction: "dropped stretch, load and eviction inside",
+    with_forwarded: "dropped stretch, forwarded load inside",
     find: plain_stretches,
     struck: struck_from_plain,
 };
@@ -66,6 +69,7 @@ pub const MARK: Kind = Kind {
     with_drain: "mark stretch, load and drain inside",
     with_reply: "mark stretch, load and reply inside",
     with_eviction: "mark stretch, load and eviction inside",
+    with_forwarded: "mark stretch, forwarded load inside",
     find: mark_stretches,
     struck: struck_from_mark,
 };

@@ -15,7 +15,7 @@ use crate::types::{Answer, Call};
 const STRETCHES: u64 = 3;
 
 /// What struck stretches must have in them, out of so many stretches.
-pub const NEEDED: [(&str, u64); 9] = [
+pub const NEEDED: [(&str, u64); 10] = [
     ("stretch struck", 1),
     ("load struck", 3),
     ("waiting load struck", 4),
@@ -25,6 +25,7 @@ pub const NEEDED: [(&str, u64); 9] = [
     ("waiting load struck, drain remains", 10),
     ("waiting load struck, reply remains", 6),
     ("waiting load struck, dirty eviction remains", 15),
+    ("forwarded load struck", 25),
 ];
 
 /// A script and the same with stretches struck.
@@ -78,7 +79,7 @@ fn given(told: &Told) -> Option<Given> {
 }
 
 /// What is in a stretch, in the order of `NEEDED`.
-fn inside(told: &[Told], stretch: Stretch) -> [bool; 9] {
+fn inside(told: &[Told], stretch: Stretch) -> [bool; 10] {
     let lines = &told[1..][stretch.first..=stretch.end];
     let given: Vec<(Call, Answer)> =
         lines.iter().filter_map(given).map(|one| (one.call, one.answer)).collect();
@@ -101,6 +102,7 @@ fn inside(told: &[Told], stretch: Stretch) -> [bool; 9] {
         waits && answers(|answer| matches!(answer, Answer::Drained(_))),
         waits && answers(|answer| matches!(answer, Answer::Filled(_))),
         waits && lines.iter().any(Told::evicts),
+        lines.iter().any(|line| line.forwarded),
     ]
 }
 

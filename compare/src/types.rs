@@ -35,6 +35,9 @@ pub struct LoadEntry {
     pub address: u32,
     pub width: u32,
     pub answered: bool,
+    /// Answered by store-to-load forwarding alone: held stores gave all of its bytes
+    /// (card 6's load fed from held stores).
+    pub forwarded: bool,
 }
 
 /// A place of the checkpoints (the branch marks of the paper): a mark in force, or free

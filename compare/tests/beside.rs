@@ -34,8 +34,9 @@ fn long_scripts_meet_enough() {
 }
 
 /// Faults that no script tells: what an empty cache holds, which invalid way is
-/// filled, what memory holds under a dirty word, and what counts as well formed.
-const UNSEEN: [Fault; 7] = [
+/// filled, what memory holds under a dirty word, what a load is marked while it waits
+/// or once its place is free, and what counts as well formed.
+const UNSEEN: [Fault; 11] = [
     Fault::VictimPassesInvalid,
     Fault::VictimHighestInvalid,
     Fault::BackWritesMemory,
@@ -43,6 +44,10 @@ const UNSEEN: [Fault; 7] = [
     Fault::ShowFirstWay,
     Fault::TakesFifthMark,
     Fault::TakesCleanWord,
+    Fault::WaitsForwarded,
+    Fault::AbortLeavesForwarded,
+    Fault::TakesWaitingForwarded,
+    Fault::TakesFreeForwarded,
 ];
 
 #[test]
@@ -58,7 +63,7 @@ fn long_scripts_notice_faults() {
 }
 
 /// Faults that leave a trace of what is dropped where a script can see it.
-const TRACES: [Fault; 8] = [
+const TRACES: [Fault; 9] = [
     Fault::BypassFromYounger,
     Fault::LoadChangesAges,
     Fault::FlushRefusedForUncommitted,
@@ -67,6 +72,7 @@ const TRACES: [Fault; 8] = [
     Fault::RetryFromYounger,
     Fault::RetryUsesUncommitted,
     Fault::AbortKeepsLast,
+    Fault::ForwardedOutlives,
 ];
 
 #[test]

@@ -11,8 +11,8 @@ use compare::plain;
 use compare::random::{self, Rng};
 use compare::rules;
 use compare::types::{
-    Answer, Call, Checkpoint, Figures, Part, Request, State, Step, Tag, WritePolicy, ALL_DIRTY,
-    CHECKPOINTS, LINE, RECORDS,
+    Answer, Call, Checkpoint, Figures, LoadEntry, Part, Request, State, Step, Tag, WritePolicy,
+    ALL_DIRTY, CHECKPOINTS, LINE, LOADS, RECORDS,
 };
 use judged::Judged;
 
@@ -125,6 +125,9 @@ fn free_places() {
     damage(&names, |b| b.state.loads[3].address = 1);
     damage(&names, |b| b.state.loads[5].width = 1);
     damage(&names, |b| b.state.loads[7].answered = true);
+    for place in 3..8 {
+        damage(&names, |b| b.state.loads[place].forwarded = true);
+    }
     damage(&names, |b| b.state.stores[2].number = 0);
 }
 
@@ -240,6 +243,26 @@ fn listed_loads() {
         b.state.stores[0].number = 4;
         b.state.stores[1].address = 65;
     });
+}
+
+/// A load that waits is not forwarded: 3, which is committed, and 6. Load 7, which is
+/// answered, may be either, whatever stores are held.
+#[test]
+fn forwarded_loads() {
+    let names = ["waiting loads not forwarded"];
+    damage(&names, |b| b.state.loads[0].forwarded = true);
+    damage(&names, |b| b.state.loads[1].forwarded = true);
+    damage(&names, |b| b.state.loads[..3].iter_mut().for_each(|load| load.forwarded = true));
+    damage(&["committed loads wait"], |b| {
+        b.state.loads[1].answered = true;
+        b.state.loads[1].forwarded = true;
+        b.state.committed = 6;
+    });
+    for forwarded in [false, true] {
+        let mut judged = rich();
+        judged.state.loads[2].forwarded = forwarded;
+        assert_eq!(broken(&judged), Vec::<&str>::new(), "{forwarded}");
+    }
 }
 
 #[test]
@@ -382,6 +405,11 @@ fn states_of_faults() {
     let [mut fifth_mark, mut clean_word] = [rich(), rich()];
     fifth_mark.state.tags[0].dirty |= 16;
     clean_word.cache[15] ^= 1;
+    let forwarded = |place: usize| {
+        let mut judged = rich();
+        judged.state.loads[place].forwarded = true;
+        judged
+    };
     let dirty = dirty_line(WritePolicy::WriteThrough);
     let requested = requested_for_store(WritePolicy::WriteThrough);
     let marks = |change: fn(&mut [Checkpoint; CHECKPOINTS])| {
@@ -400,6 +428,8 @@ fn states_of_faults() {
     let states = [
         (Fault::TakesFifthMark, "four dirty marks", fifth_mark),
         (Fault::TakesCleanWord, "clean words equal memory", clean_word),
+        (Fault::TakesWaitingForwarded, "waiting loads not forwarded", forwarded(1)),
+        (Fault::TakesFreeForwarded, "free places zero", forwarded(3)),
         (Fault::ThroughTakesDirty, "none dirty in write-through", dirty),
         (Fault::ThroughWantsForStore, "request wanted", requested),
         (Fault::TakesFreeCheckpoint, "free checkpoints zero", free),
@@ -496,7 +526,7 @@ fn any_policy(rng: &mut Rng) -> WritePolicy {
 fn damage_at_random(judged: &mut Judged, rng: &mut Rng) {
     let number = odd_number(rng);
     let state = &mut judged.state;
-    match rng.below(40) {
+    match rng.below(44) {
         0 => state.figures.sets = number,
         1 => state.figures.ways = number,
         2 => state.memory_length = number,
@@ -511,6 +541,7 @@ fn damage_at_random(judged: &mut Judged, rng: &mut Rng) {
         13..=15 => request_for_store(state, rng),
         16..=23 => damage_line(judged, rng),
         24..=37 => damage_checkpoints(judged, number, rng),
+        38..=41 => damage_forwarded(state, rng),
         _ => damage_entry(judged, number, rng),
     }
 }
@@ -542,6 +573,14 @@ fn damage_checkpoints(judged: &mut Judged, number: u32, rng: &mut Rng) {
     }
 }
 
+/// Changes the mark of a load that waits, if there is one, or of any place.
+fn damage_forwarded(state: &mut State, rng: &mut Rng) {
+    let waits = |load: &LoadEntry| load.number != 0 && !load.answered;
+    let any = rng.below(LOADS as u64) as usize;
+    let place = state.loads.iter().position(waits).filter(|_| rng.one_in(2)).unwrap_or(any);
+    state.loads[place].forwarded = !state.loads[place].forwarded;
+}
+
 /// Requests the oldest store's line, mostly with a commit of that store.
 fn request_for_store(state: &mut State, rng: &mut Rng) {
     let store = state.stores[0];
@@ -558,7 +597,7 @@ fn damage_entry(judged: &mut Judged, number: u32, rng: &mut Rng) {
     let store = &mut judged.state.stores[rng.below(few.min(16)) as usize];
     let load = &mut judged.state.loads[rng.below(few.min(8)) as usize];
     let mark = &mut judged.state.checkpoints[rng.below(few.min(8)) as usize];
-    match rng.below(16) {
+    match rng.below(17) {
         0 => tag.valid = !tag.valid,
         1 => tag.dirty = other_marks(tag.dirty, rng),
         2 => tag.line = number,
@@ -572,8 +611,9 @@ fn damage_entry(judged: &mut Judged, number: u32, rng: &mut Rng) {
         10 => load.address = number,
         11 => load.width = number,
         12 => load.answered = !load.answered,
-        13 => mark.name = number,
-        14 => mark.number = number,
+        13 => load.forwarded = !load.forwarded,
+        14 => mark.name = number,
+        15 => mark.number = number,
         _ => mark.rank = number,
     }
 }
@@ -647,9 +687,11 @@ const NEEDED: [(&str, u64); 3] = [("accepted", 15), ("refused 1", 15), ("refused
 
 /// The states that it must meet besides, out of as many: those that are well formed to
 /// each of the faults of states.
-const STATES: [(Fault, &str, u64); 12] = [
+const STATES: [(Fault, &str, u64); 14] = [
     (Fault::TakesFifthMark, "a fifth dirty mark", 150),
     (Fault::TakesCleanWord, "a clean word that differs, beside a dirty one", 100),
+    (Fault::TakesWaitingForwarded, "a forwarded load that waits", 150),
+    (Fault::TakesFreeForwarded, "a mark of forwarding in a free place", 75),
     (Fault::ThroughTakesDirty, "a dirty line in write-through", 75),
     (Fault::ThroughWantsForStore, "a line requested for a store in write-through", 1_000),
     (Fault::TakesFreeCheckpoint, "a free place of the marks that is not zero", 150),

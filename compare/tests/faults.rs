@@ -10,9 +10,10 @@ use compare::types::Step;
 /// Runs within which a fault must be noticed.
 const BOUND: u64 = 200;
 
-const RULES: Checks = Checks { rules: true, flat: false, dropped: false };
-const FLAT: Checks = Checks { rules: false, flat: true, dropped: false };
-const DROPPED: Checks = Checks { rules: false, flat: false, dropped: true };
+const RULES: Checks = Checks { rules: true, ..Checks::NONE };
+const FLAT: Checks = Checks { flat: true, ..Checks::NONE };
+const FORWARDED: Checks = Checks { forwarded: true, ..Checks::NONE };
+const DROPPED: Checks = Checks { dropped: true, ..Checks::NONE };
 
 /// The first seed at which the checks notice something, and what.
 fn noticed(step: Step, checks: Checks) -> Option<(u64, String)> {
@@ -104,6 +105,43 @@ fn demand_3_alone_notices() {
         Fault::RestoreKeepsEntries,
         Fault::RestoreFreesRegister,
         Fault::RestoreUsesLines,
+        Fault::AbortForgetsForwarded,
+        Fault::AbortLeavesForwarded,
+        Fault::ForwardedOutlives,
     ];
     assert_eq!(missed(DROPPED, &faults), []);
+}
+
+/// What the marks of forwarded loads alone tell.
+#[test]
+fn forwarded_loads_alone_notice() {
+    let faults = [
+        Fault::NeverForwarded,
+        Fault::AlwaysForwarded,
+        Fault::ForwardedByAnyByte,
+        Fault::ForwardedByFirstByte,
+        Fault::ForwardedByLastByte,
+        Fault::ForwardedByOneStore,
+        Fault::ForwardedByWord,
+        Fault::ForwardedByCommitted,
+        Fault::ForwardedIfAbsent,
+        Fault::WaitsForwarded,
+        Fault::WaitsForwardedKept,
+        Fault::RetryForwards,
+        Fault::RetryForwardsInPart,
+        Fault::RetryForwardsYounger,
+        Fault::ForwardedIgnored,
+        Fault::ForwardedExchanged,
+        Fault::ForwardedAtCommit,
+        Fault::ForwardedUsesDrained,
+        Fault::ForwardedHidesOthers,
+        Fault::DrainForgetsForwarded,
+        Fault::CommitForgetsForwarded,
+        Fault::AbortForgetsForwarded,
+        Fault::CommitLeavesForwarded,
+        Fault::AbortLeavesForwarded,
+        Fault::ForwardedOutlives,
+        Fault::ThroughNeverForwarded,
+    ];
+    assert_eq!(missed(FORWARDED, &faults), []);
 }

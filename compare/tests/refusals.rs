@@ -33,7 +33,8 @@ fn spoil(judged: &mut Judged, bad: &[u32]) {
     }
     for place in 0..if has(12) { 8 } else { 0 } {
         let number = first + place as u32;
-        judged.state.loads[place] = LoadEntry { number, address: 0, width: 1, answered: false };
+        judged.state.loads[place] =
+            LoadEntry { number, address: 0, width: 1, ..LoadEntry::default() };
         judged.state.last = judged.state.last.max(number);
     }
     if has(10) {

@@ -72,9 +72,9 @@ fn first_difference_is_named() {
 }
 
 /// Faults that no short script tells: what free places and an empty cache hold, which
-/// invalid way is filled, what memory holds under a dirty word, and what counts as
-/// well formed.
-const UNSEEN: [Fault; 8] = [
+/// invalid way is filled, what memory holds under a dirty word, what a load is marked
+/// while it waits, and what counts as well formed.
+const UNSEEN: [Fault; 12] = [
     Fault::DroppedNumberOnly,
     Fault::VictimPassesInvalid,
     Fault::VictimHighestInvalid,
@@ -83,6 +83,10 @@ const UNSEEN: [Fault; 8] = [
     Fault::ShowFirstWay,
     Fault::TakesFifthMark,
     Fault::TakesCleanWord,
+    Fault::WaitsForwarded,
+    Fault::AbortLeavesForwarded,
+    Fault::TakesWaitingForwarded,
+    Fault::TakesFreeForwarded,
 ];
 
 #[test]

@@ -101,6 +101,10 @@ pub struct ListedLoad {
     pub width: u32,
     /// It waits, else it is answered.
     pub waiting: bool,
+    /// Each of its bytes came from a held store when it was answered (02: fed from held
+    /// stores): it does not use its line when it commits. An image with a load that
+    /// waits and is forwarded is refused by 10.
+    pub forwarded: bool,
 }
 
 /// A checkpoint (02: a mark in force); all zero where the place is free.
@@ -152,7 +156,8 @@ struct LoadImage {
     number: u32,
     address: u32,
     width: u32,
-    waiting: u32,
+    waiting: u16,
+    forwarded: u16,
 }
 
 /// A tag record as it is laid out.
@@ -204,6 +209,7 @@ const _: () = {
     assert!(offset_of!(HeldStore, address) == 4 && offset_of!(HeldStore, width) == 8);
     assert!(offset_of!(HeldStore, value) == 12 && offset_of!(LoadImage, address) == 4);
     assert!(offset_of!(LoadImage, width) == 8 && offset_of!(LoadImage, waiting) == 12);
+    assert!(offset_of!(LoadImage, forwarded) == 14);
     assert!(offset_of!(Checkpoint, number) == 4 && offset_of!(Checkpoint, rank) == 8);
     assert!(offset_of!(TagImage, dirty) == 1 && offset_of!(TagImage, line) == 2);
     assert!(offset_of!(TagImage, age) == 4 && offset_of!(TagImage, unused) == 5);
@@ -274,6 +280,7 @@ impl Image {
             address: load.address,
             width: load.width,
             waiting: load.waiting != 0,
+            forwarded: load.forwarded != 0,
         })
     }
 

@@ -81,7 +81,9 @@ impl Unit {
     /// byte comes from the youngest older held store that covers it, else from the
     /// cached line: [`Answer::Value`]. While some byte has neither the load waits:
     /// [`Answer::WaitsRequested`] where the miss register names its line, for whichever
-    /// load or store, else [`Answer::Waits`]. It requests nothing and changes no age.
+    /// load or store, else [`Answer::Waits`]. It requests nothing and changes no age. The
+    /// queue keeps whether all of its bytes came from held stores
+    /// ([`ListedLoad::forwarded`](crate::ListedLoad::forwarded)).
     ///
     /// Refused by 2 (width), 3 (alignment), 4 (address), 13 (no number left) or 12
     /// (8 loads are listed).
@@ -109,8 +111,9 @@ impl Unit {
     }
 
     /// Commit of everything up to a number: [`Answer::Committed`]. Answered loads up
-    /// to it leave the queue in number order, each using its line if that is present;
-    /// waiting ones stay. Checkpoints at or below it are forgotten.
+    /// to it leave the queue in number order, each using its line if that is present,
+    /// but for those that are forwarded, which use none, also where their stores have
+    /// drained since; waiting ones stay. Checkpoints at or below it are forgotten.
     ///
     /// Refused by 15: the number is below the committed one or above the last.
     pub fn commit(&mut self, number: u32) -> Result<Answer, Refusal> {

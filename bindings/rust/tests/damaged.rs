@@ -52,6 +52,11 @@ impl Field {
         Field::Image(layout::LOADS_AT + at, LOADS, layout::ENTRY, 4)
     }
 
+    /// A flag of each load, of two bytes.
+    const fn flag_of_loads(at: usize) -> Field {
+        Field::Image(layout::LOADS_AT + at, LOADS, layout::ENTRY, 2)
+    }
+
     /// A number of each checkpoint.
     const fn of_checkpoints(at: usize) -> Field {
         Field::Image(layout::CHECKPOINTS_AT + at, CHECKPOINTS, layout::CHECKPOINT, 4)
@@ -64,7 +69,7 @@ impl Field {
 }
 
 /// Every field, with its name.
-const FIELDS: [(&str, Field); 29] = [
+const FIELDS: [(&str, Field); 30] = [
     ("sets", Field::word(layout::SETS)),
     ("ways", Field::word(layout::WAYS)),
     ("profile", Field::word(layout::PROFILE)),
@@ -80,7 +85,8 @@ const FIELDS: [(&str, Field); 29] = [
     ("load: number", Field::of_loads(0)),
     ("load: address", Field::of_loads(layout::ADDRESS)),
     ("load: width", Field::of_loads(layout::WIDTH)),
-    ("load: waiting", Field::of_loads(layout::WAITING)),
+    ("load: waiting", Field::flag_of_loads(layout::WAITING)),
+    ("load: forwarded", Field::flag_of_loads(layout::FORWARDED)),
     ("checkpoint: name", Field::of_checkpoints(0)),
     ("checkpoint: number", Field::of_checkpoints(layout::NUMBER)),
     ("checkpoint: rank", Field::of_checkpoints(layout::RANK)),
@@ -361,14 +367,15 @@ fn broken_alone(bench: &Bench) -> Option<&'static str> {
     }
 }
 
-/// Why an image is refused for its dirty words or its checkpoints, where it has one reason
-/// alone.
+/// Why an image is refused for its dirty words, a forwarded load that waits or its checkpoints,
+/// where it has one reason alone.
 fn refused_alone(bench: &Bench) -> Option<&'static str> {
     match broken_alone(bench)? {
         "four dirty marks" => Some("fifth mark"),
         "clean words equal memory" if clean_word_differs(bench) => {
             Some("clean word of a dirty line differs")
         }
+        "waiting loads not forwarded" => Some("waiting load forwarded"),
         clause => Some(clause).filter(|clause| clause.contains("checkpoint")),
     }
 }
@@ -421,7 +428,7 @@ fn judge_fields(tallies: &[Tally]) {
 }
 
 /// What damaged fields must meet, out of so many calls.
-const NEEDED_OF_FIELDS: [(&str, u64); 39] = [
+const NEEDED_OF_FIELDS: [(&str, u64); 40] = [
     ("other call accepted", 40),
     ("waits", 1_000),
     ("waits-requested", 8_000),
@@ -440,6 +447,7 @@ const NEEDED_OF_FIELDS: [(&str, u64); 39] = [
     ("fifth mark", 10_000),
     ("clean word of a dirty line differs", 10_000),
     ("byte of a dirty word changed", 10_000),
+    ("waiting load forwarded", 5_000),
     ("free checkpoints zero", 1_000),
     ("checkpoint names 1 to 8", 20_000),
     ("checkpoint names distinct", 50_000),
@@ -556,8 +564,10 @@ fn mend_flags(bytes: &mut [u8]) {
     put(layout::REQUESTED, names);
     put(layout::REQUESTED_LINE, names * 2);
     for load in bytes[layout::LOADS_AT..layout::CHECKPOINTS_AT].chunks_exact_mut(layout::ENTRY) {
-        let waits = u32::from(load[layout::WAITING] & 1);
-        load[layout::WAITING..].copy_from_slice(&waits.to_ne_bytes());
+        for flag in [layout::WAITING, layout::FORWARDED] {
+            let set = u16::from(load[flag] & 1);
+            load[flag..flag + 2].copy_from_slice(&set.to_ne_bytes());
+        }
     }
     for tag in bytes[layout::TAGS_AT..].chunks_exact_mut(layout::TAG) {
         let (valid, dirty) = (tag[0] & 1, tag[layout::DIRTY] & 15);

@@ -468,9 +468,9 @@ fn what_an_image_tells() {
     assert_eq!((image.last(), image.committed(), image.requested()), (3, 1, Some(1)));
     let store = HeldStore { number: 2, address: 8, width: 4, value: 0xCAFE };
     assert_eq!(image.stores()[..2], [store, HeldStore::default()]);
-    let waits = ListedLoad { number: 1, address: 16, width: 2, waiting: true };
-    let answered = ListedLoad { number: 3, address: 8, width: 2, waiting: false };
-    assert_eq!(image.loads()[..3], [waits, answered, ListedLoad::default()]);
+    let waits = ListedLoad { number: 1, address: 16, width: 2, waiting: true, forwarded: false };
+    let fed = ListedLoad { number: 3, address: 8, width: 2, waiting: false, forwarded: true };
+    assert_eq!(image.loads()[..3], [waits, fed, ListedLoad::default()]);
     let mark = Checkpoint { name: 1, number: 4, rank: 1 };
     assert_eq!(image.checkpoints()[..2], [mark, Checkpoint::default()]);
     assert_eq!(image.tag(1), Some(Tag { age: 1, ..Tag::default() }));

@@ -33,6 +33,7 @@ fn play(run: &Run, counts: &mut ByProfile) -> Result<(), String> {
         counts.met("line shown", matches!(answer, Answer::Shown(part) if part.length != 0));
         count_writes(counts, answer, &before, &beside.library.image);
         count_marks(counts, call, answer, [&before, &beside.library.image]);
+        count_forwarded(counts, call, &before, &beside.library.image);
     }
     Ok(())
 }
@@ -96,6 +97,34 @@ fn count_marks(counts: &mut Counts, call: Call, answer: Answer, images: [&Image;
     }
 }
 
+/// An older held store of the image has a byte of the load.
+fn is_fed(load: &ListedLoad, image: &Image) -> bool {
+    let mut older = image.stores().iter().filter(|s| s.number != 0 && s.number < load.number);
+    older.any(|s| s.address < load.address + load.width && load.address < s.address + s.width)
+}
+
+/// Counts forwarded loads that a call lists, and those that a commit takes off the list: with
+/// their line present, and with no byte of theirs in a held store any more.
+fn count_forwarded(counts: &mut Counts, call: Call, before: &Image, after: &Image) {
+    let forwarded = |image: &Image| image.loads().into_iter().filter(|load| load.forwarded);
+    match call {
+        Call::Load { .. } if before.last() < after.last() => {
+            let listed = forwarded(after).any(|load| load.number == after.last());
+            counts.met("load forwarded", listed);
+        }
+        Call::Commit { .. } => {
+            let left = || forwarded(before).filter(|load| load.number <= after.committed());
+            let line = |load: ListedLoad| load.address / LINE as u32;
+            let present = |line| tags(before).any(|(_, tag)| tag.valid && tag.line == line);
+            let mut lines = left().map(line);
+            counts.met("forwarded load committed, its line present", lines.any(present));
+            let drained = left().any(|load| !is_fed(&load, before));
+            counts.met("forwarded load committed, its stores drained", drained);
+        }
+        _ => {}
+    }
+}
+
 /// What is dirty in an image, as its accessors tell it.
 fn dirty_of(image: &Image) -> Dirty {
     let words: Vec<u32> = tags(image).map(|(_, tag)| tag.dirty_words()).collect();
@@ -108,7 +137,7 @@ fn dirty_of(image: &Image) -> Dirty {
 }
 
 /// What both kinds of runs must meet in each write profile, out of so many calls.
-const NEEDED: [(&str, u64); 23] = [
+const NEEDED: [(&str, u64); 26] = [
     ("accepted call", 2),
     ("stored", 20),
     ("value", 20),
@@ -132,6 +161,9 @@ const NEEDED: [(&str, u64); 23] = [
     ("return that keeps a mark", 1_000),
     ("commit that forgets a mark", 1_000),
     ("abort that forgets a mark", 2_000),
+    ("load forwarded", 100),
+    ("forwarded load committed, its line present", 500),
+    ("forwarded load committed, its stores drained", 2_000),
 ];
 
 /// The write profiles by their numbers: what the runs of each must meet besides, and
@@ -178,7 +210,7 @@ fn judge_each(what: &str, counts: &ByProfile, needed: &Needed) {
 
 /// What short runs must meet besides.
 const NEEDED_OF_SHORT: [(&str, u64); 19] = [
-    ("line shown", 200),
+    ("line shown", 250),
     ("refused 2", 5_000),
     ("refused 3", 5_000),
     ("refused 4", 5_000),

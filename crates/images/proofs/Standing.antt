@@ -34,7 +34,7 @@ abbrev pub noStoreImage : StoreImage
 noStoreImage = record { number = 0; address = 0; width = 0; value = 0 }
 
 abbrev pub noLoadImage : LoadImage
-noLoadImage = record { number = 0; address = 0; width = 0; waiting = 0 }
+noLoadImage = record { number = 0; address = 0; width = 0; waiting = 0; forwarded = 0 }
 
 abbrev pub noTagImage : TagImage
 noTagImage = record { valid = 0; dirty = 0; line = 0; age = 0; unused = 0 }
@@ -88,15 +88,21 @@ imaged-store s = refl
 
 opened-load : (l : LoadEntry) → openedLoad (imagedLoad l) ≡ l
 unfolding openedLoad imagedLoad
-opened-load l = λ j. record { number = l .number; address = l .address; width = l .width; waiting = set-flag (l .waiting) j }
+opened-load l = λ j. record { number = l .number; address = l .address; width = l .width; waiting = set-flag (l .waiting) j; forwarded = set-flag (l .forwarded) j }
 
 load-stand : (l : LoadEntry) → loadStands (imagedLoad l) ≡ true
 unfolding loadStands imagedLoad
-load-stand l = flag-flag (l .waiting)
+load-stand l = and-both _ _ (flag-flag (l .waiting)) (flag-flag (l .forwarded))
 
 imaged-load : (l : LoadImage) → loadStands l ≡ true → imagedLoad (openedLoad l) ≡ l
 unfolding loadStands openedLoad imagedLoad
-imaged-load l e = λ j. record { number = l .number; address = l .address; width = l .width; waiting = flag-set (l .waiting) e j }
+imaged-load l e = λ j. record {
+  number = l .number;
+  address = l .address;
+  width = l .width;
+  waiting = flag-set (l .waiting) (and-left _ _ e) j;
+  forwarded = flag-set (l .forwarded) (and-right (isFlag (l .waiting)) _ e) j;
+}
 
 opened-tag : (t : Tag) → openedTag (imagedTag t) ≡ t
 unfolding openedTag imagedTag

@@ -80,15 +80,15 @@ imagedStore s = record { number = s .number; address = s .address; width = s .wi
 
 -- the entry of its image
 unfoldable pub openedLoad : LoadImage → LoadEntry
-openedLoad l = record { number = l .number; address = l .address; width = l .width; waiting = isSet (l .waiting) }
+openedLoad l = record { number = l .number; address = l .address; width = l .width; waiting = isSet (l .waiting); forwarded = isSet (l .forwarded) }
 
 -- the image of an entry
 unfoldable pub imagedLoad : LoadEntry → LoadImage
-imagedLoad l = record { number = l .number; address = l .address; width = l .width; waiting = flagOf (l .waiting) }
+imagedLoad l = record { number = l .number; address = l .address; width = l .width; waiting = flagOf (l .waiting); forwarded = flagOf (l .forwarded) }
 
--- its flag is 0 or 1
+-- its flags are 0 or 1
 unfoldable pub loadStands : LoadImage → Bool
-loadStands l = isFlag (l .waiting)
+loadStands l = isFlag (l .waiting) && isFlag (l .forwarded)
 
 -- the record of its image
 unfoldable pub openedTag : TagImage → Tag

@@ -39,7 +39,9 @@ pub struct LoadImage {
     pub address: u32,
     pub width: u32,
     // 0 or 1
-    pub waiting: u32,
+    pub waiting: u16,
+    // 0 or 1
+    pub forwarded: u16,
 }
 
 // A tag record.

@@ -27,6 +27,7 @@ const FREE_LOAD: LoadImage = LoadImage {
     address: 0,
     width: 0,
     waiting: 0,
+    forwarded: 0,
 };
 
 // ---- the miss register
@@ -121,7 +122,7 @@ pub(crate) fn image_stores(stores: [StoreEntry; STORE_PLACES]) -> [StoreImage; S
 
 // ---- the load queue
 
-fn wide_flag(t: bool) -> u32
+fn wide_flag(t: bool) -> u16
     ensures { λ r. ⌜ r ≡ flagOf t ⌝ }
 {
     if t { 1 } else { 0 }
@@ -135,6 +136,7 @@ fn open_load(l: LoadImage) -> LoadEntry
         address: l.address,
         width: l.width,
         waiting: l.waiting == 1,
+        forwarded: l.forwarded == 1,
     }
 }
 
@@ -160,6 +162,7 @@ fn image_load(l: LoadEntry) -> LoadImage
         address: l.address,
         width: l.width,
         waiting: wide_flag(l.waiting),
+        forwarded: wide_flag(l.forwarded),
     }
 }
 
@@ -180,7 +183,10 @@ pub(crate) fn image_loads(loads: [LoadEntry; LOAD_PLACES]) -> [LoadImage; LOAD_P
 fn load_stands(l: LoadImage) -> bool
     ensures { λ r. ⌜ r ≡ loadStands l ⌝ }
 {
-    l.waiting <= 1
+    if 1 < l.waiting {
+        return false;
+    }
+    l.forwarded <= 1
 }
 
 pub(crate) fn loads_stand(loads: [LoadImage; LOAD_PLACES]) -> bool

@@ -1,7 +1,7 @@
 -- Laws for what a load reads: a value joined from its bytes, the highest first; a byte from the held stores, else from the line.
 use Prim.Native.Nat.{ℕ, zero, suc, _+_, _*_, _-_, _/_, _%_, _^_, _<_, _≤_}
 use mathlib.Core.Path.{_≡_, refl, sym, _∙_, ap}
-use mathlib.Core.Bool.{Bool, true, false, cond, not}
+use mathlib.Core.Bool.{Bool, true, false, cond, not, _&&_}
 use mathlib.Core.List.{List}
 use mathlib.Core.Option.{Option, some, none}
 use native.Mathlib.Omega.{arith}
@@ -14,13 +14,14 @@ use Rattle.lists.specs.Bytes.{byteOf, addByte, gather}
 use Rattle.lists.proofs.Cond.{cases, either, and-left, and-right, or-then}
 use Rattle.rules.specs.declared.StoreEntry.{StoreEntry}
 use Rattle.rules.specs.Shape.{noStore}
-use Rattle.rules.specs.Forward.{olderCovers, storeByte}
+use Rattle.rules.specs.Forward.{olderCovers, storeByte, allForwarded}
 use Rattle.rules.specs.Calls.{isNone}
 use Rattle.store_queue.specs.Forwarded.{forwarded}
 use Rattle.store_queue.specs.declared.Byte.the-variants.{Known, Unknown}
+use Rattle.line_bytes.specs.declared.LoadByte.the-variants.{Forwarded, Cached, Missing}
 use Rattle.line_bytes.specs.declared.Read.the-variants.{Whole, Lacking}
 use Rattle.line_bytes.specs.Writes.{placesInside}
-use Rattle.line_bytes.specs.Reads.{byteAs, readOf, byteFrom, byteOrLine, joinedTo, isLacking, readable, bytesRead}
+use Rattle.line_bytes.specs.Reads.{byteAs, readOf, byteFrom, byteOrLine, joinedTo, isLacking, isForwarded, readable, bytesRead}
 use Rattle.line_bytes.proofs.Writing.{inside-tells, is-inside}
 
 -- ---- values put together from bytes
@@ -44,9 +45,9 @@ gather-small f h (suc w) a v e = go (f a) refl (gather f (suc a) w) (λ y q. gat
         omega (arith, h a x p, q y refl)
 
 -- a lowest byte joins what stands above it
-pub joined-gather : (f : ℕ → Option ℕ) → Small f → (n a : ℕ) → n ≤ 3 → joinedTo (byteAs (f a)) (readOf (gather f (suc a) n)) ≡ readOf (gather f a (suc n))
+pub joined-gather : (f : ℕ → Option ℕ) → Small f → (s t : Bool) (n a : ℕ) → n ≤ 3 → joinedTo (byteAs s (f a)) (readOf t (gather f (suc a) n)) ≡ readOf (s && t) (gather f a (suc n))
 unfolding gather addByte
-joined-gather f h n a l = go (f a) (gather f (suc a) n) refl
+joined-gather f h s t n a l = go s (f a) (gather f (suc a) n) refl
   where
     three : (n : ℕ) → n ≤ 3 → 256 ^ n ≤ 16777216
     three zero l = omega arith
@@ -55,21 +56,27 @@ joined-gather f h n a l = go (f a) (gather f (suc a) n) refl
     three (suc (suc (suc zero))) l = omega arith
     three (suc (suc (suc (suc n)))) l = let no : ⊥ = omega arith in absurd no
 
-    go : (x y : Option ℕ) → gather f (suc a) n ≡ y → joinedTo (byteAs x) (readOf y) ≡ readOf (addByte x y)
-    go none none q = refl
-    go none (some y) q = refl
-    go (some x) none q = refl
-    go (some x) (some y) q =
+    sum : (x y : ℕ) → gather f (suc a) n ≡ some y → y % 16777216 * 256 + x ≡ x + 256 * y
+    sum x y q =
         let b : y < 16777216 = omega (arith, gather-small f h n (suc a) y q, three n l) in
         let m : y % 16777216 ≡ y = mod-eq-of-lt b in
-        let e : y % 16777216 * 256 + x ≡ x + 256 * y = omega arith in
-        ap Whole e
+        omega arith
+
+    go : (s : Bool) (x y : Option ℕ) → gather f (suc a) n ≡ y → joinedTo (byteAs s x) (readOf t y) ≡ readOf (s && t) (addByte x y)
+    go true none none q = refl
+    go false none none q = refl
+    go true none (some y) q = refl
+    go false none (some y) q = refl
+    go true (some x) none q = refl
+    go false (some x) none q = refl
+    go true (some x) (some y) q = ap (λ (v : ℕ). Whole v t) (sum x y q)
+    go false (some x) (some y) q = ap (λ (v : ℕ). Whole v false) (sum x y q)
 
 -- ---- one byte
 
 module _ (i a : ℕ) (ss : List StoreEntry) (cache : List ℕ) (p : ℕ) (here : Bool) where
   -- the byte that the code reads
-  pub byte-from : (x : ℕ) → byteOrLine i x ss cache (p + (x - a)) here ≡ byteAs (byteFrom i a ss cache p here x)
+  pub byte-from : (x : ℕ) → byteOrLine i x ss cache (p + (x - a)) here ≡ byteAs (any (olderCovers i x) ss) (byteFrom i a ss cache p here x)
   unfolding byteOrLine byteFrom
   byte-from x = cases (any (olderCovers i x) ss) (λ e. rw e) (λ e. cases here (λ h. rw (e, h)) (λ h. rw (e, h)))
 
@@ -91,23 +98,23 @@ module _ (i a : ℕ) (ss : List StoreEntry) (cache : List ℕ) (p : ℕ) (here :
       some-bytes = omega arith
 
   -- from the held stores, else from the line
-  pub known-byte : (x : ℕ) → forwarded i a ss ≡ Known x → Known x ≡ byteOrLine i a ss cache p here
+  pub known-byte : (x : ℕ) → forwarded i a ss ≡ Known x → Forwarded x ≡ byteOrLine i a ss cache p here
   unfolding forwarded byteOrLine
   known-byte x e = cases (any (olderCovers i a) ss)
-      (λ t. rw t (sym (rw t at e)))
+      (λ t. let z : Known (storeByte (final (olderCovers i a) noStore ss) a) ≡ Known x = rw t at e in let y : storeByte (final (olderCovers i a) noStore ss) a ≡ x = cc in rw t (ap Forwarded (sym y)))
       (λ t. let z : Unknown ≡ Known x = rw t at e in let n : _≡_ {A = ℕ} 0 1 = cc in let no : ⊥ = omega arith in absurd no)
 
-  unknown-byte : forwarded i a ss ≡ Unknown → cond here (Known (getD cache p 0)) Unknown ≡ byteOrLine i a ss cache p here
+  unknown-byte : forwarded i a ss ≡ Unknown → cond here (Cached (getD cache p 0)) Missing ≡ byteOrLine i a ss cache p here
   unfolding forwarded byteOrLine
   unknown-byte e = cases (any (olderCovers i a) ss)
       (λ t. let z : Known (storeByte (final (olderCovers i a) noStore ss) a) ≡ Unknown = rw t at e in let n : _≡_ {A = ℕ} 0 1 = cc in let no : ⊥ = omega arith in absurd no)
       (λ t. rw t)
 
-  pub line-byte : forwarded i a ss ≡ Unknown → here ≡ true → Known (getD cache p 0) ≡ byteOrLine i a ss cache p here
-  line-byte e h = ap (λ (t : Bool). cond t (Known (getD cache p 0)) Unknown) (sym h) ∙ unknown-byte e
+  pub line-byte : forwarded i a ss ≡ Unknown → here ≡ true → Cached (getD cache p 0) ≡ byteOrLine i a ss cache p here
+  line-byte e h = ap (λ (t : Bool). cond t (Cached (getD cache p 0)) Missing) (sym h) ∙ unknown-byte e
 
-  pub no-byte : forwarded i a ss ≡ Unknown → here ≡ false → Unknown ≡ byteOrLine i a ss cache p here
-  no-byte e h = ap (λ (t : Bool). cond t (Known (getD cache p 0)) Unknown) (sym h) ∙ unknown-byte e
+  pub no-byte : forwarded i a ss ≡ Unknown → here ≡ false → Missing ≡ byteOrLine i a ss cache p here
+  no-byte e h = ap (λ (t : Bool). cond t (Cached (getD cache p 0)) Missing) (sym h) ∙ unknown-byte e
 
 -- ---- which bytes can be read
 
@@ -156,7 +163,7 @@ module _ (a w p : ℕ) (here : Bool) (n : ℕ) where
 
 -- what is read
 module _ (i a w : ℕ) (ss : List StoreEntry) (cache : List ℕ) (p : ℕ) (here : Bool) where
-  pub read-inside : readable a w p here (length cache) ≡ true → bytesRead i a w ss cache p here ≡ readOf (gather (byteFrom i a ss cache p here) a w)
+  pub read-inside : readable a w p here (length cache) ≡ true → bytesRead i a w ss cache p here ≡ readOf (allForwarded i ss a w) (gather (byteFrom i a ss cache p here) a w)
   unfolding bytesRead
   read-inside e = rw e
 
@@ -166,14 +173,20 @@ module _ (i a w : ℕ) (ss : List StoreEntry) (cache : List ℕ) (p : ℕ) (here
 
 -- ---- whole and lacking
 
-pub lacking-read : (o : Option ℕ) → isLacking (readOf o) ≡ isNone o
-lacking-read none = refl
-lacking-read (some v) = refl
+module _ (t : Bool) where
+  pub lacking-read : (o : Option ℕ) → isLacking (readOf t o) ≡ isNone o
+  lacking-read none = refl
+  lacking-read (some v) = refl
 
-pub lacks : (o : Option ℕ) → readOf o ≡ Lacking → o ≡ none
-lacks none e = refl
-lacks (some v) e = let n : _≡_ {A = ℕ} 0 1 = cc in let no : ⊥ = omega arith in absurd no
+  -- one that waits is not forwarded
+  pub forwarded-read : (o : Option ℕ) → (isNone o ≡ true → t ≡ false) → isForwarded (readOf t o) ≡ t
+  forwarded-read none h = sym (h refl)
+  forwarded-read (some v) h = refl
 
-pub whole-of : (o : Option ℕ) (v : ℕ) → readOf o ≡ Whole v → o ≡ some v
-whole-of none v e = let n : _≡_ {A = ℕ} 0 1 = cc in let no : ⊥ = omega arith in absurd no
-whole-of (some x) v e = let z : x ≡ v = cc in ap some z
+  pub lacks : (o : Option ℕ) → readOf t o ≡ Lacking → o ≡ none
+  lacks none e = refl
+  lacks (some v) e = let n : _≡_ {A = ℕ} 0 1 = cc in let no : ⊥ = omega arith in absurd no
+
+  pub whole-of : (o : Option ℕ) (v : ℕ) (s : Bool) → readOf t o ≡ Whole v s → o ≡ some v
+  whole-of none v s e = let n : _≡_ {A = ℕ} 0 1 = cc in let no : ⊥ = omega arith in absurd no
+  whole-of (some x) v s e = let z : x ≡ v = cc in ap some z

@@ -9,9 +9,10 @@ ghost use Prim.Native.Nat.{_+_, _*_, _<_, _≤_};
 ghost use lib.ListN.{length};
 ghost use Rattle.lists.specs.Bytes.{gather};
 ghost use Rattle.lists.specs.Counted.{eachFrom};
+ghost use Rattle.rules.specs.Forward.{allForwarded};
 ghost use Rattle.rules.specs.Lines.{writtenBackAt};
 ghost use Rattle.line_bytes.specs.Writes.{placesInside, lineFilled, markedLine, lineWritten, linesWritten, storePut, storedThrough};
-ghost use Rattle.line_bytes.specs.Reads.{readable, byteFrom, byteOrLine, joinedTo, readOf, bytesRead, isLacking};
+ghost use Rattle.line_bytes.specs.Reads.{readable, byteFrom, byteOrLine, joinedTo, readOf, bytesRead, isLacking, isForwarded};
 use rules::LINE_LENGTH;
 use rules::MAX_MEMORY;
 use rules::STORE_PLACES;
@@ -25,10 +26,17 @@ use store_queue::Byte;
 // "Widths are 1, 2 or 4."
 const MAX_WIDTH: u32 = 4;
 
-// A value that is whole, or of which some byte is lacking.
+// What a load reads: a value that is whole, with whether each of its bytes came from a held store (02, card 6), or some byte is lacking.
 pub enum Read {
-    Whole(u32),
+    Whole(u32, bool),
     Lacking,
+}
+
+// A byte of a load: from a held store, from its line, or from neither.
+enum LoadByte {
+    Forwarded(u8),
+    Cached(u8),
+    Missing,
 }
 
 // ---- lines
@@ -146,32 +154,33 @@ fn byte_at(
     cache: &[u8],
     p: usize,
     here: bool,
-) -> Byte
+) -> LoadByte
     requires { ⌜ (here ≡ true → p < length (now cache)) ⌝ }
     ensures { λ r. ⌜ r ≡ byteOrLine i a stores (now (cache .entry)) p here ⌝ }
 {
     let b = store_queue::forward(stores, i, a);
     match b {
-        Byte::Known(x) => Byte::Known(x),
+        Byte::Known(x) => LoadByte::Forwarded(x),
         Byte::Unknown => {
             if here {
-                Byte::Known(cache[p])
+                LoadByte::Cached(cache[p])
             } else {
-                Byte::Unknown
+                LoadByte::Missing
             }
         }
     }
 }
 
-// A lowest byte below what stands above it.
-fn joined(b: Byte, r: Read) -> Read
+// A lowest byte below what stands above it. One byte from the line, and the value did not all come from held stores.
+fn joined(b: LoadByte, r: Read) -> Read
     ensures { λ q. ⌜ q ≡ joinedTo b r ⌝ }
 {
     match r {
         Read::Lacking => Read::Lacking,
-        Read::Whole(v) => match b {
-            Byte::Unknown => Read::Lacking,
-            Byte::Known(x) => Read::Whole((v % 16777216) * 256 + (x as u32)),
+        Read::Whole(v, forwarded) => match b {
+            LoadByte::Missing => Read::Lacking,
+            LoadByte::Forwarded(x) => Read::Whole((v % 16777216) * 256 + (x as u32), forwarded),
+            LoadByte::Cached(x) => Read::Whole((v % 16777216) * 256 + (x as u32), false),
         },
     }
 }
@@ -187,9 +196,9 @@ fn join_bytes(
     here: bool,
 ) -> Read
     requires { ⌜ (width ≤ 4) × (a + width ≤ 65536) × (p ≤ 65536) × (here ≡ true → p + width ≤ length (now cache)) ⌝ }
-    ensures { λ r. ⌜ r ≡ readOf (gather (byteFrom i a stores (now (cache .entry)) p here) a width) ⌝ }
+    ensures { λ r. ⌜ r ≡ readOf (allForwarded i stores a width) (gather (byteFrom i a stores (now (cache .entry)) p here) a width) ⌝ }
 {
-    let mut r = Read::Whole(0);
+    let mut r = Read::Whole(0, true);
     let mut k = width;
     while 0 < k {
         k -= 1;
@@ -240,7 +249,17 @@ pub fn is_lacking(r: Read) -> bool
     ensures { λ b. ⌜ b ≡ isLacking r ⌝ }
 {
     match r {
-        Read::Whole(_) => false,
+        Read::Whole(_, _) => false,
         Read::Lacking => true,
+    }
+}
+
+// Whether each byte came from a held store.
+pub fn is_forwarded(r: Read) -> bool
+    ensures { λ b. ⌜ b ≡ isForwarded r ⌝ }
+{
+    match r {
+        Read::Whole(_, forwarded) => forwarded,
+        Read::Lacking => false,
     }
 }

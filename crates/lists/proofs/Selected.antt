@@ -1,12 +1,12 @@
 -- Selections: what `filter`, `any` and `final` say of one another, of two lists, and of the changes of a queue.
 use Prim.Native.Nat.{ℕ, suc, _≤_}
 use mathlib.Core.Path.{_≡_, refl, sym, _∙_, ap}
-use mathlib.Core.Bool.{Bool, true, false, cond, not, _&&_, _||_, false≢true}
+use mathlib.Core.Bool.{Bool, true, false, cond, not, _&&_, _||_, false≢true, and-false, and-true}
 use mathlib.Core.List.{List, [], _∷_, _++_, append-nil}
 use lib.Dec.{ltb, eqb}
 use native.Mathlib.Omega.{arith}
 use lib.ListN.{length, getD}
-use Rattle.lists.specs.Padded.{any, every, rising, final, filter, shifted, placed, changed}
+use Rattle.lists.specs.Padded.{any, every, rising, final, filter, without, shifted, placed, changed}
 use Rattle.lists.proofs.Cond.{both, either, cases, and-left, and-right, or-left, or-right}
 
 module _ {A : Type 0} where
@@ -42,6 +42,14 @@ module _ {A : Type 0} where
   filter-filter p q r h (x ∷ xs) = cases (p x)
       (λ e. rw (h x, e) (both (λ (l : List A). l) {s = q x} refl (λ _. ap (λ (l : List A). x ∷ l) (filter-filter p q r h xs)) (λ _. filter-filter p q r h xs)))
       (λ e. rw (h x, e) (filter-filter p q r h xs))
+
+  -- what is chosen of the entries that stay
+  pub filter-without : (p t r : A → Bool) (free : A) → p free ≡ false → ((x : A) → r x ≡ (p x && not (t x))) → (l : List A) → filter p (without t free l) ≡ filter r l
+  unfolding filter without
+  filter-without p t r free f h [] = refl
+  filter-without p t r free f h (x ∷ l) = cases (t x)
+      (λ e. rw (h x, e, and-false (p x)) (filter-append p (without t free l) (free ∷ []) ∙ rw f (append-nil _ ∙ filter-without p t r free f h l)))
+      (λ e. rw (h x, e, and-true (p x), filter-without p t r free f h l))
 
   pub any-filter : (p q r : A → Bool) → ((x : A) → r x ≡ (p x && q x)) → (xs : List A) → any q (filter p xs) ≡ any r xs
   unfolding filter any

@@ -51,6 +51,12 @@ module _ {A : Type 0} where
   any-changed p t g h (x ∷ l) f =
       cases (p x) (λ e. or-one (p (cond (t x) (g x) x)) _ (rw (h x e) e)) (λ e. or-two (p (cond (t x) (g x) x)) _ (any-changed p t g h l (rw e at f)))
 
+  -- a change that the test does not see
+  pub changed-any : (p t : A → Bool) (g : A → A) → ((x : A) → p (g x) ≡ p x) → (l : List A) → any p (changed t g l) ≡ any p l
+  unfolding any changed
+  changed-any p t g h [] = refl
+  changed-any p t g h (x ∷ l) = cases (t x) (λ e. rw (e, h x, changed-any p t g h l)) (λ e. rw (e, changed-any p t g h l))
+
   pub any-without : (p t : A → Bool) (free : A) → ((x : A) → p x ≡ true → t x ≡ false) → (l : List A) → any p l ≡ true → any p (without t free l) ≡ true
   unfolding any without
   any-without p t free h [] f = f
@@ -98,6 +104,13 @@ module _ {A : Type 0} where
   unfolding every any
   any-every r [] e = refl
   any-every r (x ∷ xs) e = and-both (not (r x)) _ (rw (or-left (r x) _ e)) (any-every r xs (or-right (r x) _ e))
+
+  -- tests that agree on the entries take off the same ones
+  pub without-same : (ok t u : A → Bool) (free : A) → ((x : A) → ok x ≡ true → t x ≡ u x) → (l : List A) → every ok l ≡ true → without t free l ≡ without u free l
+  unfolding every without
+  without-same ok t u free h [] g = refl
+  without-same ok t u free h (x ∷ l) g =
+      let rest = without-same ok t u free h l (and-right (ok x) _ g) in rw (h x (and-left _ _ g), rest)
 
   pub without-none : (t : A → Bool) (free : A) (l : List A) → any t l ≡ false → without t free l ≡ l
   unfolding any without

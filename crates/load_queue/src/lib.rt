@@ -4,7 +4,7 @@ ghost use mathlib.Core.Path.{_≡_};
 ghost use mathlib.Core.Bool.{cond};
 ghost use Rattle.lists.specs.Padded.{any, first, position, without, placed, changed};
 ghost use Rattle.rules.specs.Shape.{noLoad, isFreeLoad};
-ghost use Rattle.rules.specs.Calls.{waitingAt, answered, answeredBy, youngLoad, waitsBelow};
+ghost use Rattle.rules.specs.Calls.{waitingAt, answered, answeredBy, usesLineBy, youngLoad, waitsBelow};
 use rules::LOAD_PLACES;
 use rules::LoadEntry;
 use rules::NO_LOAD;
@@ -143,6 +143,7 @@ fn mark_answered(l: LoadEntry, i: u32) -> LoadEntry
             address: l.address,
             width: l.width,
             waiting: false,
+            forwarded: l.forwarded,
         };
     }
     l
@@ -164,7 +165,7 @@ pub fn answer_waiting(loads: [LoadEntry; LOAD_PLACES], i: u32) -> [LoadEntry; LO
 }
 
 // An answered load numbered k or less: commit k takes it off the list.
-pub fn is_answered_by(l: LoadEntry, k: u32) -> bool
+fn is_answered_by(l: LoadEntry, k: u32) -> bool
     ensures { λ r. ⌜ r ≡ answeredBy k l ⌝ }
 {
     if l.number == 0 {
@@ -174,6 +175,16 @@ pub fn is_answered_by(l: LoadEntry, k: u32) -> bool
         return false;
     }
     !l.waiting
+}
+
+// One that uses its line then: not each of its bytes came from a held store (02, card 6).
+pub fn uses_line_by(l: LoadEntry, k: u32) -> bool
+    ensures { λ r. ⌜ r ≡ usesLineBy k l ⌝ }
+{
+    if l.forwarded {
+        return false;
+    }
+    is_answered_by(l, k)
 }
 
 // Commit k: the answered loads numbered k or less leave the list.

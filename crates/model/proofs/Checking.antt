@@ -16,7 +16,7 @@ use Rattle.rules.specs.declared.Request.the-variants.{Free, Line}
 use Rattle.rules.specs.Lines.{slotOf, present, useLine}
 use Rattle.rules.specs.Shape.{Queues, Hierarchy, fits, topNumber}
 use Rattle.rules.specs.Calls.{guarded, storeReady}
-use Rattle.rules.specs.WellFormed.{freeZero, freePlacesLast, committedUpToLast, numbersRise, numbersUpToLast, numbersApart, accessesPass, committedWait, waitingUncovered, storePasses, loadPasses, requestAbsent, requestInside, requestWanted, linesFormed, queuesFormed, checkpointsFormed, wellFormed}
+use Rattle.rules.specs.WellFormed.{freeZero, freePlacesLast, committedUpToLast, numbersRise, numbersUpToLast, numbersApart, accessesPass, committedWait, waitingUncovered, forwardedAnswered, storePasses, loadPasses, requestAbsent, requestInside, requestWanted, linesFormed, queuesFormed, checkpointsFormed, wellFormed}
 use Rattle.rules.specs.Runs.{stateChecks}
 use Rattle.queue_checks.specs.Good.{queuesGood, queuesWith}
 use Rattle.access.specs.AccessChecks.{sized}
@@ -82,6 +82,7 @@ module _ (q : Queues) (b : Hierarchy) (ss : length (q .stores) ≡ 16) (ls : len
           ∷ accessesPass q b
           ∷ committedWait q
           ∷ waitingUncovered q
+          ∷ forwardedAnswered q
           ∷ []
 
   -- all that is asked beside the lines

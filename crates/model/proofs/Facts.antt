@@ -17,7 +17,7 @@ use Rattle.rules.specs.declared.Request.the-variants.{Line}
 use Rattle.rules.specs.Shape.{Queues, Hierarchy, figuresAllowed, fits, noLoad, noStore, noCheckpoint, isFreeLoad, isFreeStore}
 use Rattle.rules.specs.Checkpoints.{named, inUse, numberOf}
 use Rattle.rules.specs.Calls.{widthAllowed, passes, accessChecks, waitingAt, committedStore, oldestStore, storeReady}
-use Rattle.rules.specs.WellFormed.{loadPasses, storePasses, freeStoreZero, freeLoadZero, committedWaitAt, waitingUncoveredAt, requestAbsent, requestInside, requestWanted}
+use Rattle.rules.specs.WellFormed.{loadPasses, storePasses, freeStoreZero, freeLoadZero, committedWaitAt, waitingUncoveredAt, forwardedAnsweredAt, requestAbsent, requestInside, requestWanted}
 use Rattle.rules.proofs.QueueView.{Parts, parts, goodLoad, goodStore, goodRequest, load-passes, store-passes, good-load, good-store}
 use Rattle.model.specs.State.{queuesOf, hierarchyOf, Formed, Shaped, InOneLine, Sound, Flushable, Fillable}
 use Rattle.rules.proofs.LineFacts.{fits-tells, good-tells}
@@ -109,12 +109,12 @@ length-of X Y f l n e = sym (length-map l f) ∙ e
 module _ (q : Queues) (b : Hierarchy) (small : b .size ≤ 65536) (p : Parts q b) where
   -- the access of the waiting load of number i
   pub waiting-fine : (i : ℕ) → any (waitingAt i) (q .loads) ≡ true → InOneLine (first (waitingAt i) noLoad (q .loads) .address) (first (waitingAt i) noLoad (q .loads) .width)
-  unfolding waitingAt loadPasses freeLoadZero committedWaitAt waitingUncoveredAt
+  unfolding waitingAt loadPasses freeLoadZero committedWaitAt waitingUncoveredAt forwardedAnsweredAt
   waiting-fine i e =
       let l = first (waitingAt i) noLoad (q .loads) in
       let w = any-first (waitingAt i) noLoad (q .loads) e in
       let g = every-first (goodLoad b (q .last) (q .committed) (q .stores)) (waitingAt i) noLoad (q .loads)
-      (good-load b (q .last) (q .committed) (q .stores) noLoad refl (le-leb 0 (q .last) (omega arith)) refl refl refl) (p .loads-good) in
+      (good-load b (q .last) (q .committed) (q .stores) noLoad refl (le-leb 0 (q .last) (omega arith)) refl refl refl refl) (p .loads-good) in
       access-fine b (l .address) (l .width) small
       (or-then (isFreeLoad l) _ (load-passes b (q .last) (q .committed) (q .stores) l g) (not-true (isFreeLoad l) (and-left _ _ w)))
 

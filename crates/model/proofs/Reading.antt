@@ -13,12 +13,13 @@ use Rattle.rules.specs.declared.Lookup.{Lookup}
 use Rattle.rules.specs.declared.Lookup.the-variants.{Hit, Pending, Miss}
 use Rattle.rules.specs.Shape.{Queues, Hierarchy, lineOf, slots}
 use Rattle.rules.specs.Lines.{slotOf, present, placeOf, cachedByte}
-use Rattle.rules.specs.Forward.{loadByte, loadValue}
+use Rattle.rules.specs.Forward.{loadByte, loadValue, allForwarded}
 use Rattle.rules.specs.Calls.{waitAnswer, loadAnswer}
 use Rattle.records.specs.Records.{isHit}
 use Rattle.line_bytes.specs.declared.Read.{Read}
-use Rattle.line_bytes.specs.Reads.{readOf, byteFrom, bytesRead}
-use Rattle.line_bytes.proofs.Reading.{is-readable, read-inside}
+use Rattle.line_bytes.specs.Reads.{readOf, isForwarded, byteFrom, bytesRead}
+use Rattle.rules.proofs.Entries.{none-forwarded}
+use Rattle.line_bytes.proofs.Reading.{is-readable, read-inside, forwarded-read}
 use Rattle.model.specs.State.{InOneLine, answerOf}
 use Rattle.model.specs.Reads.{placeIn, readingOf, waitOf, answerTo}
 use Rattle.model.proofs.Leaves.{Located}
@@ -45,11 +46,11 @@ module _ (i a w : ℕ) (ss : List StoreEntry) (b : Hierarchy) (f : InOneLine a w
 
   -- what `read_bytes` answers, when it is told whether the line is present, and where its bytes stand
   read-told :
-      p ≤ 65536 → (here ≡ true → p + w ≤ length (b .cache)) → bytesRead i a w ss (b .cache) p here ≡ readOf (loadValue i a w ss b)
+      p ≤ 65536 → (here ≡ true → p + w ≤ length (b .cache)) → bytesRead i a w ss (b .cache) p here ≡ readOf (allForwarded i ss a w) (loadValue i a w ss b)
   unfolding loadValue
   read-told low inside =
       let r = is-readable _ _ _ _ _ (record { narrow = f .narrow; low = f .inside; place-low = low; in-cache = inside }) in
-      read-inside i a w ss (b .cache) _ _ r ∙ ap readOf (gather-same (byteFrom i a ss (b .cache) p here) (loadByte i ss b) w a one-byte)
+      read-inside i a w ss (b .cache) _ _ r ∙ ap (readOf (allForwarded i ss a w)) (gather-same (byteFrom i a ss (b .cache) p here) (loadByte i ss b) w a one-byte)
 
 -- what `read_bytes` answers, when it is told what the lookup said
 module _ (q : Queues) (b : Hierarchy) (i a w : ℕ) (f : InOneLine a w) (g : ℕ) (found : Lookup) (h : Located (q .request) b (lineOf a) g found)
@@ -90,6 +91,12 @@ wait-read i (Hit w) cache = refl
 wait-read i Pending cache = refl
 wait-read i Miss cache = refl
 
-pub answer-read : (i : ℕ) (f : Lookup) (o : Option ℕ) (cache : List ℕ) → answerOf (answerTo i f (readOf o)) cache ≡ loadAnswer i f o
-answer-read i f none cache = wait-read i f cache
-answer-read i f (some v) cache = refl
+pub answer-read : (i : ℕ) (f : Lookup) (t : Bool) (o : Option ℕ) (cache : List ℕ) → answerOf (answerTo i f (readOf t o)) cache ≡ loadAnswer i f o
+answer-read i f t none cache = wait-read i f cache
+answer-read i f t (some v) cache = refl
+
+-- what is listed of it
+pub forwarded-is :
+    (i a w : ℕ) (ss : List StoreEntry) (b : Hierarchy)
+    → isForwarded (readOf (allForwarded i ss a w) (loadValue i a w ss b)) ≡ allForwarded i ss a w
+forwarded-is i a w ss b = forwarded-read (allForwarded i ss a w) (loadValue i a w ss b) (none-forwarded i ss b w a)

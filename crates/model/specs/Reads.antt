@@ -4,7 +4,7 @@ use Rattle.rules.specs.declared.Lookup.{Lookup}
 use Rattle.rules.specs.declared.Lookup.the-variants.{Hit, Pending, Miss}
 use Rattle.rules.specs.Shape.{Queues, Hierarchy, lineBytes, lineOf}
 use Rattle.rules.specs.Lines.{lookup}
-use Rattle.rules.specs.Forward.{loadValue}
+use Rattle.rules.specs.Forward.{loadValue, allForwarded}
 use Rattle.line_bytes.specs.Reads.{readOf}
 use Rattle.line_bytes.specs.declared.Read.{Read}
 use Rattle.line_bytes.specs.declared.Read.the-variants.{Whole, Lacking}
@@ -20,7 +20,7 @@ placeIn f Miss a = 0
 
 -- what the lookup says of the line of address a, and what load i reads of the w bytes from a on
 abbrev pub readingOf : ℕ → ℕ → ℕ → Queues → Hierarchy → Reading
-readingOf i a w q b = record { found = lookup (q .request) b (lineOf a); read = readOf (loadValue i a w (q .stores) b) }
+readingOf i a w q b = record { found = lookup (q .request) b (lineOf a); read = readOf (allForwarded i (q .stores) a w) (loadValue i a w (q .stores) b) }
 
 -- what load i answers when it waits
 abbrev pub waitOf : ℕ → Lookup → Answer
@@ -30,5 +30,5 @@ waitOf i Miss = Waits i
 
 -- what load i answers to what it read
 abbrev pub answerTo : ℕ → Lookup → Read → Answer
-answerTo i f (Whole v) = Value i v
+answerTo i f (Whole v t) = Value i v
 answerTo i f Lacking = waitOf i f

@@ -34,6 +34,7 @@ impl State {
             address: a.address,
             width: a.width,
             waiting: line_bytes::is_lacking(bytes),
+            forwarded: line_bytes::is_forwarded(bytes),
         };
         let listed = load_queue::place_load(loads, entry);
         self.last = i;

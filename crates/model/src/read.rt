@@ -35,7 +35,7 @@ pub(crate) fn answer_to(i: u32, r: Reading) -> Answer
 {
     let read = r.read;
     let found = r.found;
-    let Read::Whole(v) = read else {
+    let Read::Whole(v, _) = read else {
         return wait_answer(i, found);
     };
     Answer::Value(i, v)

@@ -46,7 +46,7 @@ impl State {
     {
         let r = self.read(cache, i, l.address, l.width);
         let bytes = r.read;
-        let Read::Whole(v) = bytes else {
+        let Read::Whole(v, _) = bytes else {
             let found = r.found;
             return Step {
                 answer: read::wait_answer(i, found),

@@ -2,12 +2,12 @@
 -- queues are the clauses of well-formed.
 use Prim.Native.Nat.{ℕ, _+_, _%_, _^_, _≤_, _<_}
 use mathlib.Core.Path.{_≡_, refl, sym, _∙_, ap}
-use mathlib.Core.Bool.{Bool, true, false, not, _&&_, _||_}
+use mathlib.Core.Bool.{Bool, true, false, not, _&&_, _||_, and-false, or-true}
 use mathlib.Core.List.{List}
 use native.Mathlib.Omega.{arith}
 use lib.Dec.{eqb, ltb, leb}
 use lib.ListN.{length, getD, drop}
-use borrow.Author.Tests.{eqb-true, ltb-true, ltb-false, lt-ltb, le-ltb, le-leb, lt-leb, ne-eqb, not-true}
+use borrow.Author.Tests.{eqb-true, ltb-true, ltb-false, lt-ltb, le-ltb, le-leb, lt-leb, ne-eqb, not-true, eq-eqb}
 use Rattle.lists.specs.Padded.{any, every, ascending, freeLast, rising}
 use Rattle.lists.proofs.Cond.{cases, and-left, and-right, and-both, or-one}
 use Rattle.lists.proofs.Every.{every-imp}
@@ -16,11 +16,11 @@ use Rattle.lists.proofs.Rising.{rising-both, rising-last, rising-ascends}
 use Rattle.lists.proofs.Loops.{every-same, rise-free}
 use Rattle.rules.specs.declared.StoreEntry.{StoreEntry}
 use Rattle.rules.specs.declared.LoadEntry.{LoadEntry}
-use Rattle.rules.specs.Shape.{Queues, Hierarchy, noStore, noLoad}
+use Rattle.rules.specs.Shape.{Queues, Hierarchy, noStore, noLoad, isFreeLoad}
 use Rattle.rules.specs.Forward.{olderCovers, someUncovered}
 use Rattle.rules.specs.Calls.{widthAllowed, passes, accessChecks, valueCheck}
-use Rattle.rules.specs.WellFormed.{freeZero, freePlacesLast, committedUpToLast, numbersRise, numbersUpToLast, numbersApart, accessesPass, committedWait, waitingUncovered, freeStoreZero, freeLoadZero, storePasses, loadPasses, committedWaitAt, waitingUncoveredAt, alone}
-use Rattle.rules.proofs.QueueView.{goodStore, goodLoad, stores-join, loads-join, store-zero, store-given, store-passes, load-zero, load-given, load-passes, load-waits, load-exposed}
+use Rattle.rules.specs.WellFormed.{freeZero, freePlacesLast, committedUpToLast, numbersRise, numbersUpToLast, numbersApart, accessesPass, committedWait, waitingUncovered, forwardedAnswered, freeStoreZero, freeLoadZero, storePasses, loadPasses, committedWaitAt, waitingUncoveredAt, forwardedAnsweredAt, alone}
+use Rattle.rules.proofs.QueueView.{goodStore, goodLoad, stores-join, loads-join, store-zero, store-given, store-passes, load-zero, load-given, load-passes, load-waits, load-exposed, load-told}
 use Rattle.access.specs.AccessChecks.{sized}
 use Rattle.queue_checks.specs.Good.{queuesFrom, queuesGood, zeroStore, zeroLoad, storeGood, loadGood, storesGood, loadsGood}
 
@@ -98,8 +98,9 @@ module _ (last h size m : ℕ) (ss : List StoreEntry) (l : LoadEntry) where
         goodLoadAbove
         ≡ (leb (l .number) last
         && (passes (accessChecks (sized size) (l .address) (l .width))
-        && ((l .waiting || ltb h (l .number)) && (not (l .waiting) || someUncovered (l .number) ss (l .address) (l .width)))))
-    unfolding loadGood freeLoadZero loadPasses committedWaitAt waitingUncoveredAt
+        && ((l .waiting || ltb h (l .number))
+        && ((not (l .waiting) || someUncovered (l .number) ss (l .address) (l .width)) && (not (l .forwarded) || not (l .waiting))))))
+    unfolding loadGood freeLoadZero loadPasses committedWaitAt waitingUncoveredAt forwardedAnsweredAt
     load-used = rw (lt-ltb m (l .number) above, used above)
 
     pub load-late : last < l .number → false ≡ goodLoadAbove
@@ -110,12 +111,17 @@ module _ (last h size m : ℕ) (ss : List StoreEntry) (l : LoadEntry) where
       load-astray e = sym (load-used ∙ rw (le-leb (l .number) last low, e))
 
       module _ (pass : passes (accessChecks (sized size) (l .address) (l .width)) ≡ true) where
-        pub load-waiting : l .waiting ≡ true → someUncovered (l .number) ss (l .address) (l .width) ≡ goodLoadAbove
-        load-waiting w = sym (load-used ∙ rw (le-leb (l .number) last low, pass, w))
+        pub load-untold : l .waiting ≡ true → l .forwarded ≡ true → false ≡ goodLoadAbove
+        load-untold w f =
+            sym (load-used ∙ rw (le-leb (l .number) last low, pass, w, f) (and-false (someUncovered (l .number) ss (l .address) (l .width))))
+
+        pub load-waiting : l .waiting ≡ true → l .forwarded ≡ false → someUncovered (l .number) ss (l .address) (l .width) ≡ goodLoadAbove
+        load-waiting w f =
+            sym (load-used ∙ rw (le-leb (l .number) last low, pass, w, f) (and-true (someUncovered (l .number) ss (l .address) (l .width))))
 
         pub load-answered : l .waiting ≡ false → ltb h (l .number) ≡ goodLoadAbove
         load-answered w =
-            sym (load-used ∙ rw (le-leb (l .number) last low, pass, w) (and-true (ltb h (l .number))))
+            sym (load-used ∙ rw (le-leb (l .number) last low, pass, w) (ap (λ (t : Bool). ltb h (l .number) && t) (or-true (not (l .forwarded))) ∙ and-true (ltb h (l .number))))
 
 -- ---- one free place
 
@@ -127,13 +133,31 @@ zero-store last size s = cases (eqb (s .number) 0)
     rw (e, low) (and-true _))
     (λ e. rw e)
 
+-- a place with neither flag is not waiting and forwarded
+neither : (a w s t : Bool) → ((a && (w && (s && t))) && (t || s)) ≡ (a && (w && (s && t)))
+neither false w s t = refl
+neither true false s t = refl
+neither true true false t = refl
+neither true true true false = refl
+neither true true true true = refl
+
 zero-load : (last h size : ℕ) (ss : List StoreEntry) (l : LoadEntry) → (eqb (l .number) 0 && loadGood last h size ss l) ≡ zeroLoad l
-unfolding loadGood freeLoadZero loadPasses committedWaitAt waitingUncoveredAt zeroLoad
+unfolding loadGood freeLoadZero loadPasses committedWaitAt waitingUncoveredAt forwardedAnsweredAt zeroLoad
 zero-load last h size ss l = cases (eqb (l .number) 0)
     (λ e.
     let low : leb (l .number) last ≡ true = le-leb (l .number) last (omega (arith, eqb-true (l .number) 0 e)) in
-    rw (e, low) (and-true _))
+    rw (e, low) (neither (eqb (l .address) 0) (eqb (l .width) 0) (not (l .waiting)) (not (l .forwarded))))
     (λ e. rw e)
+
+-- flag by flag
+module _ (l : LoadEntry) where
+  pub zero-waiting : l .waiting ≡ true → false ≡ zeroLoad l
+  unfolding zeroLoad
+  zero-waiting w = sym (rw w (rw (and-false (eqb (l .width) 0)) (rw (and-false (eqb (l .address) 0)) (and-false (isFreeLoad l)))))
+
+  pub zero-flags : l .number ≡ 0 → l .address ≡ 0 → l .width ≡ 0 → l .waiting ≡ false → not (l .forwarded) ≡ zeroLoad l
+  unfolding zeroLoad
+  zero-flags n a w f = sym (rw (eq-eqb (l .number) 0 n, eq-eqb (l .address) 0 a, eq-eqb (l .width) 0 w, f))
 
 -- ---- from a free place on
 
@@ -217,7 +241,8 @@ module _ (last h size : ℕ) (ss : List StoreEntry) (ls : List LoadEntry) where
       (and-both (numbersApart q) _ apart
       (and-both (accessesPass q b) _ (and-both _ _ (sa (storePasses b) (store-passes b last)) (la (loadPasses b) (load-passes b last h ss)))
       (and-both (committedWait q) _ (la (committedWaitAt h) (load-waits b last h ss))
-      (and-both (waitingUncovered q) true (la (waitingUncoveredAt ss) (load-exposed b last h ss)) refl))))))))
+      (and-both (waitingUncovered q) _ (la (waitingUncoveredAt ss) (load-exposed b last h ss))
+      (and-both (forwardedAnswered q) true (la forwardedAnsweredAt (load-told b last h ss)) refl)))))))))
 
   back : queuesGood q b ≡ true → tested ≡ true
   unfolding queuesGood every storesGood loadsGood storeGood loadGood goodStore goodLoad
@@ -237,11 +262,13 @@ module _ (last h size : ℕ) (ss : List StoreEntry) (ls : List LoadEntry) where
       let pass = and-left (accessesPass q b) _ e₆ in
       let e₇ = and-right (accessesPass q b) _ e₆ in
       let wait = and-left (committedWait q) _ e₇ in
-      let bare = and-left (waitingUncovered q) _ (and-right (committedWait q) _ e₇) in
+      let e₈ = and-right (committedWait q) _ e₇ in
+      let bare = and-left (waitingUncovered q) _ e₈ in
+      let told = and-left (forwardedAnswered q) _ (and-right (waitingUncovered q) _ e₈) in
       let se : every (goodStore b last) ss ≡ true = stores-join b last ss (and-left _ _ zero) (and-left _ _ given) (and-left _ _ pass) in
       let le : every (goodLoad b last h ss) ls ≡ true =
       loads-join b last h ss ls (and-right (every freeStoreZero ss) _ zero) (and-right (every (λ s. leb (s .number) last) ss) _ given)
-      (and-right (every (storePasses b) ss) _ pass) wait bare in
+      (and-right (every (storePasses b) ss) _ pass) wait bare told in
       let sr = rising-both (λ s. s .number) 0 ss (and-left _ _ ends) (and-left _ _ rise) in
       let lr =
       rising-both (λ l. l .number) 0 ls (and-right (freeLast (λ s. s .number) ss) _ ends)

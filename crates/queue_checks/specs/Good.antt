@@ -10,7 +10,7 @@ use Rattle.rules.specs.declared.StoreEntry.{StoreEntry}
 use Rattle.rules.specs.declared.LoadEntry.{LoadEntry}
 use Rattle.rules.specs.declared.Request.the-variants.{Free}
 use Rattle.rules.specs.Shape.{Queues, Hierarchy, isFreeStore, isFreeLoad}
-use Rattle.rules.specs.WellFormed.{freeZero, freePlacesLast, committedUpToLast, numbersRise, numbersUpToLast, numbersApart, accessesPass, committedWait, waitingUncovered, freeStoreZero, freeLoadZero, storePasses, loadPasses, committedWaitAt, waitingUncoveredAt}
+use Rattle.rules.specs.WellFormed.{freeZero, freePlacesLast, committedUpToLast, numbersRise, numbersUpToLast, numbersApart, accessesPass, committedWait, waitingUncovered, forwardedAnswered, freeStoreZero, freeLoadZero, storePasses, loadPasses, committedWaitAt, waitingUncoveredAt, forwardedAnsweredAt}
 use Rattle.access.specs.AccessChecks.{sized}
 
 -- ---- records from their fields
@@ -39,6 +39,7 @@ queuesGood q b =
     ∷ accessesPass q b
     ∷ committedWait q
     ∷ waitingUncovered q
+    ∷ forwardedAnswered q
     ∷ [])
 
 -- ---- entry by entry
@@ -48,7 +49,7 @@ unfoldable pub zeroStore : StoreEntry → Bool
 zeroStore s = isFreeStore s && (eqb (s .address) 0 && (eqb (s .width) 0 && eqb (s .value) 0))
 
 unfoldable pub zeroLoad : LoadEntry → Bool
-zeroLoad l = isFreeLoad l && (eqb (l .address) 0 && (eqb (l .width) 0 && not (l .waiting)))
+zeroLoad l = isFreeLoad l && (eqb (l .address) 0 && (eqb (l .width) 0 && (not (l .waiting) && not (l .forwarded))))
 
 -- what is asked of one entry of the store queue, by last and the memory length
 unfoldable pub storeGood : ℕ → ℕ → StoreEntry → Bool
@@ -58,7 +59,7 @@ storeGood last size s = freeStoreZero s && (leb (s .number) last && storePasses 
 unfoldable pub loadGood : ℕ → ℕ → ℕ → List StoreEntry → LoadEntry → Bool
 loadGood last h size ss l =
     freeLoadZero l
-    && (leb (l .number) last && (loadPasses (sized size) l && (committedWaitAt h l && waitingUncoveredAt ss l)))
+    && (leb (l .number) last && (loadPasses (sized size) l && (committedWaitAt h l && (waitingUncoveredAt ss l && forwardedAnsweredAt l))))
 
 -- each queue: numbers above m rise up to the free places, and each entry is good
 unfoldable pub storesGood : ℕ → ℕ → ℕ → List StoreEntry → Bool

@@ -208,7 +208,7 @@ fn has_uncovered(stores: [StoreEntry; STORE_PLACES], i: u32, a: u32, width: u32)
     false
 }
 
-// A listed load with a number above m that is as it has to be: it waits for a byte, or is answered and not committed.
+// A listed load with a number above m that is as it has to be: it waits for a byte and is not forwarded, or is answered and not committed.
 fn is_good_load(
     l: LoadEntry,
     m: u32,
@@ -228,6 +228,9 @@ fn is_good_load(
     }
     if access::access_passes(l.address, l.width, size) {
         if l.waiting {
+            if l.forwarded {
+                return false;
+            }
             return has_uncovered(stores, l.number, l.address, l.width);
         }
         return committed < l.number;
@@ -242,7 +245,10 @@ fn is_zero_load(l: LoadEntry) -> bool
     if l.number == 0 {
         if l.address == 0 {
             if l.width == 0 {
-                return !l.waiting;
+                if l.waiting {
+                    return false;
+                }
+                return !l.forwarded;
             }
         }
     }

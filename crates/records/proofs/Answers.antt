@@ -22,7 +22,7 @@ use Rattle.rules.specs.declared.Lookup.{Lookup}
 use Rattle.rules.specs.declared.Lookup.the-variants.{Hit, Pending, Miss}
 use Rattle.rules.specs.Shape.{Hierarchy, names, holding, lineOf, tagAt, setOf, firstSlot}
 use Rattle.rules.specs.Lines.{slotOf, present, wayOf, lookup, agedAt, useSlot, useLine}
-use Rattle.rules.specs.Calls.{answeredBy, useEach}
+use Rattle.rules.specs.Calls.{usesLineBy, useEach}
 use Rattle.rules.proofs.Lookup as answer
 use Rattle.rules.proofs.TagLookup.{hit-tells}
 use Rattle.records.specs.Records.{hasRoom, inTable, inSet, isHit, lookupIn, tabled, usedTags, victimIn, installedIn}
@@ -135,15 +135,15 @@ used-line l b = go (present b l)
 -- the lines of the answered loads, one load further: it uses its line, or it is not answered
 module _ (g : Figures) (k : ℕ) (l : LoadEntry) (ls : List LoadEntry) (tags : List Tag) where
   pub answered-step :
-      answeredBy k l ≡ true
-      → useEach (filter (answeredBy k) (l ∷ ls)) (tabled g tags) .tags
-      ≡ useEach (filter (answeredBy k) ls) (tabled g (usedTags g (lineOf (l .address)) tags)) .tags
+      usesLineBy k l ≡ true
+      → useEach (filter (usesLineBy k) (l ∷ ls)) (tabled g tags) .tags
+      ≡ useEach (filter (usesLineBy k) ls) (tabled g (usedTags g (lineOf (l .address)) tags)) .tags
   unfolding filter useEach
-  answered-step t = rw t (ap (λ (b : Hierarchy). useEach (filter (answeredBy k) ls) b .tags) (used-line (lineOf (l .address)) (tabled g tags)))
+  answered-step t = rw t (ap (λ (b : Hierarchy). useEach (filter (usesLineBy k) ls) b .tags) (used-line (lineOf (l .address)) (tabled g tags)))
 
   pub other-step :
-      answeredBy k l ≡ false
-      → useEach (filter (answeredBy k) (l ∷ ls)) (tabled g tags) .tags ≡ useEach (filter (answeredBy k) ls) (tabled g tags) .tags
+      usesLineBy k l ≡ false
+      → useEach (filter (usesLineBy k) (l ∷ ls)) (tabled g tags) .tags ≡ useEach (filter (usesLineBy k) ls) (tabled g tags) .tags
   unfolding filter
   other-step t = rw t
 

@@ -11,7 +11,7 @@ ghost use Rattle.lists.specs.Padded.{first, filter, total};
 ghost use Rattle.lists.specs.Counted.{firstFrom, greatestFrom, eachFrom};
 ghost use Rattle.rules.specs.Shape.{names, noTag, noLoad, tagAt};
 ghost use Rattle.rules.specs.Lines.{holdsLine, present, agedAt, wordsOf, dirtyAfter, marked};
-ghost use Rattle.rules.specs.Calls.{answeredBy, useEach, wantsLine};
+ghost use Rattle.rules.specs.Calls.{usesLineBy, useEach, wantsLine};
 ghost use Rattle.rules.specs.Runs.{startTags};
 ghost use Rattle.records.specs.Records.{hasRoom, inTable, inSet, isHit, lookupIn, tabled, usedTags, victimIn, installedIn, flushedTags};
 use rules::Figures;
@@ -449,14 +449,15 @@ pub fn lowest_wanting(
     NO_LOAD
 }
 
-// "Answered loads numbered k or less leave the list in number order, each using its line if the line is present": the uses.
+// "Answered loads numbered k or less leave the list in number order, each using its line if the line is present": the uses. 02, card 6: a load
+// whose bytes all came from held stores uses none.
 pub fn use_answered(
     tags: [Tag; TAG_RECORDS],
     figures: Figures,
     loads: [LoadEntry; LOAD_PLACES],
     k: u32,
 ) -> [Tag; TAG_RECORDS]
-    ensures { λ r. ⌜ r ≡ cond (hasRoom figures) (useEach (filter (answeredBy k) loads) (tabled figures tags) .tags) tags ⌝ }
+    ensures { λ r. ⌜ r ≡ cond (hasRoom figures) (useEach (filter (usesLineBy k) loads) (tabled figures tags) .tags) tags ⌝ }
 {
     let mut out = tags;
     if !has_room(figures) {
@@ -466,7 +467,7 @@ pub fn use_answered(
     while j < LOAD_PLACES {
         let load = loads[j];
         j += 1;
-        if load_queue::is_answered_by(load, k) {
+        if load_queue::uses_line_by(load, k) {
             let used = use_line(out, figures, load.address / LINE_BYTES);
             out = used;
         }

@@ -19,7 +19,7 @@ use Rattle.rules.specs.Calls.{Call, Answer, Outcome, load, store, retry,
 use Rattle.rules.specs.Runs.{namesRefusal, outcome, answer, next}
 use Rattle.rules.specs.Kept.{Formed}
 use Rattle.rules.specs.CheckpointClaims.{checkpointsOf, committedCheckpoints, lowered, changesCheckpoints, SetsExactly, ReturnsExactly, AbortsExactly, CommitsExactly, CheckpointsStay, CheckpointsRanked}
-use Rattle.rules.proofs.Checks.{outcome-by, opened, guarded-passes}
+use Rattle.rules.proofs.Checks.{outcome-by, done, opened, guarded-passes}
 use Rattle.rules.proofs.QueueView.{parts}
 use Rattle.rules.proofs.Entries.{checkpoint-checked, restore-checked, tried}
 use Rattle.rules.proofs.InForce.{checkpoints-of, stands-behind, stands-low, in-force}
@@ -28,19 +28,6 @@ use Rattle.rules.proofs.Checkpoints.{ranks-stay}
 use Rattle.rules.proofs.CheckpointRanks.{marksOf, place-free, set-marks, before-marks, above-marks, upto-marks}
 
 -- ---- an accepted call
-
--- o is what the rule of c does, on a well-formed state that passes its checks
-record Done (c : Call) (w : World) (o : Outcome) : Type 0 where
-  well : Formed w
-  passed : passes (callChecks c (w .queues) (w .hierarchy)) ≡ true
-  same : o ≡ rule c (w .queues) (w .hierarchy)
-
--- so does a call that names its refusals, where it is accepted
-done : (c : Call) (w : World) → namesRefusal c ≡ true → isAccepted (answer c w) ≡ true → Done c w (outcome c (w .queues) (w .hierarchy))
-unfolding answer
-done c w n =
-    outcome-by c (w .queues) (w .hierarchy) (λ o. isAccepted (o .answer) ≡ true → Done c w o) (λ k e. absurd (false≢true (rw n at e)))
-    (λ fit wf p e. record { well = wf; passed = p; same = refl })
 
 -- an abort at a number above h, the next one at most, is accepted
 abort-there : (n : ℕ) (w : World) → Formed w → w .queues .committed < n → n ≤ nextNumber (w .queues) → outcome (abort n) (w .queues) (w .hierarchy) ≡ abortRule n (w .queues) (w .hierarchy)

@@ -2,7 +2,7 @@
 -- exactly under its condition, when no earlier condition holds.
 use Prim.Native.Nat.{ℕ}
 use mathlib.Core.Path.{_≡_, refl, sym, _∙_, ap, subst}
-use mathlib.Core.Bool.{Bool, true, false, cond, not, _&&_}
+use mathlib.Core.Bool.{Bool, true, false, cond, not, _&&_, false≢true}
 use mathlib.Core.List.{List, [], _∷_, _++_}
 use mathlib.Core.Option.{Option, some, none}
 use lib.Dec.{leb, ltb}
@@ -18,6 +18,7 @@ use Rattle.rules.specs.Forward.{loadValue}
 use Rattle.rules.specs.Calls.{Call, Answer, Outcome, Check, load, store, retry, commit, abort, idle, reply, flush, show, refused, waits, waitsRequested, isAccepted, unchanged, emptyPart, guarded, passes, earlyChecks, callChecks, rule, waitAnswer, loadAnswer, loadRule, storeRule, answerLoad, retryWith, retryRule, commitRule, abortRule, canDrain, canRequestLoad, canRequestStore, idleRule, replyRule, flushRule, showRule, waitingAt, nextNumber, checkpoint, restore, checkpointRule, restoreRule}
 use Rattle.rules.specs.WellFormed.{wellFormed}
 use Rattle.rules.specs.Runs.{formedCheck, namesRefusal, refusal, outcome, answer, next}
+use Rattle.rules.specs.Kept.{Formed}
 use Rattle.rules.specs.Refusals.{allChecks, FirstFailing, RefusedExactly, RefusedKeeps}
 
 -- ---- guarded
@@ -188,6 +189,21 @@ module _ (q : Queues) (b : Hierarchy) where
       either (λ (r : Answer). isAccepted r ≡ true) (ltb a (b .size) && present b (lineOf a)) (λ e. refl) (λ e. refl)
   rule-accepts (checkpoint x) = refl
   rule-accepts (restore x) = refl
+
+-- ---- an accepted call
+
+-- o is what the rule of c does, on a well-formed state that passes its checks
+pub record Done (c : Call) (w : World) (o : Outcome) : Type 0 where
+  pub well : Formed w
+  pub passed : passes (callChecks c (w .queues) (w .hierarchy)) ≡ true
+  pub same : o ≡ rule c (w .queues) (w .hierarchy)
+
+-- so does a call that names its refusals, where it is accepted
+pub done : (c : Call) (w : World) → namesRefusal c ≡ true → isAccepted (answer c w) ≡ true → Done c w (outcome c (w .queues) (w .hierarchy))
+unfolding answer
+done c w n =
+    outcome-by c (w .queues) (w .hierarchy) (λ o. isAccepted (o .answer) ≡ true → Done c w o) (λ k e. absurd (false≢true (rw n at e)))
+    (λ fit wf p e. record { well = wf; passed = p; same = refl })
 
 -- ---- a refused call changes nothing
 

@@ -1,7 +1,7 @@
 -- Entries of the queues: an access that passes checks 2, 3 and 4; what the checks of a call tell; what the tests of the rules tell of a
 -- store or a load; and what the value of a load tells of its line.
 use Prim.Native.Nat.{ℕ, zero, suc, _+_, _*_, _%_, _≤_, _<_}
-use mathlib.Core.Path.{_≡_, refl, sym, ap, subst}
+use mathlib.Core.Path.{_≡_, refl, sym, _∙_, ap, subst}
 use mathlib.Core.Bool.{true, false, not, _&&_, _||_}
 use mathlib.Core.List.{List, [], _∷_}
 use mathlib.Core.Logic.{_⊎_, inl, inr, ⊎-elim}
@@ -12,6 +12,7 @@ use borrow.Author.Tests.{ltb-false, leb-true, leb-false, eqb-true, eqb-false, le
 use Rattle.lists.specs.Padded.{any, every, first}
 use Rattle.lists.specs.Counted.{someFrom}
 use Rattle.lists.specs.Bytes.{addByte, gather}
+use Rattle.lists.proofs.Bytes.{some-lacking}
 use Rattle.lists.proofs.Cond.{cases, and-left, and-right, and-both, or-left, or-right, or-one, or-two, or-then, or-by, wrong}
 use Rattle.lists.proofs.Every.{every-split}
 use Rattle.lists.proofs.Some.{any-first}
@@ -19,11 +20,11 @@ use Rattle.rules.specs.declared.StoreEntry.{StoreEntry}
 use Rattle.rules.specs.declared.LoadEntry.{LoadEntry}
 use Rattle.rules.specs.Shape.{Queues, Hierarchy, topNumber, noLoad, isFreeStore, isFreeLoad, isFree, lineOf}
 use Rattle.rules.specs.Lines.{present, cachedByte}
-use Rattle.rules.specs.Forward.{olderCovers, loadByte, loadValue, someUncovered}
+use Rattle.rules.specs.Forward.{olderCovers, loadByte, loadValue, someUncovered, allForwarded}
 use Rattle.rules.specs.Checkpoints.{inUse, nameAllowed}
 use Rattle.rules.specs.Calls.{load, store, retry, commit, abort, reply, flush, checkpoint, restore, check, passes, widthAllowed, accessChecks, valueCheck, numberCheck, callChecks, committedStore, waitingAt, isNone, answered, answeredBy, waitsBelow, oldestStore, storeReady, wantsLine}
 use Rattle.rules.specs.WellFormed.{alone, storePasses, loadPasses, committedWaitAt, waitingUncoveredAt, waitsFor}
-use Rattle.rules.proofs.QueueView.{goodStore, goodLoad, store-zero, store-low, store-passes, good-store, load-zero, load-low, load-passes, load-waits, load-exposed, good-load}
+use Rattle.rules.proofs.QueueView.{goodStore, goodLoad, store-zero, store-low, store-passes, good-store, load-zero, load-low, load-passes, load-waits, load-exposed, load-told, good-load}
 
 -- ---- an access
 
@@ -169,6 +170,12 @@ pub load-later :
 load-later b c m n h k ss tt l z le p x g =
     good-load c n k tt l (load-zero b m h ss l g) (le-leb (l .number) n (omega (arith, load-low b m h ss l g)))
     (unfold loadPasses in (rw z (load-passes b m h ss l g))) (p (load-waits b m h ss l g)) (x (load-exposed b m h ss l g))
+    (load-told b m h ss l g)
+
+-- a byte is uncovered exactly if not each is forwarded
+pub uncovered-is : (i : ℕ) (ss : List StoreEntry) (a w : ℕ) → someUncovered i ss a w ≡ not (allForwarded i ss a w)
+unfolding someUncovered allForwarded
+uncovered-is i ss a w = some-lacking _ _ (λ x. refl) a w
 
 -- a byte that is covered by no older store still is, if the stores cover no more
 uncovered-map :
@@ -340,6 +347,10 @@ module _ (i : ℕ) (ss : List StoreEntry) (b : Hierarchy) where
   none-uncovered zero a e = wrong e refl
   none-uncovered (suc w) a e =
       ⊎-elim (λ n. or-one _ _ (ap not (byte-none a n))) (λ n. or-two (not (any (olderCovers i a) ss)) _ (none-uncovered w (suc a) n)) (none-add (loadByte i ss b a) _ e)
+
+  -- and then not each byte is forwarded
+  pub none-forwarded : (w a : ℕ) → isNone (loadValue i a w ss b) ≡ true → allForwarded i ss a w ≡ false
+  none-forwarded w a e = not-true _ (sym (uncovered-is i ss a w) ∙ none-uncovered w a e)
 
   -- such a load has its value only from its line
   pub some-present :

@@ -22,7 +22,7 @@ use Rattle.rules.specs.Shape.{Queues, Hierarchy, World, world, noStore, 
 use Rattle.rules.specs.Lines.{fillLine}
 use Rattle.rules.specs.Forward.{loadValue}
 use Rattle.rules.specs.Checkpoints.{numberOf, forgetAbove, forgetFrom}
-use Rattle.rules.specs.Calls.{Call, Answer, Outcome, load, store, retry, commit, abort, idle, reply, flush, show, checkpoint, restore, isAccepted, passes, callChecks, waitingAt, nextNumber, loadRule, storeRule, answerLoad, retryWith, retryRule, answeredBy, commitRule, squash, abortRule, checkpointRule, restoreRule, waitsBelow, oldestStore, storeReady, canDrain, drainOldest, canRequestLoad, canRequestStore, idleRule, replyRule, flushRule, showRule, rule}
+use Rattle.rules.specs.Calls.{Call, Answer, Outcome, load, store, retry, commit, abort, idle, reply, flush, show, checkpoint, restore, isAccepted, passes, callChecks, waitingAt, nextNumber, loadRule, storeRule, answerLoad, retryWith, retryRule, usesLineBy, commitRule, squash, abortRule, checkpointRule, restoreRule, waitsBelow, oldestStore, storeReady, canDrain, drainOldest, canRequestLoad, canRequestStore, idleRule, replyRule, flushRule, showRule, rule}
 use Rattle.rules.specs.WellFormed.{alone, wellFormed}
 use Rattle.rules.specs.Runs.{refusal, outcome, answer, next}
 use Rattle.rules.specs.Flat.{numberIn, flatOf, appliedAll, heldStore, below, upTo}
@@ -179,7 +179,7 @@ module _ (q : Queues) (b : Hierarchy) (wf : wellFormed q b ≡ true) where
   rule-moved (retry i) e =
       let l = first (waitingAt i) noLoad (q .loads) in
       retry-moved i l (loadValue i (l .address) (l .width) (q .stores) b)
-  rule-moved (commit k) e = unmoved (commit k) _ refl (flat-use-each (filter (answeredBy k) (q .loads)) b)
+  rule-moved (commit k) e = unmoved (commit k) _ refl (flat-use-each (filter (usesLineBy k) (q .loads)) b)
   rule-moved (abort n) e = abort-moved n
   rule-moved idle e = idle-moved
   rule-moved reply e = reply-moved e

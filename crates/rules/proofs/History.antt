@@ -59,7 +59,7 @@ pub record Traced (found : List ℕ) (h : History) (q : Queues) (b : Hierarchy) 
   pub bounded : every (upTo (q .last)) (h .stores) ≡ true
   pub ordered : increasing (λ s. s .number) 0 (h .stores) ≡ true
 
-same-refl : (l : LoadEntry) → sameLoad l l ≡ true
+pub same-refl : (l : LoadEntry) → sameLoad l l ≡ true
 same-refl l = rw (eq-eqb (l .number) (l .number) refl, eq-eqb (l .address) (l .address) refl) (eq-eqb (l .width) (l .width) refl)
 
 up-weaken : (m n : ℕ) → m ≤ n → (ss : List StoreEntry) → every (upTo m) ss ≡ true → every (upTo n) ss ≡ true
@@ -176,8 +176,8 @@ module _ (q : Queues) (b : Hierarchy) where
   -- ---- the loads
 
   -- the new load passes the test, if the call is a load
-  abbrev Joins : Call → (LoadEntry → Bool) → Type 0
-  Joins (load a w) r = (t : Bool) → r (record { number = nextNumber q; address = a; width = w; waiting = t }) ≡ true
+  abbrev pub Joins : Call → (LoadEntry → Bool) → Type 0
+  Joins (load a w) r = (t f : Bool) → r (record { number = nextNumber q; address = a; width = w; waiting = t; forwarded = f }) ≡ true
   Joins (store a w v) r = Unit {0}
   Joins (retry i) r = Unit {0}
   Joins (commit k) r = Unit {0}
@@ -201,9 +201,9 @@ module _ (q : Queues) (b : Hierarchy) where
         either Passes (leb i (q .committed)) (λ e. every-without r r (waitingAt i) noLoad free (λ x u t. u) (q .loads) g)
         (λ e. every-changed r r (waitingAt i) answered (λ x u t. marks x u) (λ x u t. u) (q .loads) g)
 
-    rule-loads : (c : Call) → Joins c r → every r (q .loads) ≡ true → Passes (rule c q b)
+    pub rule-loads : (c : Call) → Joins c r → every r (q .loads) ≡ true → Passes (rule c q b)
     unfolding loadRule storeRule retryRule commitRule abortRule squash checkpointRule restoreRule idleRule replyRule flushRule showRule
-    rule-loads (load a w) j g = every-placed r isFreeLoad _ (q .loads) (j (isNone (loadValue (nextNumber q) a w (q .stores) b))) g
+    rule-loads (load a w) j g = every-placed r isFreeLoad _ (q .loads) (j _ _) g
     rule-loads (store a w v) j g = g
     rule-loads (retry i) j g =
         let l = first (waitingAt i) noLoad (q .loads) in
@@ -222,7 +222,7 @@ module _ (q : Queues) (b : Hierarchy) where
 
   -- each new load is younger than the drained stores
   clear-joins : (c : Call) (ss : List StoreEntry) → every (below (nextNumber q)) ss ≡ true → Joins c (clear ss)
-  clear-joins (load a w) ss s = λ t. or-two (not t) _ s
+  clear-joins (load a w) ss s = λ t f. or-two (not t) _ s
   clear-joins (store a w v) ss s = tt
   clear-joins (retry i) ss s = tt
   clear-joins (commit k) ss s = tt
@@ -244,7 +244,7 @@ module _ (q : Queues) (b : Hierarchy) where
     new-joins : (c : Call) → Joins c (remembered (added c (rule c q b .answer) h))
     unfolding added first loadRule
     new-joins (load a w) =
-        λ t. or-two (eqb (nextNumber q) 0) _
+        λ t f. or-two (eqb (nextNumber q) 0) _
         (rw (load-number (lookup (q .request) b (lineOf a)) (loadValue (nextNumber q) a w (q .stores) b), eq-eqb (nextNumber q) (nextNumber q) refl)
         (rw (eq-eqb (nextNumber q) (nextNumber q) refl, eq-eqb a a refl) (eq-eqb w w refl)))
     new-joins (store a w v) = tt

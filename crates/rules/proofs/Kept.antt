@@ -19,10 +19,10 @@ use Rattle.rules.specs.declared.Request.{Request}
 use Rattle.rules.specs.declared.Request.the-variants.{Free, Line}
 use Rattle.rules.specs.Shape.{Queues, Hierarchy, World, noLoad, isFree, requestedLine, lineOf, writesThrough, fits, world, noCheckpoint}
 use Rattle.rules.specs.Lines.{present, fillLine}
-use Rattle.rules.specs.Forward.{loadValue, someUncovered}
+use Rattle.rules.specs.Forward.{loadValue, someUncovered, allForwarded}
 use Rattle.rules.specs.Checkpoints.{numberOf, forgetAbove}
-use Rattle.rules.specs.Calls.{Call, Outcome, load, store, retry, commit, abort, idle, reply, flush, show, checkpoint, restore, refused, isAccepted, unchanged, passes, accessChecks, callChecks, isNone, nextNumber, withRequest, loadRule, storeRule, answerLoad, retryWith, retryRule, answeredBy, useEach, commitRule, abortRule, checkpointRule, restoreRule, oldestStore, storeReady, canDrain, wantsLine, canRequestLoad, lowestWanting, canRequestStore, idleRule, replyRule, flushRule, showRule, rule}
-use Rattle.rules.specs.WellFormed.{freeStoreZero, freeLoadZero, storePasses, loadPasses, committedWaitAt, waitingUncoveredAt, alone, requestAbsent, requestInside, requestWanted, waitsFor, wellFormed, freeCheckpointZero, placedAt, nameFits, namesDistinct, ranksFrom, checkpointsFormed}
+use Rattle.rules.specs.Calls.{Call, Outcome, load, store, retry, commit, abort, idle, reply, flush, show, checkpoint, restore, refused, isAccepted, unchanged, passes, accessChecks, callChecks, isNone, nextNumber, withRequest, loadRule, storeRule, answerLoad, retryWith, retryRule, usesLineBy, useEach, commitRule, abortRule, checkpointRule, restoreRule, oldestStore, storeReady, canDrain, wantsLine, canRequestLoad, lowestWanting, canRequestStore, idleRule, replyRule, flushRule, showRule, rule}
+use Rattle.rules.specs.WellFormed.{freeStoreZero, freeLoadZero, storePasses, loadPasses, committedWaitAt, waitingUncoveredAt, forwardedAnsweredAt, alone, requestAbsent, requestInside, requestWanted, waitsFor, wellFormed, freeCheckpointZero, placedAt, nameFits, namesDistinct, ranksFrom, checkpointsFormed}
 use Rattle.rules.specs.Runs.{refusal, outcome, answer, next, after, started, startAllowed, startAnswer, startWorld, ready, startRefused}
 use Rattle.rules.specs.Kept.{Formed, StartFormed, NextKept, RunKept, ownOutcome, Admitted, AdmittedAfterStart}
 use Rattle.rules.proofs.Checks.{guarded-numbered, ownChecks, opened-by, outcome-by, rule-accepts, refusal-number}
@@ -32,7 +32,7 @@ use Rattle.rules.proofs.LineStart.{start-fits, start-good}
 use Rattle.rules.proofs.QueueView.{Parts, parts, whole, goodStore, goodLoad, goodRequest, good-store, good-load}
 use Rattle.rules.proofs.Checkpoints.{checkpoints-tell, checkpoints-are, above-formed}
 use Rattle.rules.proofs.SquashFormed.{squash-formed}
-use Rattle.rules.proofs.Entries.{load-checked, store-checked, commit-checked, abort-checked, checkpoint-checked, restore-checked, reply-checked, fine, line-inside, one-line, store-access, load-access, load-uncovered, ready-tells, for-is, wants-tells, tried, tried-waits, none-uncovered, some-present}
+use Rattle.rules.proofs.Entries.{load-checked, store-checked, commit-checked, abort-checked, checkpoint-checked, restore-checked, reply-checked, fine, line-inside, one-line, store-access, load-access, load-uncovered, ready-tells, for-is, wants-tells, tried, tried-waits, none-uncovered, none-forwarded, some-present}
 use Rattle.rules.proofs.QueuesKept.{wantedBy, asks-line, other-lines, free-load-good, oldest-good, tried-good, load-joins, store-joins, answered-leaves, commits, marks, checkpoint-joins, oldest-leaves, asks}
 use Rattle.rules.proofs.InForce.{in-force, stands-formed}
 
@@ -64,15 +64,16 @@ module _ (q : Queues) (b : Hierarchy) (wf : wellFormed q b ≡ true) where
   not-free = ne-eqb (nextNumber q) 0 (λ z. omega arith)
 
   load-formed : (a w : ℕ) → passes (callChecks (load a w) q b) ≡ true → Leaves (loadRule a w q b)
-  unfolding loadRule freeLoadZero loadPasses committedWaitAt waitingUncoveredAt
+  unfolding loadRule freeLoadZero loadPasses committedWaitAt waitingUncoveredAt forwardedAnsweredAt
   load-formed a w e =
       let c = load-checked q b a w e in
       let v = loadValue (nextNumber q) a w (q .stores) b in
-      load-joins q b p (omega (arith, p .last-fits, c .room)) (record { number = nextNumber q; address = a; width = w; waiting = isNone v }) refl
+      load-joins q b p (omega (arith, p .last-fits, c .room)) (record { number = nextNumber q; address = a; width = w; waiting = isNone v; forwarded = allForwarded (nextNumber q) (q .stores) a w }) refl
       (good-load b (nextNumber q) (q .committed) (q .stores) _ (or-one _ _ (ap not not-free)) (le-leb (nextNumber q) (nextNumber q) (omega arith))
       (or-two (eqb (nextNumber q) 0) _ (c .access))
       (or-two (eqb (nextNumber q) 0) _ (or-two (isNone v) _ (lt-ltb (q .committed) (nextNumber q) (omega (arith, p .order)))))
-      (or-two (eqb (nextNumber q) 0) _ (or-by (not (isNone v)) _ (λ n. none-uncovered (nextNumber q) (q .stores) b w a (not-false _ n)))))
+      (or-two (eqb (nextNumber q) 0) _ (or-by (not (isNone v)) _ (λ n. none-uncovered (nextNumber q) (q .stores) b w a (not-false _ n))))
+      (cases (isNone v) (λ n. or-one _ _ (ap not (none-forwarded (nextNumber q) (q .stores) b w a n))) (λ n. or-two (not (allForwarded (nextNumber q) (q .stores) a w)) _ (ap not n))))
 
   store-formed : (a w v : ℕ) → passes (callChecks (store a w v) q b) ≡ true → Leaves (storeRule a w v q b)
   unfolding storeRule freeStoreZero storePasses
@@ -83,7 +84,7 @@ module _ (q : Queues) (b : Hierarchy) (wf : wellFormed q b ≡ true) where
       (or-two (eqb (nextNumber q) 0) _ (and-both _ _ (c .access) (c .fits-width))))
 
   -- a waiting load that has a value has its line
-  tried-present :
+  pub tried-present :
       (i : ℕ) → passes (callChecks (retry i) q b) ≡ true → isNone (loadValue i (tried i q .address) (tried i q .width) (q .stores) b) ≡ false
       → present b (lineOf (tried i q .address)) ≡ true
   tried-present i e n =
@@ -110,7 +111,7 @@ module _ (q : Queues) (b : Hierarchy) (wf : wellFormed q b ≡ true) where
   unfolding commitRule
   commit-formed k e =
       let c = commit-checked q b k e in
-      with-lines _ _ (commits q b p k (c .0) (c .1)) (use-each (filter (answeredBy k) (q .loads)) b (p .fit) g)
+      with-lines _ _ (commits q b p k (c .0) (c .1)) (use-each (filter (usesLineBy k) (q .loads)) b (p .fit) g)
 
   abort-formed : (n : ℕ) → passes (callChecks (abort n) q b) ≡ true → Leaves (abortRule n q b)
   unfolding abortRule
@@ -233,7 +234,7 @@ start-checkpoints = refl
 pub start-formed : (f : Figures) (cache memory : List ℕ) → StartFormed f cache memory
 start-formed f cache memory e =
     rw (start-leaves f cache memory e)
-    (whole _ _ (unfold started rising every goodStore goodLoad freeStoreZero freeLoadZero storePasses loadPasses committedWaitAt waitingUncoveredAt alone goodRequest requestAbsent requestInside requestWanted in (record {
+    (whole _ _ (unfold started rising every goodStore goodLoad freeStoreZero freeLoadZero storePasses loadPasses committedWaitAt waitingUncoveredAt forwardedAnsweredAt alone goodRequest requestAbsent requestInside requestWanted in (record {
       fit = start-fits f cache memory (start-allowed f cache memory e);
       lines = good-is _ (start-good f cache memory (start-allowed f cache memory e));
       store-places = refl;

@@ -1,5 +1,6 @@
 pub mod ByComputing
 pub mod ByComputingCheckpoints
+pub mod ByComputingForwarding
 pub mod ByComputingLookup
 pub mod Checks
 pub mod Numbers
@@ -34,3 +35,4 @@ pub mod History
 pub mod Values
 pub mod Flush
 pub mod Words
+pub mod ForwardingClaims

@@ -14,7 +14,7 @@ use Rattle.rules.specs.declared.StoreEntry.{StoreEntry}
 use Rattle.rules.specs.declared.LoadEntry.{LoadEntry}
 use Rattle.rules.specs.declared.Request.{Request}
 use Rattle.rules.specs.Shape.{Queues, Hierarchy, noStore, noLoad, isFreeStore, isFreeLoad, topNumber, fits}
-use Rattle.rules.specs.WellFormed.{freeStoreZero, freeLoadZero, queueLengths, freeZero, freePlacesLast, lastFits, committedUpToLast, numbersRise, numbersUpToLast, numbersApart, accessesPass, committedWait, waitingUncovered, alone, storePasses, loadPasses, committedWaitAt, waitingUncoveredAt, requestAbsent, requestInside, requestWanted, linesFormed, queuesFormed, wellFormed, checkpointsFormed}
+use Rattle.rules.specs.WellFormed.{freeStoreZero, freeLoadZero, queueLengths, freeZero, freePlacesLast, lastFits, committedUpToLast, numbersRise, numbersUpToLast, numbersApart, accessesPass, committedWait, waitingUncovered, forwardedAnswered, alone, storePasses, loadPasses, committedWaitAt, waitingUncoveredAt, forwardedAnsweredAt, requestAbsent, requestInside, requestWanted, linesFormed, queuesFormed, wellFormed, checkpointsFormed}
 
 -- ---- the view
 
@@ -25,7 +25,7 @@ goodStore b last s = freeStoreZero s && (leb (s .number) last && storePasses b s
 -- all that is asked of one entry of the load queue
 unfoldable pub goodLoad : Hierarchy → ℕ → ℕ → List StoreEntry → LoadEntry → Bool
 goodLoad b last h ss l =
-    freeLoadZero l && (leb (l .number) last && (loadPasses b l && (committedWaitAt h l && waitingUncoveredAt ss l)))
+    freeLoadZero l && (leb (l .number) last && (loadPasses b l && (committedWaitAt h l && (waitingUncoveredAt ss l && forwardedAnsweredAt l))))
 
 -- all that is asked of the register
 unfoldable pub goodRequest : Request → Queues → Hierarchy → Bool
@@ -59,13 +59,14 @@ stores-join b last ss z g p =
 pub loads-join :
     (b : Hierarchy) (last h : ℕ) (ss : List StoreEntry) (ls : List LoadEntry) → every freeLoadZero ls ≡ true
     → every (λ l. leb (l .number) last) ls ≡ true → every (loadPasses b) ls ≡ true → every (committedWaitAt h) ls ≡ true
-    → every (waitingUncoveredAt ss) ls ≡ true → every (goodLoad b last h ss) ls ≡ true
+    → every (waitingUncoveredAt ss) ls ≡ true → every forwardedAnsweredAt ls ≡ true → every (goodLoad b last h ss) ls ≡ true
 unfolding goodLoad
-loads-join b last h ss ls z g p c x =
-    every-imp₂ freeLoadZero (λ l. leb (l .number) last && (loadPasses b l && (committedWaitAt h l && waitingUncoveredAt ss l))) (goodLoad b last h ss) (λ l u v. and-both _ _ u v) ls z
-    (every-imp₂ (λ l. leb (l .number) last) (λ l. loadPasses b l && (committedWaitAt h l && waitingUncoveredAt ss l)) (λ l. leb (l .number) last && (loadPasses b l && (committedWaitAt h l && waitingUncoveredAt ss l))) (λ l u v. and-both _ _ u v) ls g
-    (every-imp₂ (loadPasses b) (λ l. committedWaitAt h l && waitingUncoveredAt ss l) (λ l. loadPasses b l && (committedWaitAt h l && waitingUncoveredAt ss l)) (λ l u v. and-both _ _ u v) ls p
-    (every-imp₂ (committedWaitAt h) (waitingUncoveredAt ss) (λ l. committedWaitAt h l && waitingUncoveredAt ss l) (λ l u v. and-both _ _ u v) ls c x)))
+loads-join b last h ss ls z g p c x f =
+    every-imp₂ freeLoadZero (λ l. leb (l .number) last && (loadPasses b l && (committedWaitAt h l && (waitingUncoveredAt ss l && forwardedAnsweredAt l)))) (goodLoad b last h ss) (λ l u v. and-both _ _ u v) ls z
+    (every-imp₂ (λ l. leb (l .number) last) (λ l. loadPasses b l && (committedWaitAt h l && (waitingUncoveredAt ss l && forwardedAnsweredAt l))) (λ l. leb (l .number) last && (loadPasses b l && (committedWaitAt h l && (waitingUncoveredAt ss l && forwardedAnsweredAt l)))) (λ l u v. and-both _ _ u v) ls g
+    (every-imp₂ (loadPasses b) (λ l. committedWaitAt h l && (waitingUncoveredAt ss l && forwardedAnsweredAt l)) (λ l. loadPasses b l && (committedWaitAt h l && (waitingUncoveredAt ss l && forwardedAnsweredAt l))) (λ l u v. and-both _ _ u v) ls p
+    (every-imp₂ (committedWaitAt h) (λ l. waitingUncoveredAt ss l && forwardedAnsweredAt l) (λ l. committedWaitAt h l && (waitingUncoveredAt ss l && forwardedAnsweredAt l)) (λ l u v. and-both _ _ u v) ls c
+    (every-imp₂ (waitingUncoveredAt ss) forwardedAnsweredAt (λ l. waitingUncoveredAt ss l && forwardedAnsweredAt l) (λ l u v. and-both _ _ u v) ls x f))))
 
 -- ---- what a good entry tells
 
@@ -107,11 +108,11 @@ module _ (b : Hierarchy) (last h : ℕ) (ss : List StoreEntry) (l : LoadEntry) (
   unfolding goodLoad
   load-zero = and-left _ _ g
 
-  after-zero : (leb (l .number) last && (loadPasses b l && (committedWaitAt h l && waitingUncoveredAt ss l))) ≡ true
+  after-zero : (leb (l .number) last && (loadPasses b l && (committedWaitAt h l && (waitingUncoveredAt ss l && forwardedAnsweredAt l)))) ≡ true
   unfolding goodLoad
   after-zero = and-right (freeLoadZero l) _ g
 
-  after-given : (loadPasses b l && (committedWaitAt h l && waitingUncoveredAt ss l)) ≡ true
+  after-given : (loadPasses b l && (committedWaitAt h l && (waitingUncoveredAt ss l && forwardedAnsweredAt l))) ≡ true
   after-given = and-right (leb (l .number) last) _ after-zero
 
   pub load-given : leb (l .number) last ≡ true
@@ -123,8 +124,14 @@ module _ (b : Hierarchy) (last h : ℕ) (ss : List StoreEntry) (l : LoadEntry) (
   pub load-waits : committedWaitAt h l ≡ true
   load-waits = and-left _ _ (and-right (loadPasses b l) _ after-given)
 
+  after-waits : (waitingUncoveredAt ss l && forwardedAnsweredAt l) ≡ true
+  after-waits = and-right (committedWaitAt h l) _ (and-right (loadPasses b l) _ after-given)
+
   pub load-exposed : waitingUncoveredAt ss l ≡ true
-  load-exposed = and-right (committedWaitAt h l) _ (and-right (loadPasses b l) _ after-given)
+  load-exposed = and-left _ _ after-waits
+
+  pub load-told : forwardedAnsweredAt l ≡ true
+  load-told = and-right (waitingUncoveredAt ss l) _ after-waits
 
   pub load-low : l .number ≤ last
   load-low = leb-true (l .number) last load-given
@@ -136,17 +143,21 @@ module _ (b : Hierarchy) (last h : ℕ) (ss : List StoreEntry) (l : LoadEntry) (
     number = eqb-true (l .number) 0 f i;
     address = eqb-true (l .address) 0 (and-left _ _ z) i;
     width = eqb-true (l .width) 0 (and-left _ _ (and-right (eqb (l .address) 0) _ z)) i;
-    waiting = not-true (l .waiting) (and-right (eqb (l .width) 0) _ (and-right (eqb (l .address) 0) _ z)) i;
+    waiting = not-true (l .waiting) (and-left _ _ flags) i;
+    forwarded = not-true (l .forwarded) (and-right (not (l .waiting)) _ flags) i;
   }
     where
-      z : (eqb (l .address) 0 && (eqb (l .width) 0 && not (l .waiting))) ≡ true
+      z : (eqb (l .address) 0 && (eqb (l .width) 0 && (not (l .waiting) && not (l .forwarded)))) ≡ true
       z = or-then (not (isFreeLoad l)) _ load-zero (ap not f)
+
+      flags : (not (l .waiting) && not (l .forwarded)) ≡ true
+      flags = and-right (eqb (l .width) 0) _ (and-right (eqb (l .address) 0) _ z)
 
 pub good-load :
     (b : Hierarchy) (last h : ℕ) (ss : List StoreEntry) (l : LoadEntry) → freeLoadZero l ≡ true → leb (l .number) last ≡ true → loadPasses b l ≡ true
-    → committedWaitAt h l ≡ true → waitingUncoveredAt ss l ≡ true → goodLoad b last h ss l ≡ true
+    → committedWaitAt h l ≡ true → waitingUncoveredAt ss l ≡ true → forwardedAnsweredAt l ≡ true → goodLoad b last h ss l ≡ true
 unfolding goodLoad
-good-load b last h ss l z g p c x = and-both _ _ z (and-both _ _ g (and-both _ _ p (and-both _ _ c x)))
+good-load b last h ss l z g p c x f = and-both _ _ z (and-both _ _ g (and-both _ _ p (and-both _ _ c (and-both _ _ x f))))
 
 -- ---- the view is well-formed
 
@@ -166,7 +177,8 @@ parts q b e =
     let e₇ = and-right (numbersApart q) _ e₆ in
     let e₈ = and-right (accessesPass q b) _ e₇ in
     let e₉ = and-right (committedWait q) _ e₈ in
-    let r = and-right (waitingUncovered q) _ e₉ in
+    let e₁₂ = and-right (waitingUncovered q) _ e₉ in
+    let r = and-right (forwardedAnswered q) _ e₁₂ in
     let r₁ = and-right (requestAbsent (q .request) b) _ r in
     let r₂ = and-right (requestInside (q .request) b) _ r₁ in
     let places = and-left (queueLengths q) _ e₀ in
@@ -191,7 +203,8 @@ parts q b e =
       loads-good =
           loads-join b (q .last) (q .committed) (q .stores) (q .loads) (and-right (every freeStoreZero (q .stores)) _ zero)
           (and-right (every (λ s. leb (s .number) (q .last)) (q .stores)) _ given)
-          (and-right (every (storePasses b) (q .stores)) _ pass) (and-left (committedWait q) _ e₈) (and-left (waitingUncovered q) _ e₉);
+          (and-right (every (storePasses b) (q .stores)) _ pass) (and-left (committedWait q) _ e₈) (and-left (waitingUncovered q) _ e₉)
+          (and-left (forwardedAnswered q) _ e₁₂);
       apart = and-left (numbersApart q) _ e₆;
       wanted =
           and-both (requestAbsent (q .request) b) _ (and-left _ _ r)
@@ -219,7 +232,8 @@ whole q b p =
     (and-both _ _ (and-both _ _ (ss (storePasses b) (store-passes b (q .last))) (ls (loadPasses b) (load-passes b (q .last) (q .committed) (q .stores))))
     (and-both _ _ (ls (committedWaitAt (q .committed)) (load-waits b (q .last) (q .committed) (q .stores)))
     (and-both _ _ (ls (waitingUncoveredAt (q .stores)) (load-exposed b (q .last) (q .committed) (q .stores)))
+    (and-both _ _ (ls forwardedAnsweredAt (load-told b (q .last) (q .committed) (q .stores)))
     (and-both (requestAbsent (q .request) b) _ (and-left (requestAbsent (q .request) b) (requestInside (q .request) b && requestWanted (q .request) q (b .figures .policy)) (p .wanted))
     (and-both (requestInside (q .request) b) _ (and-left (requestInside (q .request) b) _ w)
-    (and-both (requestWanted (q .request) q (b .figures .policy)) true (and-right (requestInside (q .request) b) _ w) refl))))))))))))))
+    (and-both (requestWanted (q .request) q (b .figures .policy)) true (and-right (requestInside (q .request) b) _ w) refl)))))))))))))))
     (p .marks)))

@@ -23,7 +23,7 @@ use Rattle.rules.specs.Lines.{present}
 use Rattle.rules.specs.Forward.{olderCovers}
 use Rattle.rules.specs.Checkpoints.{inUse, nameAllowed, addCheckpoint, forgetUpTo}
 use Rattle.rules.specs.Calls.{retry, passes, callChecks, waitingAt, nextNumber, withLoads, withRequest, answered, answeredBy, waitsBelow, oldestStore, storeReady}
-use Rattle.rules.specs.WellFormed.{freeStoreZero, freeLoadZero, storePasses, loadPasses, committedWaitAt, waitingUncoveredAt, alone, requestAbsent, requestInside, storeWants, requestWanted, waitsFor, wellFormed, checkpointsFormed}
+use Rattle.rules.specs.WellFormed.{freeStoreZero, freeLoadZero, storePasses, loadPasses, committedWaitAt, waitingUncoveredAt, forwardedAnsweredAt, alone, requestAbsent, requestInside, storeWants, requestWanted, waitsFor, wellFormed, checkpointsFormed}
 use Rattle.rules.proofs.LineFacts.{Good, good-is}
 use Rattle.rules.proofs.LineRules.{Shaped, shaped-fits}
 use Rattle.rules.proofs.QueueView.{Parts, parts, whole, goodStore, goodLoad, goodRequest, store-low, load-low, load-given, load-passes, good-load}
@@ -93,7 +93,7 @@ other-lines q b c wf s g h =
 -- ---- the queues' part of each rule
 
 pub free-load-good : (b : Hierarchy) (m h : ℕ) (ss : List StoreEntry) → goodLoad b m h ss noLoad ≡ true
-unfolding goodLoad freeLoadZero loadPasses committedWaitAt waitingUncoveredAt
+unfolding goodLoad freeLoadZero loadPasses committedWaitAt waitingUncoveredAt forwardedAnsweredAt
 free-load-good b m h ss = rw (le-leb 0 m (omega arith))
 
 free-store-good : (b : Hierarchy) (m : ℕ) → goodStore b m noStore ≡ true
@@ -195,7 +195,7 @@ module _ (q : Queues) (b : Hierarchy) (p : Parts q b) where
       })
 
   -- some loads leave the list, none that a requested line is wanted by: h rises to k, and the loads that stay allow it
-  loads-leave :
+  pub loads-leave :
       (cs : List Checkpoint) (k : ℕ) → checkpointsFormed k (q .last) cs ≡ true → q .committed ≤ k → k ≤ q .last → (t : LoadEntry → Bool) → ((l : LoadEntry) → t l ≡ false → committedWaitAt (q .committed) l ≡ true → committedWaitAt k l ≡ true)
       → ((l : ℕ) → present b l ≡ false → any (waitsFor k l) (q .loads) ≡ true → any (waitsFor k l) (without t noLoad (q .loads)) ≡ true)
       → wellFormed (record { last = q .last; committed = k; request = q .request; stores = q .stores; loads = without t noLoad (q .loads); checkpoints = cs }) b ≡ true
@@ -262,7 +262,7 @@ module _ (q : Queues) (b : Hierarchy) (p : Parts q b) where
 
   -- answered and not committed: the waiting load of number i is marked
   pub marks : (i : ℕ) → q .committed < i → wellFormed (withLoads (changed (waitingAt i) answered (q .loads)) q) b ≡ true
-  unfolding committedWaitAt waitingUncoveredAt freeLoadZero loadPasses
+  unfolding committedWaitAt waitingUncoveredAt forwardedAnsweredAt freeLoadZero loadPasses
   marks i above =
       let q′ : Queues = withLoads (changed (waitingAt i) answered (q .loads)) q in
       whole q′ b (record {
@@ -281,7 +281,7 @@ module _ (q : Queues) (b : Hierarchy) (p : Parts q b) where
             let a = at-tells i x t in
             good-load b (q .last) (q .committed) (q .stores) (answered x) (or-one _ _ (ap not (a .held))) (load-given b (q .last) (q .committed) (q .stores) x g)
             (load-passes b (q .last) (q .committed) (q .stores) x g)
-            (or-two (isFreeLoad x) _ (lt-ltb (q .committed) (x .number) (omega (arith, a .numbered)))) (or-two (isFreeLoad x) true refl))
+            (or-two (isFreeLoad x) _ (lt-ltb (q .committed) (x .number) (omega (arith, a .numbered)))) (or-two (isFreeLoad x) true refl) (or-two (not (x .forwarded)) true refl))
             (λ x g t. g) (q .loads) (p .loads-good);
         apart =
             every-imp _ _ (λ s. alone-map (q .loads) (changed (waitingAt i) answered (q .loads)) s

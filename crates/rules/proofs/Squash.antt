@@ -15,7 +15,7 @@ use Rattle.lists.proofs.Sweep.{Untouched, sweep-any, sweep-first, sweep-final, 
 use Rattle.rules.specs.declared.LoadEntry.{LoadEntry}
 use Rattle.rules.specs.Shape.{Queues, Hierarchy, noStore, noLoad, isFreeStore, isFreeLoad, isFree, writesThrough}
 use Rattle.rules.specs.Forward.{olderCovers, loadByte, loadValue}
-use Rattle.rules.specs.Calls.{Outcome, committedStore, waitingAt, answeredBy, waitsBelow, wantsLine, youngStore, youngLoad, squash, answered, answerLoad, retryWith, retryRule, commitRule, oldestStore, storeReady, canDrain, storeNeedsLine, canRequestStore, idleRule, replyRule, flushRule, showRule}
+use Rattle.rules.specs.Calls.{Outcome, committedStore, waitingAt, answeredBy, usesLineBy, waitsBelow, wantsLine, youngStore, youngLoad, squash, answered, answerLoad, retryWith, retryRule, commitRule, oldestStore, storeReady, canDrain, storeNeedsLine, canRequestStore, idleRule, replyRule, flushRule, showRule}
 use Rattle.rules.specs.declared.Checkpoint.{Checkpoint}
 use Rattle.rules.specs.Checkpoints.{forgetUpTo}
 
@@ -52,6 +52,13 @@ module _ (n : ℕ) where
   answered-untouched k h = record {
     hollow = refl;
     apart = λ l e. lt-leb n (l .number) (omega (arith, leb-true (l .number) k (and-left _ _ (and-right (not (isFreeLoad l)) _ e))));
+  }
+
+  pub uses-untouched : (k : ℕ) → k < n → Untouched (youngLoad n) noLoad (usesLineBy k)
+  unfolding usesLineBy answeredBy
+  uses-untouched k h = record {
+    hollow = refl;
+    apart = λ l e. answered-untouched k h .apart l (and-left _ _ e);
   }
 
   pub waiting-untouched : (i : ℕ) → i < n → Untouched (youngLoad n) noLoad (waitingAt i)
@@ -145,7 +152,7 @@ module _ (forget : List Checkpoint → List Checkpoint) (n : ℕ) (q : Queues) (
   pub commit-squash : (k : ℕ) → k < n → forget (forgetUpTo k (q .checkpoints)) ≡ forgetUpTo k (forget (q .checkpoints)) → commitRule k (squash forget n q) b ≡ squashedOutcome forget n (commitRule k q b)
   unfolding commitRule squash
   commit-squash k early marks =
-      rw (sweep-without (answered-untouched n k early) (q .loads) n-positive, sweep-filter (answered-untouched n k early) (q .loads), marks)
+      rw (sweep-without (answered-untouched n k early) (q .loads) n-positive, sweep-filter (uses-untouched n k early) (q .loads), marks)
 
   -- ---- abort: one that names less than n, and is refused
 

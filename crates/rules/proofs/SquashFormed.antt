@@ -20,8 +20,8 @@ use Rattle.rules.specs.declared.Request.the-variants.{Free, Line}
 use Rattle.rules.specs.Shape.{Queues, Hierarchy, noStore, noLoad, isFreeStore, isFreeLoad, writesThrough}
 use Rattle.rules.specs.Forward.{someUncovered}
 use Rattle.rules.specs.Calls.{youngStore, youngLoad, squash, storeReady}
-use Rattle.rules.specs.WellFormed.{freeStoreZero, freeLoadZero, storePasses, loadPasses, committedWaitAt, waitingUncoveredAt, alone, waitsFor, storeWants, requestWanted, wellFormed, checkpointsFormed}
-use Rattle.rules.proofs.QueueView.{Parts, parts, whole, goodStore, goodLoad, goodRequest, store-zero, store-passes, good-store, load-zero, load-passes, load-waits, load-exposed, good-load}
+use Rattle.rules.specs.WellFormed.{freeStoreZero, freeLoadZero, storePasses, loadPasses, committedWaitAt, waitingUncoveredAt, forwardedAnsweredAt, alone, waitsFor, storeWants, requestWanted, wellFormed, checkpointsFormed}
+use Rattle.rules.proofs.QueueView.{Parts, parts, whole, goodStore, goodLoad, goodRequest, store-zero, store-passes, good-store, load-zero, load-passes, load-waits, load-exposed, load-told, good-load}
 use Rattle.rules.proofs.Squash.{covers-untouched, ready-squash, ready-committed, head-stays}
 
 module _ (forget : List Checkpoint → List Checkpoint) (n : ℕ) (q : Queues) (b : Hierarchy) (behind : q .committed < n) where
@@ -43,10 +43,10 @@ module _ (forget : List Checkpoint → List Checkpoint) (n : ℕ) (q : Queues) (
   waits-squash l low = rw (uncovered-squash (l .number) (l .address) (l .width) (omega arith))
 
   load-stays : (l : LoadEntry) → goodLoad b (q .last) (q .committed) (q .stores) l ≡ true → goodLoad b (n - 1) (q .committed) (squash forget n q .stores) (swept (youngLoad n) noLoad l) ≡ true
-  unfolding freeLoadZero loadPasses committedWaitAt waitingUncoveredAt
+  unfolding freeLoadZero loadPasses committedWaitAt waitingUncoveredAt forwardedAnsweredAt
   load-stays l g =
       either (λ (r : LoadEntry). goodLoad b (n - 1) (q .committed) (squash forget n q .stores) r ≡ true) (youngLoad n l)
-      (λ e. good-load b (n - 1) (q .committed) (squash forget n q .stores) noLoad refl (le-leb 0 (n - 1) (omega arith)) refl refl refl)
+      (λ e. good-load b (n - 1) (q .committed) (squash forget n q .stores) noLoad refl (le-leb 0 (n - 1) (omega arith)) refl refl refl refl)
       (λ e.
       let low : l .number < n = leb-false n (l .number) e in
       good-load b (n - 1) (q .committed) (squash forget n q .stores) l
@@ -54,7 +54,8 @@ module _ (forget : List Checkpoint → List Checkpoint) (n : ℕ) (q : Queues) (
       (le-leb (l .number) (n - 1) (omega arith))
       (load-passes b (q .last) (q .committed) (q .stores) l g)
       (load-waits b (q .last) (q .committed) (q .stores) l g)
-      (waits-squash l low ∙ load-exposed b (q .last) (q .committed) (q .stores) l g))
+      (waits-squash l low ∙ load-exposed b (q .last) (q .committed) (q .stores) l g)
+      (load-told b (q .last) (q .committed) (q .stores) l g))
 
   same-number : (s : StoreEntry) → isFreeStore s ≡ false → youngStore n s ≡ false → Untouched (youngLoad n) noLoad (λ l. eqb (l .number) (s .number))
   same-number s f e = record {

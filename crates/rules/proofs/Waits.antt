@@ -31,7 +31,7 @@ use Rattle.rules.specs.Values.{lacksByte, isWait, waitingLoad, WaitsExac
 use Rattle.rules.specs.TagLookup.{StatusExactly, LoadStatus, RetryStatus, ListedWaiting, LoadWaitLeaves, RetryWaitLeaves, mayWait, NoOtherWaits}
 use Rattle.rules.proofs.Checks.{refusal-by, outcome-by, either-word}
 use Rattle.rules.proofs.QueueView.{Parts, parts, goodLoad, load-low}
-use Rattle.rules.proofs.Entries.{fine, one-line, load-checked, load-access, tried, tried-waits}
+use Rattle.rules.proofs.Entries.{fine, one-line, load-checked, load-access, tried, tried-waits, none-forwarded}
 use Rattle.rules.proofs.QueuesKept.{tried-good}
 use Rattle.rules.proofs.FlatLines.{fits-memory}
 use Rattle.rules.proofs.TagLookup.{names-tells, names-is}
@@ -77,7 +77,7 @@ module _ (q : Queues) (b : Hierarchy) (wf : wellFormed q b ≡ true) where
 -- ---- answers that say that a load waits, in either word
 
 -- the answer says that a load waits
-abbrev saysWait : Answer → Bool
+abbrev pub saysWait : Answer → Bool
 saysWait (refused k) = false
 saysWait (stored i) = false
 saysWait (value i v) = false
@@ -201,17 +201,23 @@ wait-none i j f none x = (sym (either-word (λ r. numberIn r ≡ i) i refl refl 
 wait-none i j f (some v) x = wrong (wait-says j (value i v) x) refl
 
 module _ (q : Queues) (b : Hierarchy) (wf : wellFormed q b ≡ true) where
-  -- a load that waits takes the first free place; no other has its number
-  new-listed :
+  -- a new load takes the first free place, and is found by a test that no older one passes
+  pub new-listed :
+      (t : LoadEntry → Bool) (l : LoadEntry) → t l ≡ true → ((x : LoadEntry) → x .number ≤ q .last → t x ≡ false)
+      → any isFreeLoad (q .loads) ≡ true → first t noLoad (placed isFreeLoad l (q .loads)) ≡ l
+  new-listed t l hit low =
+      first-placed t isFreeLoad (goodLoad b (q .last) (q .committed) (q .stores)) l noLoad hit
+      (λ x g. low x (load-low b (q .last) (q .committed) (q .stores) x g)) (q .loads) (parts q b wf .loads-good)
+
+  -- one that waits, by its number
+  waiting-listed :
       (a n : ℕ) → any isFreeLoad (q .loads) ≡ true
-      → let l : LoadEntry = record { number = nextNumber q; address = a; width = n; waiting = true } in
+      → let l : LoadEntry = record { number = nextNumber q; address = a; width = n; waiting = true; forwarded = false } in
       first (waitingAt (nextNumber q)) noLoad (placed isFreeLoad l (q .loads)) ≡ l
   unfolding waitingAt
-  new-listed a n space =
-      first-placed (waitingAt (nextNumber q)) isFreeLoad (goodLoad b (q .last) (q .committed) (q .stores)) _ noLoad
-      (rw (ne-eqb (nextNumber q) 0 (λ z. omega arith), eq-eqb (nextNumber q) (nextNumber q) refl))
-      (λ l g. rw (ne-eqb (l .number) (nextNumber q) (λ z. omega (arith, load-low b (q .last) (q .committed) (q .stores) l g))) (and-false (not (isFreeLoad l))))
-      (q .loads) (parts q b wf .loads-good) space
+  waiting-listed a n =
+      new-listed (waitingAt (nextNumber q)) _ (rw (ne-eqb (nextNumber q) 0 (λ z. omega arith), eq-eqb (nextNumber q) (nextNumber q) refl))
+      (λ x low. rw (ne-eqb (x .number) (nextNumber q) (λ z. omega arith)) (and-false (not (isFreeLoad x))))
 
 pub load-wait-leaves : (a n : ℕ) (w : World) → LoadWaitLeaves a n w
 unfolding answer next loadRule
@@ -221,8 +227,9 @@ load-wait-leaves a n w j =
     (λ fit wf e x.
     let i = nextNumber (w .queues) in
     let h = wait-none i j (lookup (w .queues .request) (w .hierarchy) (lineOf a)) (loadValue i a n (w .queues .stores) (w .hierarchy)) x in
+    let bare = none-forwarded i (w .queues .stores) (w .hierarchy) n a (h .1) in
     record {
-      listed = rw (← (h .0), h .1) (new-listed (w .queues) (w .hierarchy) wf a n (load-checked (w .queues) (w .hierarchy) a n e .place));
+      listed = rw (← (h .0), h .1, bare) (waiting-listed (w .queues) (w .hierarchy) wf a n (load-checked (w .queues) (w .hierarchy) a n e .place));
       same-committed = refl;
       same-stores = refl;
       same-checkpoints = refl;

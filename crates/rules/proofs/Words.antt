@@ -20,7 +20,7 @@ use Rattle.rules.specs.declared.Lookup.{Lookup}
 use Rattle.rules.specs.Shape.{Queues, Hierarchy, World, lineBytes, lineWords, noTag, requestedLine, lineOf, setOf, slots, tagAt, writesThrough}
 use Rattle.rules.specs.Lines.{slotOf, present, lookup, useSlot, useLine, wordOf, isDirtyWord, dirtyWord, marked, cleaned, putStore, writeStore, writeBackSlot, writeBackAll, victim, install, fillLine}
 use Rattle.rules.specs.Forward.{loadValue}
-use Rattle.rules.specs.Calls.{Call, Answer, Outcome, load, store, retry, commit, abort, idle, reply, flush, show, checkpoint, restore, refused, stored, value, waits, waitsRequested, committed, kept, drained, requested, idled, filled, flushed, shown, checkpointed, nextNumber, loadAnswer, loadRule, storeRule, answerLoad, retryWith, retryRule, answeredBy, useEach, commitRule, abortRule, checkpointRule, restoreRule, oldestStore, storeReady, canDrain, canRequestLoad, canRequestStore, idleRule, replyRule, flushRule, showRule, rule}
+use Rattle.rules.specs.Calls.{Call, Answer, Outcome, load, store, retry, commit, abort, idle, reply, flush, show, checkpoint, restore, refused, stored, value, waits, waitsRequested, committed, kept, drained, requested, idled, filled, flushed, shown, checkpointed, nextNumber, loadAnswer, loadRule, storeRule, answerLoad, retryWith, retryRule, usesLineBy, useEach, commitRule, abortRule, checkpointRule, restoreRule, oldestStore, storeReady, canDrain, canRequestLoad, canRequestStore, idleRule, replyRule, flushRule, showRule, rule}
 use Rattle.rules.specs.WellFormed.{wellFormed}
 use Rattle.rules.specs.Runs.{outcome, answer, next}
 use Rattle.rules.specs.Words.{MarksExact, Unmarked, MarkedOnly}
@@ -179,7 +179,7 @@ module _ (q : Queues) (b : Hierarchy) (wf : wellFormed q b ≡ true) where
   rule-marking (load a w) = quiet (load-quiet (nextNumber q) (lookup (q .request) b (lineOf a)) (loadValue (nextNumber q) a w (q .stores) b)) (λ k n d. d)
   rule-marking (store a w v) = quiet tt (λ k n d. d)
   rule-marking (retry i) = retry-marking i (tried i q) (loadValue i (tried i q .address) (tried i q .width) (q .stores) b)
-  rule-marking (commit k) = quiet tt (each-none (filter (answeredBy k) (q .loads)) b)
+  rule-marking (commit k) = quiet tt (each-none (filter (usesLineBy k) (q .loads)) b)
   rule-marking (abort n) = quiet tt (λ k n d. d)
   rule-marking idle = idle-marking
   rule-marking reply = let l = requestedLine (q .request) in quiet (fill-clean l b) (fill-none l b)

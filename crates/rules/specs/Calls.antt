@@ -15,7 +15,7 @@ use Rattle.rules.specs.declared.Lookup.{Lookup}
 use Rattle.rules.specs.declared.Lookup.the-variants.{Hit, Pending, Miss}
 use Rattle.rules.specs.Shape.{Queues, Hierarchy, lineBytes, topNumber, noStore, noLoad, isFreeStore, isFreeLoad, isFree, requestedLine, lineOf, writesThrough}
 use Rattle.rules.specs.Lines.{present, placeOf, lookup, useLine, writeStore, writeBackAll, dirtyWords, fillLine}
-use Rattle.rules.specs.Forward.{loadValue}
+use Rattle.rules.specs.Forward.{loadValue, allForwarded}
 use Rattle.rules.specs.Checkpoints.{inUse, numberOf, nameAllowed, addCheckpoint, forgetAbove, forgetUpTo, forgetFrom}
 
 -- ---- calls and answers
@@ -219,7 +219,8 @@ abbrev pub loadAnswer : ℕ → Lookup → Option ℕ → Answer
 loadAnswer i f none = waitAnswer i f
 loadAnswer i f (some v) = value i v
 
--- "Load takes last + 1 and joins the loads. .. A load call never makes a request and never changes an age."
+-- "Load takes last + 1 and joins the loads. .. A load call never makes a request and never changes an age." 02, card 6: "The load list must
+-- record how the answer was found". (A load that waits has a byte that no held store covers.)
 unfoldable pub loadRule : ℕ → ℕ → Queues → Hierarchy → Outcome
 loadRule a w q b =
     let v = loadValue (nextNumber q) a w (q .stores) b in
@@ -231,7 +232,15 @@ loadRule a w q b =
         request = q .request;
         stores = q .stores;
         loads =
-            placed isFreeLoad (record { number = nextNumber q; address = a; width = w; waiting = isNone v }) (q .loads);
+            placed isFreeLoad
+            (record {
+              number = nextNumber q;
+              address = a;
+              width = w;
+              waiting = isNone v;
+              forwarded = allForwarded (nextNumber q) (q .stores) a w;
+            })
+            (q .loads);
         checkpoints = q .checkpoints;
       };
       hierarchy = b;
@@ -243,9 +252,9 @@ abbrev pub withLoads : List LoadEntry → Queues → Queues
 withLoads ls q =
     record { last = q .last; committed = q .committed; request = q .request; stores = q .stores; loads = ls; checkpoints = q .checkpoints }
 
--- the load, marked answered
+-- the load, marked answered. (It waited, so it is not forwarded: the byte that no older held store covers comes from its line.)
 abbrev pub answered : LoadEntry → LoadEntry
-answered l = record { number = l .number; address = l .address; width = l .width; waiting = false }
+answered l = record { number = l .number; address = l .address; width = l .width; waiting = false; forwarded = l .forwarded }
 
 -- "Once answered, a committed load leaves the list and uses its line if present; an uncommitted one is marked answered."
 unfoldable pub answerLoad : ℕ → ℕ → LoadEntry → Queues → Hierarchy → Outcome
@@ -275,12 +284,19 @@ retryRule i q b =
 unfoldable pub answeredBy : ℕ → LoadEntry → Bool
 answeredBy k l = not (isFreeLoad l) && (leb (l .number) k && not (l .waiting))
 
+-- one that uses its line. 02, card 6: a load whose bytes all came from held stores "no longer uses its line at commit, even if those stores
+-- have drained since. The load list must record how the answer was found, and the age rules read accordingly. All other loads use lines as
+-- 01 says."
+unfoldable pub usesLineBy : ℕ → LoadEntry → Bool
+usesLineBy k l = answeredBy k l && not (l .forwarded)
+
 -- each load of the list, in order, uses its line if the line is present
 unfoldable pub useEach : List LoadEntry → Hierarchy → Hierarchy
 useEach [] b = b
 useEach (l ∷ ls) b = useEach ls (useLine (lineOf (l .address)) b)
 
--- "Commit k sets h to k. Answered loads numbered k or less leave the list in number order, each using its line if the line is present."
+-- "Commit k sets h to k. Answered loads numbered k or less leave the list in number order, each using its line if the line is present.": but
+-- a forwarded one leaves without using it
 unfoldable pub commitRule : ℕ → Queues → Hierarchy → Outcome
 commitRule k q b = record {
   answer = committed k;
@@ -292,7 +308,7 @@ commitRule k q b = record {
     loads = without (answeredBy k) noLoad (q .loads);
     checkpoints = forgetUpTo k (q .checkpoints);
   };
-  hierarchy = useEach (filter (answeredBy k) (q .loads)) b;
+  hierarchy = useEach (filter (usesLineBy k) (q .loads)) b;
 }
 
 -- ---- abort

@@ -14,6 +14,7 @@ use Rattle.rules.specs.CheckpointClaims.{SetsExactly, ReturnsExactly, Ab
 use Rattle.rules.specs.Kept.{StartFormed, NextKept, RunKept, AdmittedAfterStart}
 use Rattle.rules.specs.Values.{AfterStart, FromState, ValuesRight, LoadWaits, RetryWaits, InquiriesRight, FlushCounts, FlushesRight, FlatCall, FlatAfter}
 use Rattle.rules.specs.TagLookup.{LookupExact, LoadStatus, RetryStatus, LoadWaitLeaves, RetryWaitLeaves, NoOtherWaits}
+use Rattle.rules.specs.ForwardingClaims.{LoadForwarded, ForwardedStays, LoadsStay, RetryReadsLine, CommitUsesExactly}
 use Rattle.rules.specs.Words.{MarksExact, Unmarked, MarkedOnly}
 
 -- a refused call changes nothing
@@ -90,6 +91,16 @@ pub record WaitStatusIsExact : Type 0 where
 -- 02, card 4: what the tag lookup answers, of any register, any hierarchy and any line
 abbrev pub LookupIsExact : Type 0
 LookupIsExact = (r : Request) (b : Hierarchy) (l : ℕ) → LookupExact r b l
+
+-- 02, card 6: an accepted load that answers a value is forwarded exactly if each of its bytes is in an older held store then, and no other
+-- call sets or changes that while the load is listed. An inquiry that answers a value reads the load's line, and uses it by 01's rule. A
+-- commit leaves lines and ages as if forwarded loads were not listed, and uses the lines of the other answered loads as 01 says
+pub record ForwardingIsExact : Type 0 where
+  pub by-load : (a n : ℕ) (w : World) → LoadForwarded a n w
+  pub by-others : (c : Call) (w : World) → ForwardedStays c w
+  pub list-stays : (c : Call) (w : World) → LoadsStay c w
+  pub by-inquiry : (i : ℕ) (w : World) → RetryReadsLine i w
+  pub by-commit : (k : ℕ) (w : World) → CommitUsesExactly k w
 
 -- demand 2: what an accepted flush counts, cleans and leaves in memory
 pub record FlushesAreExact : Type 0 where

@@ -1,7 +1,7 @@
 -- The shared table: 01's bench examples marked P, each as what the rules give beside what 01 says. And 01's worked script,
 -- dropped stretches, runs beside flat memory, the two write policies beside each other, and dirty words.
 use Prim.Native.Nat.{ℕ, _+_}
-use mathlib.Core.Bool.{Bool, true}
+use mathlib.Core.Bool.{Bool, true, false}
 use mathlib.Core.List.{List, [], _∷_, _++_, map}
 use lib.ListN.{getD, take, replicate}
 use Rattle.lists.specs.Padded.{select}
@@ -77,7 +77,7 @@ twoPresent = record {
     committed = 2;
     request = Free;
     stores = replicate 16 noStore;
-    loads = record { number = 3; address = 32; width = 1; waiting = true } ∷ replicate 7 noLoad;
+    loads = record { number = 3; address = 32; width = 1; waiting = true; forwarded = false } ∷ replicate 7 noLoad;
     checkpoints = replicate 8 noCheckpoint;
   };
   hierarchy = useLine 1 twoFilled;
@@ -91,7 +91,7 @@ dirtyRequested = record {
     committed = 2;
     request = Line 1;
     stores = replicate 16 noStore;
-    loads = record { number = 2; address = 16; width = 1; waiting = true } ∷ replicate 7 noLoad;
+    loads = record { number = 2; address = 16; width = 1; waiting = true; forwarded = false } ∷ replicate 7 noLoad;
     checkpoints = replicate 8 noCheckpoint;
   };
   hierarchy = writeStore (held 7) (fillLine 0 (fresh 1 1 48 .hierarchy));
@@ -388,7 +388,7 @@ storeToRequested p = record {
     committed = 2;
     request = Line 0;
     stores = record { number = 1; address = 0; width = 1; value = 9 } ∷ replicate 15 noStore;
-    loads = record { number = 2; address = 1; width = 1; waiting = true } ∷ replicate 7 noLoad;
+    loads = record { number = 2; address = 1; width = 1; waiting = true; forwarded = false } ∷ replicate 7 noLoad;
     checkpoints = replicate 8 noCheckpoint;
   };
   hierarchy = started (geometry p 1 1) twoLines .hierarchy;

@@ -1,6 +1,6 @@
 -- Flat memory: of a state, and after a start; the stores, the loads and the commits of a run, read off the run itself.
 use Prim.Native.Nat.{ℕ, _+_, _%_}
-use mathlib.Core.Bool.{Bool, true, cond, not}
+use mathlib.Core.Bool.{Bool, true, false, cond, not}
 use mathlib.Core.List.{List, [], _∷_, _++_}
 use lib.Dec.{ltb, leb, eqb}
 use lib.ListN.{getD}
@@ -88,7 +88,7 @@ upTo h s = leb (s .number) h
 unfoldable pub added : Call → Answer → History → History
 added (load a w) r h = record {
   stores = h .stores;
-  loads = record { number = numberIn r; address = a; width = w; waiting = true } ∷ h .loads;
+  loads = record { number = numberIn r; address = a; width = w; waiting = true; forwarded = false } ∷ h .loads;
   committed = h .committed;
 }
 added (store a w v) r h = record {

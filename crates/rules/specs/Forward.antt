@@ -5,7 +5,7 @@ use mathlib.Core.List.{List}
 use mathlib.Core.Option.{Option, some}
 use lib.Dec.{ltb}
 use Rattle.lists.specs.Padded.{any, final}
-use Rattle.lists.specs.Counted.{someFrom}
+use Rattle.lists.specs.Counted.{allFrom, someFrom}
 use Rattle.lists.specs.Bytes.{byteOf, among, gather}
 use Rattle.rules.specs.declared.StoreEntry.{StoreEntry}
 use Rattle.rules.specs.Shape.{Hierarchy, isFreeStore, noStore, lineOf}
@@ -36,3 +36,7 @@ lacking i ss b a = not (any (olderCovers i a) ss) && not (present b (lineOf a))
 -- some of the w bytes from a on is covered by no held store with a smaller number than i
 unfoldable pub someUncovered : ℕ → List StoreEntry → ℕ → ℕ → Bool
 someUncovered i ss a w = someFrom (λ x. not (any (olderCovers i x) ss)) a w
+
+-- 02, card 6: "a load whose bytes all come from held stores": each of the w bytes from a on is covered by one with a smaller number than i
+unfoldable pub allForwarded : ℕ → List StoreEntry → ℕ → ℕ → Bool
+allForwarded i ss a w = allFrom (λ x. any (olderCovers i x) ss) a w

@@ -12,6 +12,7 @@ pub mod Kept
 pub mod Flat
 pub mod Values
 pub mod TagLookup
+pub mod ForwardingClaims
 pub mod Words
 pub mod CheckpointClaims
 pub mod Computed
@@ -20,4 +21,5 @@ pub mod States
 pub mod CheckpointExamples
 pub mod RefusalTable
 pub mod LookupExamples
+pub mod ForwardingExamples
 pub mod Claims

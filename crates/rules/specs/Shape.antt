@@ -137,7 +137,7 @@ abbrev pub noStore : StoreEntry
 noStore = record { number = 0; address = 0; width = 0; value = 0 }
 
 abbrev pub noLoad : LoadEntry
-noLoad = record { number = 0; address = 0; width = 0; waiting = false }
+noLoad = record { number = 0; address = 0; width = 0; waiting = false; forwarded = false }
 
 abbrev pub noCheckpoint : Checkpoint
 noCheckpoint = record { name = 0; number = 0; rank = 0 }

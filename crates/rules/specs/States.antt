@@ -25,10 +25,14 @@ abbrev pub heldAt : ℕ → ℕ → ℕ → ℕ → StoreEntry
 heldAt i a w v = record { number = i; address = a; width = w; value = v }
 
 abbrev pub waitingLoad : ℕ → ℕ → ℕ → LoadEntry
-waitingLoad i a w = record { number = i; address = a; width = w; waiting = true }
+waitingLoad i a w = record { number = i; address = a; width = w; waiting = true; forwarded = false }
 
 abbrev pub answeredLoad : ℕ → ℕ → ℕ → LoadEntry
-answeredLoad i a w = record { number = i; address = a; width = w; waiting = false }
+answeredLoad i a w = record { number = i; address = a; width = w; waiting = false; forwarded = false }
+
+-- (02, card 6) answered, each byte by a held store
+abbrev pub forwardedLoad : ℕ → ℕ → ℕ → LoadEntry
+forwardedLoad i a w = record { number = i; address = a; width = w; waiting = false; forwarded = true }
 
 -- two sets of two ways over six lines of memory, in which byte a is a + 1
 abbrev linesBy : WritePolicy → List Tag → List ℕ → Hierarchy
@@ -82,9 +86,9 @@ richCache =
 unfoldable pub richStores : List StoreEntry
 richStores = heldAt 2 48 4 77 ∷ heldAt 5 4 1 9 ∷ replicate 14 noStore
 
--- load 3 is committed and waits for line 4, which is requested; load 6 is answered, load 7 waits
+-- load 3 is committed and waits for line 4, which is requested; load 6 was answered by store 5, load 7 waits
 unfoldable pub richLoads : List LoadEntry
-richLoads = waitingLoad 3 64 2 ∷ answeredLoad 6 0 1 ∷ waitingLoad 7 80 4 ∷ replicate 5 noLoad
+richLoads = waitingLoad 3 64 2 ∷ forwardedLoad 6 4 1 ∷ waitingLoad 7 80 4 ∷ replicate 5 noLoad
 
 abbrev pub richLines : Hierarchy
 richLines = lines richTags richCache
@@ -165,6 +169,8 @@ broken =
     ∷ withQueues (queues 7 4 (Line 4) (richStores ++ noStore ∷ []) richLoads)
     -- a free place with an address
     ∷ withQueues (queues 7 4 (Line 4) (set richStores 9 (heldAt 0 4 0 0)) richLoads)
+    -- a free place that is forwarded
+    ∷ withQueues (queues 7 4 (Line 4) richStores (set richLoads 5 (forwardedLoad 0 0 0)))
     -- a free place before an entry
     ∷ withQueues (queues 7 4 (Line 4) (heldAt 2 48 4 77 ∷ noStore ∷ heldAt 5 4 1 9 ∷ replicate 13 noStore) richLoads)
     -- a last number of 33 bits
@@ -183,6 +189,10 @@ broken =
     ∷ withQueues (queues 7 6 (Line 4) richStores richLoads)
     -- a waiting load that an older store covers
     ∷ withQueues (queues 7 4 (Line 4) (set richStores 0 (heldAt 2 64 4 77)) richLoads)
+    -- a waiting load that is forwarded
+    ∷ withQueues
+    (queues 7 4 (Line 4) richStores
+    (set richLoads 2 (record { number = 7; address = 80; width = 4; waiting = true; forwarded = true })))
     -- a requested line that is present
     ∷ withQueues (queues 7 4 (Line 2) richStores (set richLoads 0 (waitingLoad 3 32 2)))
     -- a requested line outside memory, which nobody wants
@@ -215,12 +225,12 @@ broken =
 
 -- all of the clauses but number i
 abbrev pub allBut : ℕ → List Bool
-allBut i = set (replicate 34 true) i false
+allBut i = set (replicate 35 true) i false
 
 unfoldable pub brokenClauses : List (List Bool)
 brokenClauses =
     allBut 0 ∷ allBut 1 ∷ allBut 2 ∷ allBut 3 ∷ allBut 4 ∷ allBut 5 ∷ allBut 6 ∷ allBut 7 ∷ allBut 8 ∷ allBut 9 ∷ allBut 9
-    ∷ allBut 10 ∷ allBut 11 ∷ allBut 11 ∷ allBut 12 ∷ allBut 13 ∷ allBut 14 ∷ allBut 15 ∷ allBut 16 ∷ allBut 17 ∷ allBut 18
-    ∷ allBut 19 ∷ allBut 20 ∷ allBut 21 ∷ allBut 22 ∷ allBut 23 ∷ set (allBut 24) 25 false ∷ allBut 25 ∷ allBut 25 ∷ allBut 26
-    ∷ allBut 27 ∷ allBut 27 ∷ allBut 28 ∷ allBut 29 ∷ allBut 29 ∷ allBut 30 ∷ allBut 31 ∷ allBut 31 ∷ allBut 32 ∷ allBut 33
-    ∷ allBut 33 ∷ []
+    ∷ allBut 10 ∷ allBut 11 ∷ allBut 11 ∷ allBut 12 ∷ allBut 13 ∷ allBut 13 ∷ allBut 14 ∷ allBut 15 ∷ allBut 16 ∷ allBut 17 ∷ allBut 18
+    ∷ allBut 19 ∷ allBut 20 ∷ allBut 21 ∷ allBut 22 ∷ allBut 23 ∷ allBut 24 ∷ set (allBut 25) 26 false ∷ allBut 26 ∷ allBut 26 ∷ allBut 27
+    ∷ allBut 28 ∷ allBut 28 ∷ allBut 29 ∷ allBut 30 ∷ allBut 30 ∷ allBut 31 ∷ allBut 32 ∷ allBut 32 ∷ allBut 33 ∷ allBut 34
+    ∷ allBut 34 ∷ []

@@ -69,7 +69,7 @@ RetryStatus i w =
 
 -- load j of the n bytes from a on waits, and v is what it leaves: it is listed as waiting; h, stores, marks, register and lines stay
 pub record ListedWaiting (j a n : ℕ) (w v : World) : Type 0 where
-  pub listed : waitingLoad j v ≡ record { number = j; address = a; width = n; waiting = true }
+  pub listed : waitingLoad j v ≡ record { number = j; address = a; width = n; waiting = true; forwarded = false }
   pub same-committed : v .queues .committed ≡ w .queues .committed
   pub same-stores : v .queues .stores ≡ w .queues .stores
   pub same-checkpoints : v .queues .checkpoints ≡ w .queues .checkpoints

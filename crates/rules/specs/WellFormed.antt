@@ -41,7 +41,7 @@ unfoldable pub freeStoreZero : StoreEntry → Bool
 freeStoreZero s = not (isFreeStore s) || (eqb (s .address) 0 && (eqb (s .width) 0 && eqb (s .value) 0))
 
 unfoldable pub freeLoadZero : LoadEntry → Bool
-freeLoadZero l = not (isFreeLoad l) || (eqb (l .address) 0 && (eqb (l .width) 0 && not (l .waiting)))
+freeLoadZero l = not (isFreeLoad l) || (eqb (l .address) 0 && (eqb (l .width) 0 && (not (l .waiting) && not (l .forwarded))))
 
 -- free places are zero
 abbrev pub freeZero : Queues → Bool
@@ -194,6 +194,14 @@ waitingUncoveredAt ss l = isFreeLoad l || (not (l .waiting) || someUncovered (l 
 abbrev pub waitingUncovered : Queues → Bool
 waitingUncovered q = every (waitingUncoveredAt (q .stores)) (q .loads)
 
+-- ---- 02, card 6: "record how the answer was found": a waiting load has none yet
+
+unfoldable pub forwardedAnsweredAt : LoadEntry → Bool
+forwardedAnsweredAt l = not (l .forwarded) || not (l .waiting)
+
+abbrev pub forwardedAnswered : Queues → Bool
+forwardedAnswered q = every forwardedAnsweredAt (q .loads)
+
 -- ---- "a requested line is absent, lies in memory, and is wanted by a committed waiting load or by the oldest store,
 -- committed and with no older waiting load". 02, card 1, of write-through: "only a committed waiting load can want a requested line"
 
@@ -297,6 +305,7 @@ queueClauses q b =
     ∷ accessesPass q b
     ∷ committedWait q
     ∷ waitingUncovered q
+    ∷ forwardedAnswered q
     ∷ requestAbsent (q .request) b
     ∷ requestInside (q .request) b
     ∷ requestWanted (q .request) q (b .figures .policy)

@@ -3,7 +3,7 @@
 // claimed of the rules is promised here by functions that do nothing.
 ghost use mathlib.Core.Path.{_≡_};
 ghost use Rattle.rules.specs.Shape.{setsAllowed};
-ghost use Rattle.rules.specs.Claims.{RefusedCallsKeep, RefusalsExact, RefusalTableHolds, NumbersGiven, DroppedStretches, RestoredStretches, CheckpointsAreExact, KeptWellFormed, ValuesAreRight, WaitsAreExact, WaitStatusIsExact, LookupIsExact, FlushesAreExact, FlatMemoryIsKept, WordsAreExact};
+ghost use Rattle.rules.specs.Claims.{RefusedCallsKeep, RefusalsExact, RefusalTableHolds, NumbersGiven, DroppedStretches, RestoredStretches, CheckpointsAreExact, KeptWellFormed, ValuesAreRight, WaitsAreExact, WaitStatusIsExact, LookupIsExact, ForwardingIsExact, FlushesAreExact, FlatMemoryIsKept, WordsAreExact};
 
 // The figures of a store that a start chooses. (02, card 1: "A start may choose this profile.")
 pub struct Figures {
@@ -41,6 +41,8 @@ pub struct LoadEntry {
     pub address: u32,
     pub width: u32,
     pub waiting: bool,
+    // it has its answer, and each byte came from a held store (02, card 6: "fed from held stores")
+    pub forwarded: bool,
 }
 
 // A checkpoint (02, card 3: a branch mark): its name, the next operation number when it was set, and its rank by order of setting, from 1.
@@ -168,6 +170,7 @@ pub const NO_LOAD: LoadEntry = LoadEntry {
     address: 0,
     width: 0,
     waiting: false,
+    forwarded: false,
 };
 
 pub const NO_CHECKPOINT: Checkpoint = Checkpoint {
@@ -284,6 +287,13 @@ pub fn wait_status_exact()
 // line, else absent.
 pub fn lookup_exact()
     ensures { λ r. ⌜ LookupIsExact ⌝ }
+{}
+
+// 02, card 6: an accepted load that answers a value is forwarded exactly if each of its bytes is in an older held store then, and no other
+// call sets or changes that while the load is listed. An inquiry that answers a value reads the load's line, and uses it by 01's rule. A
+// commit leaves lines and ages as if forwarded loads were not listed, and uses the lines of the other answered loads as 01 says.
+pub fn forwarding_exact()
+    ensures { λ r. ⌜ ForwardingIsExact ⌝ }
 {}
 
 // Demand 2: after an accepted flush memory holds exactly the committed stores, and its count is the number of dirty words before it.

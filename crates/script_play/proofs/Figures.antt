@@ -10,7 +10,7 @@ use Rattle.lists.proofs.Cond.{either}
 use Rattle.rules.specs.Shape.{Queues, Hierarchy, slots, lineOf, noLoad}
 use Rattle.rules.specs.Lines.{present, useSlot, useLine, putStore, writeStore, writeBackSlot, writeBackAll, install, fillLine}
 use Rattle.rules.specs.Forward.{loadValue}
-use Rattle.rules.specs.Calls.{Call, Outcome, load, store, retry, commit, abort, idle, reply, flush, show, checkpoint, restore, loadRule, storeRule, waitingAt, answeredBy, answerLoad, retryWith, retryRule, useEach, commitRule, abortRule, checkpointRule, restoreRule, oldestStore, canDrain, canRequestLoad, canRequestStore, idleRule, replyRule, flushRule, showRule, rule}
+use Rattle.rules.specs.Calls.{Call, Outcome, load, store, retry, commit, abort, idle, reply, flush, show, checkpoint, restore, loadRule, storeRule, waitingAt, usesLineBy, answerLoad, retryWith, retryRule, useEach, commitRule, abortRule, checkpointRule, restoreRule, oldestStore, canDrain, canRequestLoad, canRequestStore, idleRule, replyRule, flushRule, showRule, rule}
 use Rattle.rules.specs.Runs.{outcome}
 use Rattle.rules.specs.declared.LoadEntry.{LoadEntry}
 use Rattle.rules.specs.declared.StoreEntry.{StoreEntry}
@@ -61,7 +61,7 @@ module _ (q : Queues) (b : Hierarchy) where
   ruled (retry i) =
       let l = first (waitingAt i) noLoad (q .loads) in
       retried i l (loadValue i (l .address) (l .width) (q .stores) b)
-  ruled (commit k) = use-each (filter (answeredBy k) (q .loads)) b
+  ruled (commit k) = use-each (filter (usesLineBy k) (q .loads)) b
   ruled (abort n) = same b
   ruled idle =
       either Keeps (canDrain q b) (λ _. write-store (oldestStore q) b)

@@ -24,6 +24,7 @@ pub const ADDRESS: usize = 4;
 pub const WIDTH: usize = 8;
 pub const VALUE: usize = 12;
 pub const WAITING: usize = 12;
+pub const FORWARDED: usize = 14;
 
 /// In a checkpoint: behind its name.
 pub const NUMBER: usize = 4;

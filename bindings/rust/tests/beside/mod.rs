@@ -14,8 +14,8 @@ use compare::types::{
     WritePolicy,
 };
 use layout::{
-    CHECKPOINTS_AT, COMMITTED, ENTRY, LAST, LOADS_AT, PROFILE, REQUESTED, REQUESTED_LINE, TAG,
-    TAGS_AT, UNUSED, WAITING,
+    CHECKPOINTS_AT, COMMITTED, ENTRY, FORWARDED, LAST, LOADS_AT, PROFILE, REQUESTED,
+    REQUESTED_LINE, TAG, TAGS_AT, UNUSED, WAITING,
 };
 use nicoisetarn::{Image, Refusal, CHECKPOINTS, LINE, LOADS, RECORDS, STORES};
 
@@ -56,6 +56,11 @@ fn word(bytes: &[u8], at: usize) -> u32 {
     u32::from_ne_bytes([bytes[at], bytes[at + 1], bytes[at + 2], bytes[at + 3]])
 }
 
+/// The number of two bytes that stands so far into some bytes.
+fn half(bytes: &[u8], at: usize) -> u16 {
+    u16::from_ne_bytes([bytes[at], bytes[at + 1]])
+}
+
 /// The image with another number that stands so far into its bytes.
 pub fn with_word(image: &Image, at: usize, word: u32) -> Image {
     let mut bytes = image.to_bytes();
@@ -84,7 +89,7 @@ pub fn stands(image: &Image) -> bool {
     let mut tags = bytes[TAGS_AT..].chunks_exact(TAG);
     profile
         && register
-        && loads.all(|load| word(load, WAITING) <= 1)
+        && loads.all(|load| half(load, WAITING) <= 1 && half(load, FORWARDED) <= 1)
         && tags.all(|tag| tag[0] <= 1 && tag[UNUSED] == 0)
 }
 
@@ -139,6 +144,7 @@ pub fn state_of(image: &Image) -> Option<State> {
         address: load.address,
         width: load.width,
         answered: load.waiting == (load.number == 0),
+        forwarded: load.forwarded,
     });
     state.checkpoints = image.checkpoints().map(|mark| Checkpoint {
         name: mark.name,
@@ -163,7 +169,8 @@ pub fn image_of(state: &State) -> Image {
     let stores = state.stores.iter().flat_map(|s| [s.number, s.address, s.width, s.value]);
     let loads = state.loads.iter().flat_map(|load| {
         let waiting = load.answered == (load.number == 0);
-        [load.number, load.address, load.width, u32::from(waiting)]
+        let flags = u32::from(waiting) | u32::from(load.forwarded) << 16;
+        [load.number, load.address, load.width, flags]
     });
     let checkpoints = state.checkpoints.iter().flat_map(|mark| [mark.name, mark.number, mark.rank]);
     let queues = stores.chain(loads).chain(checkpoints);

@@ -5,19 +5,21 @@ use native.Mathlib.Omega.{arith}
 use Prim.Native.Nat.{_+_, _-_, _≤_, suc}
 use denote.Ref.{now}
 use Rattle.lists.specs.Bytes.{gather}
+use Rattle.lists.specs.Counted.{allFrom}
+use Rattle.rules.specs.Forward.{allForwarded}
 use Rattle.line_bytes.specs.Reads.{readOf, byteFrom}
 use Rattle.line_bytes.proofs.Reading.{joined-gather, byte-from, from-small}
 use Rattle.line_bytes.proofs.join_bytes.Statement.{statement}
 use Rattle.line_bytes.proofs.join_bytes.Tie as tie
 
 abbrev Inv-loop : tie.InvT-loop
-Inv-loop stores i a width cache p here r₀ k₀ r k = (k ≤ width) × (r ≡ readOf (gather (byteFrom i a stores cache p here) (a + k) (width - k)))
+Inv-loop stores i a width cache p here r₀ k₀ r k = (k ≤ width) × (r ≡ readOf (allForwarded i stores (a + k) (width - k)) (gather (byteFrom i a stores cache p here) (a + k) (width - k)))
 
 abbrev μ-loop : tie.MeasureT-loop
 μ-loop stores i a width cache p here r₀ k₀ r k = k
 
 loop-holds : tie.Need-loop-holds Inv-loop μ-loop
-unfolding gather
+unfolding gather allForwarded allFrom
 loop-holds c =
     let args = c .before .args in
     let e : args .width - args .width ≡ 0 = omega arith in
@@ -47,6 +49,7 @@ loop-less : tie.Need-loop-less Inv-loop μ-loop
 loop-less c = search needs
 
 loop-again : tie.Need-loop-again Inv-loop μ-loop
+unfolding allForwarded allFrom
 loop-again c =
     let args = c .before .before .before .before .before .args in
     let shared-slice-known = c .before .before .before .before .shared-slice-known in
@@ -61,7 +64,7 @@ loop-again c =
     let e₃ : args .p + (k - 1) ≡ args .p + (a + (k - 1) - a) = omega arith in
     let b = rw e₃ at (byte-at .ensures) in
     let small = from-small (args .i) a (args .stores) (now (args .cache)) (args .p) (args .here) (λ j. omega (arith, shared-slice-known .given j)) in
-    (omega arith, c .joined .ensures ∙ rw (b, byte-from (args .i) a (args .stores) (now (args .cache)) (args .p) (args .here) (a + (k - 1)), g .1, e₁, e₂) (joined-gather _ small (w - k) (a + (k - 1)) (omega arith)))
+    (omega arith, c .joined .ensures ∙ rw (b, byte-from (args .i) a (args .stores) (now (args .cache)) (args .p) (args .here) (a + (k - 1)), g .1, e₁, e₂) (joined-gather _ small _ _ (w - k) (a + (k - 1)) (omega arith)))
 
 returns : tie.Need-returns Inv-loop μ-loop
 returns c =

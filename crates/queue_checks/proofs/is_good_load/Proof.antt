@@ -2,7 +2,7 @@
 use mathlib.Core.Path.{sym, _∙_}
 use native.Mathlib.Omega.{arith}
 use borrow.Author.Needs.{needs}
-use Rattle.queue_checks.proofs.Good.{passes-end, load-low, load-late, load-astray, load-waiting, load-answered}
+use Rattle.queue_checks.proofs.Good.{passes-end, load-low, load-late, load-astray, load-untold, load-waiting, load-answered}
 use Rattle.queue_checks.proofs.is_good_load.Statement.{statement}
 use Rattle.queue_checks.proofs.is_good_load.Tie as tie
 
@@ -20,16 +20,6 @@ returns-2 c =
 access-passes-requires : tie.Need-access-passes-requires
 access-passes-requires c κs = search needs
 
-has-uncovered-requires : tie.Need-has-uncovered-requires
-has-uncovered-requires c κs =
-    let args = c .before .before .before .before .before .before .before .args in
-    let access-passes = c .before .before .access-passes in
-    let if3 = c .before .if3 in
-    let pass = sym (access-passes .ensures) ∙ if3 .taken in (
-      omega (arith, passes-end (args .size) (args .l .address) (args .l .width) pass),
-      c .before .before .before .before .before .before .before .pre,
-    )
-
 returns-3 : tie.Need-returns-3
 returns-3 c =
     let args = c .before .before .before .before .before .before .before .before .args in
@@ -39,11 +29,33 @@ returns-3 c =
     let if3 = c .before .before .if3 in
     let if4 = c .before .if4 in
     let pass = sym (access-passes .ensures) ∙ if3 .taken in
-    c .has-uncovered .ensures
-    ∙ load-waiting (args .last) (args .committed) (args .size) (args .m) (args .stores) (args .l) (if1 .left) (if2 .left) pass (if4 .taken)
+    load-untold (args .last) (args .committed) (args .size) (args .m) (args .stores) (args .l) (if1 .left) (if2 .left) pass (if4 .taken) (c .if5 .taken)
+
+has-uncovered-requires : tie.Need-has-uncovered-requires
+has-uncovered-requires c κs =
+    let args = c .before .before .before .before .before .before .before .before .args in
+    let pre = c .before .before .before .before .before .before .before .before .pre in
+    let access-passes = c .before .before .before .access-passes in
+    let if3 = c .before .before .if3 in
+    let pass = sym (access-passes .ensures) ∙ if3 .taken in (
+      omega (arith, passes-end (args .size) (args .l .address) (args .l .width) pass),
+      pre,
+    )
 
 returns-4 : tie.Need-returns-4
 returns-4 c =
+    let args = c .before .before .before .before .before .before .before .before .before .args in
+    let if1 = c .before .before .before .before .before .before .before .if1 in
+    let if2 = c .before .before .before .before .before .if2 in
+    let access-passes = c .before .before .before .before .access-passes in
+    let if3 = c .before .before .before .if3 in
+    let if4 = c .before .before .if4 in
+    let if5 = c .before .if5 in
+    let pass = sym (access-passes .ensures) ∙ if3 .taken in
+    c .has-uncovered .ensures ∙ load-waiting (args .last) (args .committed) (args .size) (args .m) (args .stores) (args .l) (if1 .left) (if2 .left) pass (if4 .taken) (if5 .left)
+
+returns-5 : tie.Need-returns-5
+returns-5 c =
     let args = c .before .before .before .before .before .before .before .before .args in
     let if1 = c .before .before .before .before .before .before .if1 in
     let if2 = c .before .before .before .before .if2 in
@@ -53,8 +65,8 @@ returns-4 c =
     let pass = sym (access-passes .ensures) ∙ if3 .taken in
     load-answered (args .last) (args .committed) (args .size) (args .m) (args .stores) (args .l) (if1 .left) (if2 .left) pass (if4 .left)
 
-returns-5 : tie.Need-returns-5
-returns-5 c =
+returns-6 : tie.Need-returns-6
+returns-6 c =
     let args = c .before .before .before .before .before .before .args in
     let if1 = c .before .before .before .before .if1 in
     let if2 = c .before .before .if2 in
@@ -68,7 +80,8 @@ is-good-load-spec =
     returns
     returns-2
     access-passes-requires
-    has-uncovered-requires
     returns-3
+    has-uncovered-requires
     returns-4
-    returns-5)
+    returns-5
+    returns-6)

@@ -9,7 +9,7 @@ use Rattle.lists.specs.Padded.{filter}
 use Rattle.lists.proofs.Cond.{cond-then, cond-else}
 use Rattle.lists.proofs.Loops.{rest-cons, rest-none}
 use Rattle.rules.specs.Shape.{noLoad, lineOf}
-use Rattle.rules.specs.Calls.{answeredBy, useEach}
+use Rattle.rules.specs.Calls.{usesLineBy, useEach}
 use Rattle.records.specs.Records.{hasRoom, tabled}
 use Rattle.records.proofs.Places.{test-failed, test-passed}
 use Rattle.records.proofs.Answers.{answered-step, other-step}
@@ -18,7 +18,7 @@ use Rattle.records.proofs.use_answered.Tie as tie
 
 abbrev Inv-loop : tie.InvT-loop
 Inv-loop figures k loads out₀ j₀ out j =
-    (j ≤ 8) × (hasRoom figures ≡ true) × (useEach (filter (answeredBy k) loads) (tabled figures out₀) .tags ≡ useEach (filter (answeredBy k) (drop j loads)) (tabled figures out) .tags)
+    (j ≤ 8) × (hasRoom figures ≡ true) × (useEach (filter (usesLineBy k) loads) (tabled figures out₀) .tags ≡ useEach (filter (usesLineBy k) (drop j loads)) (tabled figures out) .tags)
 
 abbrev μ-loop : tie.MeasureT-loop
 μ-loop figures k loads out₀ j₀ out j = 8 - j
@@ -43,8 +43,8 @@ array-copy-out-load c = search needs
 add-j : tie.Need-add-j Inv-loop μ-loop
 add-j c = search needs
 
-is-answered-by-requires : tie.Need-is-answered-by-requires Inv-loop μ-loop
-is-answered-by-requires c κs = search needs
+uses-line-by-requires : tie.Need-uses-line-by-requires Inv-loop μ-loop
+uses-line-by-requires c κs = search needs
 
 use-line-requires : tie.Need-use-line-requires Inv-loop μ-loop
 use-line-requires c κs = search needs
@@ -59,8 +59,8 @@ loop-again c =
     let small : c .before .before .before .before .before .before .loop .j + 1 ≤ 8 = search needs in
     let args = c .before .before .before .before .before .before .before .before .before .args in
     let loop = c .before .before .before .before .before .before .loop in
-    let answered = sym (c .before .before .before .is-answered-by .ensures) ∙ c .before .before .if2 .taken in
-    (small, loop .inv .1, loop .inv .2 ∙ rw (rest-cons (answeredBy (args .k)) noLoad (args .t3) (loop .j) (omega arith)) (answered-step _ _ _ _ _ answered ∙ rw (c .use-line .ensures ∙ sym (cond-then _ _ (loop .inv .1)))))
+    let answered = sym (c .before .before .before .uses-line-by .ensures) ∙ c .before .before .if2 .taken in
+    (small, loop .inv .1, loop .inv .2 ∙ rw (rest-cons (usesLineBy (args .k)) noLoad (args .t3) (loop .j) (omega arith)) (answered-step _ _ _ _ _ answered ∙ rw (c .use-line .ensures ∙ sym (cond-then _ _ (loop .inv .1)))))
 
 loop-less-2 : tie.Need-loop-less-2 Inv-loop μ-loop
 loop-less-2 c = search needs
@@ -71,7 +71,7 @@ loop-again-2 c =
     let small : c .before .before .before .before .loop .j + 1 ≤ 8 = search needs in
     let args = c .before .before .before .before .before .before .before .args in
     let loop = c .before .before .before .before .loop in
-    (small, loop .inv .1, loop .inv .2 ∙ rw (rest-cons (answeredBy (args .k)) noLoad (args .t3) (loop .j) (omega arith)) (other-step _ _ _ _ _ (sym (c .before .is-answered-by .ensures) ∙ c .if2 .left)))
+    (small, loop .inv .1, loop .inv .2 ∙ rw (rest-cons (usesLineBy (args .k)) noLoad (args .t3) (loop .j) (omega arith)) (other-step _ _ _ _ _ (sym (c .before .uses-line-by .ensures) ∙ c .if2 .left)))
 
 returns-2 : tie.Need-returns-2 Inv-loop μ-loop
 unfolding filter useEach
@@ -79,7 +79,7 @@ returns-2 c =
     let long : length (c .before .before .before .before .args .t3) ≡ 8 = search needs in
     let args = c .before .before .before .before .args in
     let loop = c .before .loop in
-    sym (loop .inv .2 ∙ rw (rest-none (answeredBy (args .k)) noLoad (args .t3) (loop .j) (omega arith))) ∙ cond-then _ _ (loop .inv .1)
+    sym (loop .inv .2 ∙ rw (rest-none (usesLineBy (args .k)) noLoad (args .t3) (loop .j) (omega arith))) ∙ cond-then _ _ (loop .inv .1)
 
 pub use-answered-spec : {M : Type 1} → statement M
 use-answered-spec =
@@ -93,7 +93,7 @@ use-answered-spec =
     mul-load
     array-copy-out-load
     add-j
-    is-answered-by-requires
+    uses-line-by-requires
     use-line-requires
     loop-less
     loop-again

@@ -2,7 +2,7 @@
 use borrow.Author.Needs.{needs}
 use Rattle.rules.specs.Calls.{loadRule}
 use Rattle.line_bytes.proofs.Reading.{lacking-read}
-use Rattle.model.proofs.Reading.{answer-read}
+use Rattle.model.proofs.Reading.{answer-read, forwarded-is}
 use Rattle.model.proofs.State.load_accepted.Statement.{statement}
 use Rattle.model.proofs.State.load_accepted.Tie as tie
 
@@ -18,16 +18,20 @@ answer-to-requires c κs = search needs
 is-lacking-requires : tie.Need-is-lacking-requires
 is-lacking-requires c κs = search needs
 
+is-forwarded-requires : tie.Need-is-forwarded-requires
+is-forwarded-requires c κs = search needs
+
 place-load-requires : tie.Need-place-load-requires
 place-load-requires c κs = search needs
 
 returns : tie.Need-returns
 unfolding loadRule
 returns c =
-    let read = c .before .before .before .before .read in
-    let answer-to = c .before .before .before .answer-to in
-    let is-lacking = c .before .is-lacking in
-    λ m. rw (answer-to .ensures, c .place-load .ensures, is-lacking .ensures, read .ensures m, answer-read, lacking-read)
+    let read = c .before .before .before .before .before .read in
+    let answer-to = c .before .before .before .before .answer-to in
+    let is-lacking = c .before .before .is-lacking in
+    let is-forwarded = c .before .is-forwarded in
+    λ m. rw (answer-to .ensures, c .place-load .ensures, is-lacking .ensures, is-forwarded .ensures, read .ensures m, answer-read, lacking-read, forwarded-is)
 
 pub load-accepted-spec : {M : Type 1} → statement M
 load-accepted-spec =
@@ -37,5 +41,6 @@ load-accepted-spec =
     read-requires
     answer-to-requires
     is-lacking-requires
+    is-forwarded-requires
     place-load-requires
     returns)

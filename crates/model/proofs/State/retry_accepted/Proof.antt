@@ -2,7 +2,7 @@
 use borrow.Author.Needs.{needs}
 use mathlib.Core.Path.{sym, _∙_, ap}
 use denote.Ref.{now}
-use Rattle.rules.specs.Forward.{loadValue}
+use Rattle.rules.specs.Forward.{loadValue, allForwarded}
 use Rattle.rules.specs.Calls.{retryRule, retryWith}
 use Rattle.model.specs.State.{hierarchyOf}
 use Rattle.model.specs.declared.read.Reading.{Reading}
@@ -32,7 +32,7 @@ returns c =
     let enum-told = c .before .enum-told in
     λ m.
     let o = loadValue (args .i) (args .l .address) (args .l .width) (args .self .stores) (hierarchyOf (args .self) (now (args .cache)) m) in
-    let none-read = lacks o (sym (ap (λ (r : Reading). r .read) (read .ensures m)) ∙ enum-told .given .1) in
+    let none-read = lacks (allForwarded (args .i) (args .self .stores) (args .l .address) (args .l .width)) o (sym (ap (λ (r : Reading). r .read) (read .ensures m)) ∙ enum-told .given .1) in
     rw (← (pre .2), none-read, c .wait-answer .ensures, wait-read, read .ensures m)
 
 answer-load-requires : tie.Need-answer-load-requires
@@ -47,7 +47,7 @@ returns-2 c =
     let bytes = c .before .before .bytes in
     λ m.
     let o = loadValue (args .i) (args .l .address) (args .l .width) (args .self .stores) (hierarchyOf (args .self) (now (args .cache)) m) in
-    let all-read = whole-of o _ (sym (ap (λ (r : Reading). r .read) (read .ensures m)) ∙ bytes .given .1) in
+    let all-read = whole-of (allForwarded (args .i) (args .self .stores) (args .l .address) (args .l .width)) o _ _ (sym (ap (λ (r : Reading). r .read) (read .ensures m)) ∙ bytes .given .1) in
     c .answer-load .ensures _ _ m ∙ rw (← (pre .2), all-read)
 
 pub retry-accepted-spec : {M : Type 1} → statement M
