@@ -31,7 +31,7 @@
  *     nicoisetarn_flush(&unit);                  flushed 1: a word
  *
  * A load whose bytes all came from held stores (02: fed from held stores) does not use its line when it commits, so that
- * the line's age stays. Every other load does.
+ * the ages of its set stay. Every other load uses its line, if that is present, when it has its answer and is committed.
  *
  * A checkpoint (02: set a mark) has a name, 1 to 8, and remembers the next operation number. A restore (02: return to a
  * mark) drops what was loaded and stored since, as an abort at that number does, and forgets the mark and all set later.

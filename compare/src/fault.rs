@@ -241,6 +241,8 @@ faults! {
     CommitKeepsForwarded,
     /// A drain takes the mark of the loads that its store gave a byte.
     DrainForgetsForwarded,
+    /// It takes forwarded loads off the list.
+    DrainDropsForwarded,
     /// A commit takes the marks of the loads that stay.
     CommitForgetsForwarded,
     /// An abort takes the marks of the loads that stay.

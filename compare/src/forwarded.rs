@@ -22,7 +22,7 @@ pub fn bytes_in_stores(state: &State, number: u32, address: u32, width: u32) -> 
 }
 
 /// A state without its forwarded loads.
-fn without_forwarded(state: &State) -> State {
+pub fn without_forwarded(state: &State) -> State {
     let mut fewer = state.clone();
     let left = state.loads.iter().filter(|load| load.number != 0 && !load.forwarded);
     fewer.loads = [LoadEntry::default(); 8];
@@ -30,15 +30,18 @@ fn without_forwarded(state: &State) -> State {
     fewer
 }
 
-/// A commit leaves records, cache and memory as it does on a copy that had its forwarded
-/// loads taken off the list before.
+/// An accepted commit is accepted, and leaves records, cache and memory alike, on a copy that
+/// had its forwarded loads taken off the list before.
 fn same_lines(step: Step, before: Snapshot, call: Call, after: Snapshot) -> Result<(), String> {
     if !before.state.loads.iter().any(|load| load.forwarded) {
         return Ok(());
     }
     let mut fewer = without_forwarded(before.state);
     let (mut cache, mut memory) = (before.cache.to_vec(), before.memory.to_vec());
-    step(&mut fewer, &mut cache, &mut memory, call);
+    let answer = step(&mut fewer, &mut cache, &mut memory, call);
+    if !answer.accepted() {
+        return Err(format!("without its forwarded loads a commit answers {answer:?}"));
+    }
     if fewer.tags != after.state.tags || cache != after.cache || memory != after.memory {
         return Err("a commit of forwarded loads changed the lines".to_string());
     }

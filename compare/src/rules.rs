@@ -208,7 +208,7 @@ fn value(view: &View, number: u32, address: u32, width: u32) -> Option<u32> {
 }
 
 /// Does load `number` find every byte in held stores?
-pub fn fed(view: &View, number: u32, address: u32, width: u32) -> bool {
+fn fed(view: &View, number: u32, address: u32, width: u32) -> bool {
     let mut sources = (0..width).map(|k| source(view, number, address + k));
     sources.all(|found| matches!(found, Some(Source::Store(_))))
 }

@@ -112,7 +112,8 @@ fn demand_3_alone_notices() {
     assert_eq!(missed(DROPPED, &faults), []);
 }
 
-/// What the marks of forwarded loads alone tell.
+/// What the marks of forwarded loads alone tell. (`RetryPartlyUnused`, `CommitKeepsForwarded`
+/// and `DrainDropsForwarded` leave every mark and the lines of every commit as they are.)
 #[test]
 fn forwarded_loads_alone_notice() {
     let faults = [
@@ -127,6 +128,8 @@ fn forwarded_loads_alone_notice() {
         Fault::ForwardedIfAbsent,
         Fault::WaitsForwarded,
         Fault::WaitsForwardedKept,
+        // It lists a load that held stores have whole, and an inquiry asks about it.
+        Fault::LoadAlwaysWaits,
         Fault::RetryForwards,
         Fault::RetryForwardsInPart,
         Fault::RetryForwardsYounger,

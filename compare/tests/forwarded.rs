@@ -318,31 +318,37 @@ fn dropped_loads_leave_no_mark() {
     }
 }
 
-/// No call but its own commit, abort or return changes a mark.
+/// No call but its own commit, abort or return changes a mark: that of load 5, beside load 3,
+/// which waits, is asked about, and leaves. Each call is accepted.
 #[test]
 fn other_calls_keep_the_mark() {
     let calls = [
         Call::Store { address: 0, width: 4, value: 1 },
-        Call::Load { address: 32, width: 1 },
         Call::Commit { number: 3 },
         Call::Idle,
+        Call::Retry { number: 3 },
+        Call::Reply,
+        Call::Retry { number: 3 },
+        Call::Commit { number: 4 },
         Call::Idle,
         Call::Flush,
         Call::ShowLine { address: 0 },
         Call::Checkpoint { name: 1 },
         Call::Load { address: 0, width: 1 },
         Call::Restore { name: 1 },
-        Call::Abort { number: 6 },
-        Call::Retry { number: 6 },
-        Call::Retry { number: 4 },
-        Call::Reply,
+        Call::Load { address: 64, width: 1 },
+        Call::Retry { number: 7 },
+        Call::Abort { number: 7 },
     ];
-    for mut judged in two_lines() {
+    for mut judged in both(3) {
+        judged.bring(0);
+        judged.bring(1);
+        judged.load(32, 1);
         judged.store(0, 1, 200);
         judged.load(0, 1);
         for call in calls {
-            judged.call(call);
-            assert_eq!(marks(&judged)[0], (4, true), "{call:?}");
+            assert!(judged.call(call).accepted(), "{call:?}");
+            assert!(marks(&judged).contains(&(5, true)), "{call:?}");
         }
     }
 }

@@ -110,7 +110,7 @@ fn what_a_commit_uses() {
     }
 }
 
-/// Calls of every kind, all taken as found.
+/// A call of each kind; as found the reply alone is refused, since nothing is requested.
 const EACH: [Call; 11] = [
     Call::ShowLine { address: 0 },
     load(4, 4),

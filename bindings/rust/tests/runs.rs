@@ -98,7 +98,7 @@ fn count_marks(counts: &mut Counts, call: Call, answer: Answer, images: [&Image;
 }
 
 /// An older held store of the image has a byte of the load.
-fn is_fed(load: &ListedLoad, image: &Image) -> bool {
+fn has_held_byte(load: &ListedLoad, image: &Image) -> bool {
     let mut older = image.stores().iter().filter(|s| s.number != 0 && s.number < load.number);
     older.any(|s| s.address < load.address + load.width && load.address < s.address + s.width)
 }
@@ -118,7 +118,7 @@ fn count_forwarded(counts: &mut Counts, call: Call, before: &Image, after: &Imag
             let present = |line| tags(before).any(|(_, tag)| tag.valid && tag.line == line);
             let mut lines = left().map(line);
             counts.met("forwarded load committed, its line present", lines.any(present));
-            let drained = left().any(|load| !is_fed(&load, before));
+            let drained = left().any(|load| !has_held_byte(&load, before));
             counts.met("forwarded load committed, its stores drained", drained);
         }
         _ => {}

@@ -3,6 +3,7 @@
 
 use super::without;
 use crate::check;
+use crate::forwarded::without_forwarded;
 use crate::model::{leaves, line_of, Due, Found, Loaded, Machine, Right};
 use crate::types::{Answer, LoadEntry, State, StoreEntry};
 
@@ -269,6 +270,16 @@ impl Machine for DrainForgetsForwarded {
             let wanted = check::word_mask(address, width.max(1));
             Right::overlay(stores.iter(), number, address, width.max(1)).1 != wanted
         });
+        answer
+    }
+}
+
+pub struct DrainDropsForwarded;
+
+impl Machine for DrainDropsForwarded {
+    fn drain(state: &mut State, cache: &mut [u8], memory: &mut [u8], due: Due) -> Answer {
+        let answer = Right::drain(state, cache, memory, due);
+        *state = without_forwarded(state);
         answer
     }
 }

@@ -1,7 +1,7 @@
 -- Which marks each call leaves: an accepted call does its rule, and the laws of CheckpointRanks say what that makes of the list.
 use Prim.Native.Nat.{ℕ, suc, _+_, _≤_, _<_}
 use mathlib.Core.Path.{_≡_, refl, sym, _∙_, ap}
-use mathlib.Core.Bool.{true, false, false≢true}
+use mathlib.Core.Bool.{false}
 use mathlib.Core.List.{List, [], _∷_, _++_, map}
 use mathlib.Core.Option.{Option, some, none}
 use native.Mathlib.Omega.{arith}
@@ -15,8 +15,8 @@ use Rattle.rules.specs.declared.LoadEntry.{LoadEntry}
 use Rattle.rules.specs.Shape.{Queues, Hierarchy, World}
 use Rattle.rules.specs.Forward.{loadValue}
 use Rattle.rules.specs.Checkpoints.{numberOf, addCheckpoint, forgetUpTo, forgetFrom}
-use Rattle.rules.specs.Calls.{Call, Answer, Outcome, load, store, retry, commit, abort, idle, reply, flush, show, checkpoint, restore, isAccepted, passes, callChecks, nextNumber, squash, loadRule, storeRule, answerLoad, retryWith, retryRule, commitRule, abortRule, checkpointRule, restoreRule, canDrain, canRequestLoad, canRequestStore, idleRule, replyRule, flushRule, showRule, rule}
-use Rattle.rules.specs.Runs.{namesRefusal, outcome, answer, next}
+use Rattle.rules.specs.Calls.{Call, Answer, Outcome, load, store, retry, commit, abort, idle, reply, flush, show, checkpoint, restore, isAccepted, callChecks, nextNumber, squash, loadRule, storeRule, answerLoad, retryWith, retryRule, commitRule, abortRule, checkpointRule, restoreRule, canDrain, canRequestLoad, canRequestStore, idleRule, replyRule, flushRule, showRule, rule}
+use Rattle.rules.specs.Runs.{outcome, answer, next}
 use Rattle.rules.specs.Kept.{Formed}
 use Rattle.rules.specs.CheckpointClaims.{checkpointsOf, committedCheckpoints, lowered, changesCheckpoints, SetsExactly, ReturnsExactly, AbortsExactly, CommitsExactly, CheckpointsStay, CheckpointsRanked}
 use Rattle.rules.proofs.Checks.{outcome-by, done, opened, guarded-passes}

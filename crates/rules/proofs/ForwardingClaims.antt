@@ -1,16 +1,15 @@
 -- Loads fed from held stores: a load is forwarded exactly if each of its bytes is in an older held store, no other call touches that, an
 -- inquiry reads its line, and a commit uses no line for such a load.
-use Prim.Native.Nat.{ℕ, _+_, _≤_, _<_}
+use Prim.Native.Nat.{ℕ, _<_}
 use mathlib.Core.Path.{_≡_, refl, sym, _∙_, ap, subst}
 use mathlib.Core.Bool.{Bool, true, false, cond, not, _&&_, _||_, false≢true, and-false, and-comm}
 use mathlib.Core.List.{List}
 use mathlib.Core.Option.{Option, some, none}
 use native.Mathlib.Omega.{arith}
-use lib.Dec.{leb, ltb, eqb}
+use lib.Dec.{leb, eqb}
 use borrow.Author.Tests.{eqb-true, eq-eqb, ne-eqb, eqb-false, not-true, not-false, le-leb, lt-leb}
 use Rattle.lists.specs.Padded.{any, every, first, filter, without, changed}
-use Rattle.lists.specs.Counted.{allFrom}
-use Rattle.lists.proofs.Cond.{either, cases, wrong, and-left, and-right, or-one, or-two, or-then, or-by, and-both}
+use Rattle.lists.proofs.Cond.{either, cases, wrong, and-left, and-right, or-one, or-then, or-by, and-both}
 use Rattle.lists.proofs.Counting.{all-at, all-by}
 use Rattle.lists.proofs.Every.{every-imp, every-first, every-without, every-changed}
 use Rattle.lists.proofs.Some.{any-first, any-every, none-every, any-without, without-same, changed-any, first-any}
@@ -20,14 +19,14 @@ use Rattle.rules.specs.declared.LoadEntry.{LoadEntry}
 use Rattle.rules.specs.declared.Lookup.{Lookup}
 use Rattle.rules.specs.Shape.{Queues, Hierarchy, World, world, noLoad, isFreeLoad, lineOf}
 use Rattle.rules.specs.Lines.{lookup}
-use Rattle.rules.specs.Forward.{olderCovers, loadValue, someUncovered, allForwarded}
-use Rattle.rules.specs.Calls.{Call, Answer, Outcome, load, store, retry, commit, abort, idle, reply, flush, show, checkpoint, restore, value, waits, waitsRequested, isAccepted, passes, callChecks, nextNumber, withLoads, isNone, waitAnswer, loadAnswer, answered, answeredBy, usesLineBy, useEach, waitingAt, loadRule, commitRule, rule, storeRule, idleRule, replyRule, flushRule, retryWith, retryRule, showRule, answerLoad, checkpointRule, canDrain, canRequestLoad, canRequestStore}
+use Rattle.rules.specs.Forward.{loadValue, someUncovered, allForwarded}
+use Rattle.rules.specs.Calls.{Call, Outcome, load, store, retry, commit, abort, idle, reply, flush, show, checkpoint, restore, value, isAccepted, passes, callChecks, nextNumber, withLoads, isNone, loadAnswer, answered, answeredBy, usesLineBy, useEach, waitingAt, loadRule, commitRule, rule, storeRule, idleRule, replyRule, flushRule, retryWith, retryRule, showRule, answerLoad, checkpointRule, canDrain, canRequestLoad, canRequestStore}
 use Rattle.rules.specs.WellFormed.{waitsFor, forwardedAnsweredAt, wellFormed}
 use Rattle.rules.specs.Runs.{answer, next, outcome}
 use Rattle.rules.specs.Flat.{numberIn}
-use Rattle.rules.specs.ForwardingClaims.{isListed, listedLoad, EachInStores, ForwardedExact, LoadForwarded, Takes, AsBefore, ForwardedStays, RetryReadsLine, withoutForwarded, CommitUsesExactly, LoadsStay, changesLoads}
+use Rattle.rules.specs.ForwardingClaims.{isListed, EachInStores, ForwardedExact, LoadForwarded, Takes, AsBefore, ForwardedStays, RetryReadsLine, CommitUsesExactly, LoadsStay, changesLoads}
 use Rattle.rules.proofs.Checks.{outcome-by, either-word, done, opened, guarded-passes}
-use Rattle.rules.proofs.QueueView.{Parts, parts, goodLoad, load-told}
+use Rattle.rules.proofs.QueueView.{parts, goodLoad, load-told}
 use Rattle.rules.proofs.Entries.{load-checked, load-uncovered, uncovered-is, for-tells, tried, tried-waits, Waits, retry-checked}
 use Rattle.rules.proofs.QueuesKept.{tried-good, loads-leave}
 use Rattle.rules.proofs.Kept.{tried-present}
@@ -303,11 +302,11 @@ retry-reads-line i w x e =
     record {
       partly = λ h. wrong (forwarded-is i (l .address) (l .width) w h) (not-true _ (sym (uncovered-is i (q .stores) (l .address) (l .width)) ∙ bare i q b wf p));
       there = tried-present q b wf i p (s .1);
-      uses = λ h. ap (λ (r : Outcome). r .hierarchy) (d .same ∙ s .0) ∙ rw (le-leb i (q .committed) h);
-      leaves = λ h. ap (λ (r : Outcome). any (λ l. eqb (l .number) i) (r .queues .loads)) (d .same ∙ s .0) ∙ rw (le-leb i (q .committed) h) (gone i q b wf p);
-      keeps = λ h. ap (λ (r : Outcome). r .hierarchy) (d .same ∙ s .0) ∙ rw (lt-leb i (q .committed) h);
+      uses = λ h. ap (λ (r : Outcome). r .hierarchy) all ∙ rw (le-leb i (q .committed) h);
+      leaves = λ h. ap (λ (r : Outcome). any (λ l. eqb (l .number) i) (r .queues .loads)) all ∙ rw (le-leb i (q .committed) h) (gone i q b wf p);
+      keeps = λ h. ap (λ (r : Outcome). r .hierarchy) all ∙ rw (lt-leb i (q .committed) h);
       stays = λ h.
-          ap (λ (r : Outcome). loadUnder i (r .queues)) (d .same ∙ s .0)
+          ap (λ (r : Outcome). loadUnder i (r .queues)) all
           ∙ rw (lt-leb i (q .committed) h) (marked i q b wf p)
           ∙ (λ k. record { number = waiting i q b wf p .numbered k; address = l .address; width = l .width; waiting = false; forwarded = plain i q b wf p k });
     }

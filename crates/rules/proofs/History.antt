@@ -21,7 +21,7 @@ use Rattle.rules.specs.Shape.{Queues, Hierarchy, World, world, noLoad, i
 use Rattle.rules.specs.Lines.{lookup}
 use Rattle.rules.specs.Forward.{loadValue}
 use Rattle.rules.specs.Checkpoints.{numberOf}
-use Rattle.rules.specs.Calls.{Call, Answer, Outcome, load, store, retry, commit, abort, idle, reply, flush, show, checkpoint, restore, isAccepted, passes, callChecks, waitingAt, isNone, nextNumber, loadAnswer, answered, loadRule, storeRule, answerLoad, retryWith, retryRule, answeredBy, commitRule, squash, abortRule, checkpointRule, restoreRule, canDrain, canRequestLoad, canRequestStore, idleRule, replyRule, flushRule, showRule, rule}
+use Rattle.rules.specs.Calls.{Call, Answer, Outcome, load, store, retry, commit, abort, idle, reply, flush, show, checkpoint, restore, isAccepted, passes, callChecks, waitingAt, nextNumber, loadAnswer, answered, loadRule, storeRule, answerLoad, retryWith, retryRule, answeredBy, commitRule, squash, abortRule, checkpointRule, restoreRule, canDrain, canRequestLoad, canRequestStore, idleRule, replyRule, flushRule, showRule, rule}
 use Rattle.rules.specs.WellFormed.{wellFormed}
 use Rattle.rules.specs.Runs.{refusal, answer, next, answers, after, started}
 use Rattle.rules.specs.Numbers.{numberAfter}

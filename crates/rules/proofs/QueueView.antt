@@ -22,10 +22,14 @@ use Rattle.rules.specs.WellFormed.{freeStoreZero, freeLoadZero, queueLen
 unfoldable pub goodStore : Hierarchy → ℕ → StoreEntry → Bool
 goodStore b last s = freeStoreZero s && (leb (s .number) last && storePasses b s)
 
+-- what is asked of its waiting and its answer
+abbrev waitGood : ℕ → List StoreEntry → LoadEntry → Bool
+waitGood h ss l = committedWaitAt h l && (waitingUncoveredAt ss l && forwardedAnsweredAt l)
+
 -- all that is asked of one entry of the load queue
 unfoldable pub goodLoad : Hierarchy → ℕ → ℕ → List StoreEntry → LoadEntry → Bool
 goodLoad b last h ss l =
-    freeLoadZero l && (leb (l .number) last && (loadPasses b l && (committedWaitAt h l && (waitingUncoveredAt ss l && forwardedAnsweredAt l))))
+    freeLoadZero l && (leb (l .number) last && (loadPasses b l && waitGood h ss l))
 
 -- all that is asked of the register
 unfoldable pub goodRequest : Request → Queues → Hierarchy → Bool
@@ -62,10 +66,10 @@ pub loads-join :
     → every (waitingUncoveredAt ss) ls ≡ true → every forwardedAnsweredAt ls ≡ true → every (goodLoad b last h ss) ls ≡ true
 unfolding goodLoad
 loads-join b last h ss ls z g p c x f =
-    every-imp₂ freeLoadZero (λ l. leb (l .number) last && (loadPasses b l && (committedWaitAt h l && (waitingUncoveredAt ss l && forwardedAnsweredAt l)))) (goodLoad b last h ss) (λ l u v. and-both _ _ u v) ls z
-    (every-imp₂ (λ l. leb (l .number) last) (λ l. loadPasses b l && (committedWaitAt h l && (waitingUncoveredAt ss l && forwardedAnsweredAt l))) (λ l. leb (l .number) last && (loadPasses b l && (committedWaitAt h l && (waitingUncoveredAt ss l && forwardedAnsweredAt l)))) (λ l u v. and-both _ _ u v) ls g
-    (every-imp₂ (loadPasses b) (λ l. committedWaitAt h l && (waitingUncoveredAt ss l && forwardedAnsweredAt l)) (λ l. loadPasses b l && (committedWaitAt h l && (waitingUncoveredAt ss l && forwardedAnsweredAt l))) (λ l u v. and-both _ _ u v) ls p
-    (every-imp₂ (committedWaitAt h) (λ l. waitingUncoveredAt ss l && forwardedAnsweredAt l) (λ l. committedWaitAt h l && (waitingUncoveredAt ss l && forwardedAnsweredAt l)) (λ l u v. and-both _ _ u v) ls c
+    every-imp₂ freeLoadZero (λ l. leb (l .number) last && (loadPasses b l && waitGood h ss l)) (goodLoad b last h ss) (λ l u v. and-both _ _ u v) ls z
+    (every-imp₂ (λ l. leb (l .number) last) (λ l. loadPasses b l && waitGood h ss l) (λ l. leb (l .number) last && (loadPasses b l && waitGood h ss l)) (λ l u v. and-both _ _ u v) ls g
+    (every-imp₂ (loadPasses b) (waitGood h ss) (λ l. loadPasses b l && waitGood h ss l) (λ l u v. and-both _ _ u v) ls p
+    (every-imp₂ (committedWaitAt h) (λ l. waitingUncoveredAt ss l && forwardedAnsweredAt l) (waitGood h ss) (λ l u v. and-both _ _ u v) ls c
     (every-imp₂ (waitingUncoveredAt ss) forwardedAnsweredAt (λ l. waitingUncoveredAt ss l && forwardedAnsweredAt l) (λ l u v. and-both _ _ u v) ls x f))))
 
 -- ---- what a good entry tells
@@ -108,11 +112,11 @@ module _ (b : Hierarchy) (last h : ℕ) (ss : List StoreEntry) (l : LoadEntry) (
   unfolding goodLoad
   load-zero = and-left _ _ g
 
-  after-zero : (leb (l .number) last && (loadPasses b l && (committedWaitAt h l && (waitingUncoveredAt ss l && forwardedAnsweredAt l)))) ≡ true
+  after-zero : (leb (l .number) last && (loadPasses b l && waitGood h ss l)) ≡ true
   unfolding goodLoad
   after-zero = and-right (freeLoadZero l) _ g
 
-  after-given : (loadPasses b l && (committedWaitAt h l && (waitingUncoveredAt ss l && forwardedAnsweredAt l))) ≡ true
+  after-given : (loadPasses b l && waitGood h ss l) ≡ true
   after-given = and-right (leb (l .number) last) _ after-zero
 
   pub load-given : leb (l .number) last ≡ true
