@@ -38,6 +38,6 @@ unfoldable pub someUncovered : ℕ → List StoreEntry → ℕ → ℕ → Bool
 someUncovered i ss a w = someFrom (λ x. not (any (olderCovers i x) ss)) a w
 
 -- 02, card 6: "a load whose bytes all come from held stores": each of the w bytes from a on is covered by one with a smaller number than i.
--- (So none is left out by `someUncovered`: `uncovered-is`.)
+-- (None is then uncovered: `uncovered-is`.)
 unfoldable pub allForwarded : ℕ → List StoreEntry → ℕ → ℕ → Bool
 allForwarded i ss a w = allFrom (λ x. any (olderCovers i x) ss) a w
