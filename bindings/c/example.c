@@ -1,10 +1,10 @@
 /*
  * A bench in C: plays the scope paper's worked script by calls and prints what the script player prints for it, then
  * a batch and its answers, then a drain in write-through, then drains to two words of a line and their flush, then marks
- * that are set and returned to, then loads that wait, their line requested or not, then loads fed from held stores, then a
- * ways study. It checks the boundary: words, what the image tells, refused calls, numbers that no call and no profile has,
- * loads that wait, loads fed from held stores, dirty marks, checkpoints, both profiles, show line, batches, and studies.
- * Exits with 1, and a line on standard error, where a check fails.
+ * that are set and returned to, then loads that wait, their line requested or not, then loads fed from held stores, then
+ * previews and their replies, then a ways study. It checks the boundary: words, what the image tells, refused calls, numbers
+ * that no call and no profile has, loads that wait, loads fed from held stores, previews, dirty marks, checkpoints, both
+ * profiles, show line, batches, and studies. Exits with 1, and a line on standard error, where a check fails.
  */
 #include "nicoisetarn.h"
 
@@ -33,6 +33,17 @@ static nicoisetarn_unit lent(bench *b) {
         }                                                                       \
     } while (0)
 
+/* An answer of at most two numbers. */
+static nicoisetarn_answer answer_of(uint32_t kind, uint32_t first, uint32_t second) {
+    return (nicoisetarn_answer){kind, first, second, 0, 0, 0};
+}
+
+/* It is this one. */
+static int same(nicoisetarn_answer answer, uint32_t kind, uint32_t first, uint32_t second) {
+    const nicoisetarn_answer wanted = answer_of(kind, first, second);
+    return memcmp(&answer, &wanted, sizeof answer) == 0;
+}
+
 /* ---- 01's worked script */
 
 /* How many numbers an answer of a kind has. */
@@ -46,6 +57,8 @@ static int numbers_of(uint32_t kind) {
     case NICOISETARN_KIND_VALUE:
     case NICOISETARN_KIND_SHOWN:
         return 2;
+    case NICOISETARN_KIND_PREVIEWED:
+        return 5;
     default:
         return 1;
     }
@@ -53,7 +66,7 @@ static int numbers_of(uint32_t kind) {
 
 /* Prints an answer, as the script player does where it has one. */
 static void print(nicoisetarn_answer answer) {
-    const uint32_t numbers[] = {answer.first, answer.second};
+    const uint32_t numbers[] = {answer.first, answer.second, answer.third, answer.fourth, answer.fifth};
     CHECK(*nicoisetarn_kind_word(answer.kind) != '\0');
     fputs(nicoisetarn_kind_word(answer.kind), stdout);
     for (int place = 0; place < numbers_of(answer.kind); place++) {
@@ -105,12 +118,13 @@ static const uint32_t listed[] = {
     NICOISETARN_CALL_STORE, 4, 1, 7, 0, 0,
     NICOISETARN_CALL_LOAD, 4, 1, 0, 0, 0,
     NICOISETARN_CALL_LOAD, 4, 3, 0, 0, 0,        /* refused: 3 is no width */
-    NICOISETARN_CALL_RESTORE + 1, 4, 1, 0, 0, 0, /* no such call */
+    NICOISETARN_CALL_PREVIEW + 1, 4, 1, 0, 0, 0, /* no such call */
     NICOISETARN_CALL_CHECKPOINT, 6, 0, 0, 0, 0,
     NICOISETARN_CALL_STORE, 4, 1, 9, 0, 0,
     NICOISETARN_CALL_RESTORE, 6, 0, 0, 0, 0, /* that store is dropped */
     NICOISETARN_CALL_COMMIT, 2, 0, 0, 0, 0,
     NICOISETARN_CALL_IDLE, 0, 0, 0, 0, 0,
+    NICOISETARN_CALL_PREVIEW, 0, 0, 0, 0, 0, /* way 0, which is invalid */
     NICOISETARN_CALL_REPLY, 0, 0, 0, 0, 0,
     NICOISETARN_CALL_IDLE, 0, 0, 0, 0, 0,
     NICOISETARN_CALL_FLUSH, 0, 0, 0, 0, 0,
@@ -232,31 +246,45 @@ static void play_waits(bench *b) {
     print(nicoisetarn_retry(&unit, 3)); /* nobody has requested line 0 */
 }
 
-/* ---- loads fed from held stores, printed */
+/* ---- one set of two ways, 48 bytes of memory */
 
-/* One set of two ways, 48 bytes of memory: lines 0 and 1 are present, line 1 used last; two operations are committed. */
 typedef struct {
     nicoisetarn_image image;
     uint8_t cache[NICOISETARN_CACHE_BYTES(1, 2)];
     uint8_t memory[48];
 } two_ways;
 
+NICOISETARN_ASSERT(sizeof(two_ways) == NICOISETARN_IMAGE_BYTES + 80, "no bytes between the parts of two ways");
+
 static nicoisetarn_unit lent_two(two_ways *b) {
     return (nicoisetarn_unit){&b->image, b->cache, sizeof b->cache, b->memory, sizeof b->memory};
 }
 
-static void make_two(two_ways *b, uint32_t profile) {
+static void start_two(two_ways *b, uint32_t profile) {
     nicoisetarn_unit unit = lent_two(b);
     memset(b, 0, sizeof *b);
     CHECK(nicoisetarn_start_with(&unit, 1, 2, profile).kind == NICOISETARN_KIND_READY);
+}
+
+/* An absent line is requested for a load of its first byte, and all is committed. */
+static void request(nicoisetarn_unit *unit, uint32_t line) {
+    CHECK(nicoisetarn_load(unit, NICOISETARN_LINE * line, 1).kind == NICOISETARN_KIND_WAITS);
+    CHECK(nicoisetarn_commit(unit, nicoisetarn_last(unit->image)).kind == NICOISETARN_KIND_COMMITTED);
+    CHECK(same(nicoisetarn_idle(unit), NICOISETARN_KIND_REQUEST, NICOISETARN_LINE * line, 0));
+}
+
+/* Lines 0 and 1 are present, line 1 used last; two operations are committed. */
+static void make_two(two_ways *b, uint32_t profile) {
+    nicoisetarn_unit unit = lent_two(b);
+    start_two(b, profile);
     for (uint32_t number = 1; number <= 2; number++) {
-        CHECK(nicoisetarn_load(&unit, NICOISETARN_LINE * (number - 1), 1).kind == NICOISETARN_KIND_WAITS);
-        CHECK(nicoisetarn_commit(&unit, number).kind == NICOISETARN_KIND_COMMITTED);
-        CHECK(nicoisetarn_idle(&unit).kind == NICOISETARN_KIND_REQUEST);
+        request(&unit, number - 1);
         CHECK(nicoisetarn_reply(&unit).kind == NICOISETARN_KIND_FILLED);
         CHECK(nicoisetarn_retry(&unit, number).kind == NICOISETARN_KIND_VALUE);
     }
 }
+
+/* ---- loads fed from held stores, printed */
 
 /* Load 5 reads so many bytes of line 0, one of them out of store 3; line 2 then evicts the line that was used longer ago. */
 static void play_fed(uint32_t width) {
@@ -278,33 +306,106 @@ static void play_fed(uint32_t width) {
     print(nicoisetarn_load(&unit, 16, 1)); /* line 1 */
 }
 
+/* ---- previews and their replies, printed */
+
+/* Both ways are invalid, and line 1 is requested. */
+static void make_invalid_victim(two_ways *b) {
+    nicoisetarn_unit unit = lent_two(b);
+    start_two(b, NICOISETARN_WRITE_BACK);
+    request(&unit, 1);
+}
+
+/* Words 0 and 2 of line 1 are dirty, line 0 is used last, and line 2 is requested. */
+static void make_dirty_victim(two_ways *b) {
+    nicoisetarn_unit unit = lent_two(b);
+    make_two(b, NICOISETARN_WRITE_BACK);
+    CHECK(same(nicoisetarn_store(&unit, 17, 1, 7), NICOISETARN_KIND_STORED, 3, 0));
+    CHECK(same(nicoisetarn_store(&unit, 24, 4, 0x8090), NICOISETARN_KIND_STORED, 4, 0));
+    CHECK(same(nicoisetarn_commit(&unit, 4), NICOISETARN_KIND_COMMITTED, 4, 0));
+    CHECK(same(nicoisetarn_idle(&unit), NICOISETARN_KIND_DRAINED, 3, 0));
+    CHECK(same(nicoisetarn_idle(&unit), NICOISETARN_KIND_DRAINED, 4, 0));
+    CHECK(same(nicoisetarn_load(&unit, 0, 1), NICOISETARN_KIND_VALUE, 5, 0));
+    CHECK(same(nicoisetarn_commit(&unit, 5), NICOISETARN_KIND_COMMITTED, 5, 0));
+    request(&unit, 2);
+}
+
+/* Prints the four parts, with the ages of two ways. */
+static void print_parts(nicoisetarn_preview_parts parts) {
+    printf("previewed: way %lu, ", (unsigned long)parts.way);
+    if (parts.evicts) {
+        printf("line %lu evicted, ", (unsigned long)parts.line);
+    } else {
+        fputs("no line evicted, ", stdout);
+    }
+    printf("words %lu, ages %lu %lu\n", (unsigned long)parts.words, (unsigned long)parts.ages[0],
+           (unsigned long)parts.ages[1]);
+}
+
+/* Memory has the words previewed as the evicted line had them, and is as before in every other byte. */
+static void check_written(const two_ways *after, const two_ways *before, nicoisetarn_preview_parts parts) {
+    for (size_t at = 0; at < sizeof after->memory; at++) {
+        const size_t in_line = at % NICOISETARN_LINE;
+        const int evicted = parts.evicts && at / NICOISETARN_LINE == parts.line;
+        const int written = evicted && (parts.words >> in_line / NICOISETARN_WORD & 1) != 0;
+        const uint8_t cached = before->cache[NICOISETARN_LINE * parts.way + in_line];
+        CHECK(after->memory[at] == (written ? cached : before->memory[at]));
+    }
+}
+
+/* The requested line stands in the way previewed, and the ages are those; the line that is evicted stood there. */
+static void check_placed(const two_ways *after, const two_ways *before, nicoisetarn_preview_parts parts) {
+    const nicoisetarn_tag was = nicoisetarn_tag_at(&before->image, parts.way);
+    const nicoisetarn_tag is = nicoisetarn_tag_at(&after->image, parts.way);
+    CHECK(was.valid == parts.evicts && was.line == parts.line && was.dirty == parts.words);
+    CHECK(is.valid == 1 && is.line == nicoisetarn_requested_line(&before->image) && is.dirty == 0);
+    for (size_t way = 0; way < NICOISETARN_MAX_WAYS; way++) {
+        CHECK(nicoisetarn_tag_at(&after->image, way).age == parts.ages[way]);
+    }
+}
+
+/* A preview on a state that is made for it, which stays, and then the reply, which does what was previewed. */
+static void play_preview(void (*make)(two_ways *)) {
+    two_ways b, before;
+    nicoisetarn_unit unit = lent_two(&b);
+    make(&b);
+    before = b;
+    const nicoisetarn_preview_parts parts = nicoisetarn_previewed(nicoisetarn_preview(&unit));
+    print_parts(parts);
+    CHECK(memcmp(&b, &before, sizeof b) == 0);
+    print(nicoisetarn_reply(&unit));
+    check_placed(&b, &before, parts);
+    check_written(&b, &before, parts);
+    CHECK(!parts.evicts || same(nicoisetarn_show_line(&unit, NICOISETARN_LINE * parts.line), NICOISETARN_KIND_SHOWN, 0, 0));
+    before = b;
+    print(nicoisetarn_preview(&unit)); /* nothing is requested any more */
+    CHECK(memcmp(&b, &before, sizeof b) == 0);
+}
+
 /* ---- words */
 
 /* Each kind and each refusal has words; other numbers have none. */
 static void check_words(void) {
     for (uint32_t kind = 0; kind < 300; kind++) {
-        const int known = kind <= NICOISETARN_KIND_WAITS_REQUESTED || kind == NICOISETARN_KIND_RAN ||
+        const int known = kind <= NICOISETARN_KIND_PREVIEWED || kind == NICOISETARN_KIND_RAN ||
                           kind == NICOISETARN_KIND_NO_SUCH_CALL;
         const int waits = kind == NICOISETARN_KIND_WAITS || kind == NICOISETARN_KIND_WAITS_REQUESTED;
         CHECK((*nicoisetarn_kind_word(kind) != '\0') == known);
-        CHECK(nicoisetarn_waits((nicoisetarn_answer){kind, 1, 0}) == waits);
+        CHECK(nicoisetarn_waits(answer_of(kind, 1, 0)) == waits);
     }
     for (uint32_t number = 0; number < 300; number++) {
         const int known = (number >= NICOISETARN_REFUSED_FIGURES && number <= NICOISETARN_REFUSED_VALUE) ||
                           (number >= NICOISETARN_REFUSED_STATE && number <= NICOISETARN_REFUSED_STUDY);
         CHECK((*nicoisetarn_refusal_words(number) != '\0') == known);
     }
+    CHECK(strcmp(nicoisetarn_refusal_words(NICOISETARN_REFUSED_NO_REQUEST), "reply or preview: register free") == 0);
     CHECK(strcmp(nicoisetarn_refusal_words(NICOISETARN_REFUSED_FLUSH), "flush: a committed store is held") == 0);
     CHECK(strcmp(nicoisetarn_refusal_words(NICOISETARN_REFUSED_NAME_IN_USE), "set: name in use") == 0);
     CHECK(strcmp(nicoisetarn_kind_word(NICOISETARN_KIND_CHECKPOINTED), "checkpointed") == 0);
     CHECK(strcmp(nicoisetarn_kind_word(NICOISETARN_KIND_WAITS_REQUESTED), "waits-requested") == 0);
+    CHECK(strcmp(nicoisetarn_kind_word(NICOISETARN_KIND_PREVIEWED), "previewed") == 0);
 }
 
 /* ---- what the image tells */
-
-static int same(nicoisetarn_answer answer, uint32_t kind, uint32_t first, uint32_t second) {
-    return answer.kind == kind && answer.first == first && answer.second == second;
-}
 
 /* A store held, a load that waits, a load fed from that store, and the waiting load's line requested. */
 static void make_busy(bench *b) {
@@ -392,6 +493,7 @@ static void check_refusals(void) {
     CHECK(nicoisetarn_reply(&unit).kind == NICOISETARN_KIND_FILLED);
     before = b;
     check_refused(nicoisetarn_reply(&unit), NICOISETARN_REFUSED_NO_REQUEST, &b, &before);
+    check_refused(nicoisetarn_preview(&unit), NICOISETARN_REFUSED_NO_REQUEST, &b, &before);
 }
 
 static void check_full_queues(void) {
@@ -436,13 +538,13 @@ static void check_damaged(void) {
 
 /* A number that no call has: the library says so, and nothing changes, whatever the image is. */
 static void check_no_such_call(void) {
-    const uint32_t numbers[] = {NICOISETARN_CALL_RESTORE + 1, NICOISETARN_KIND_NO_SUCH_CALL, UINT32_MAX};
+    const uint32_t numbers[] = {NICOISETARN_CALL_PREVIEW + 1, NICOISETARN_KIND_NO_SUCH_CALL, UINT32_MAX};
     bench b, before;
     make_busy(&b);
     for (size_t image = 0; image < 2; image++) {
         before = b;
         for (size_t place = 0; place < sizeof numbers / sizeof *numbers; place++) {
-            CHECK(same(nicoisetarn_step_in(&b.image, numbers[place], 1, 2, 3, b.cache, 0, b.memory, 32),
+            CHECK(same(nicoisetarn_step_24_in(&b.image, numbers[place], 1, 2, 3, b.cache, 0, b.memory, 32),
                        NICOISETARN_KIND_NO_SUCH_CALL, 0, 0));
         }
         CHECK(memcmp(&b, &before, sizeof b) == 0);
@@ -532,6 +634,45 @@ static void check_damaged_fed(void) {
     CHECK(nicoisetarn_idle(&unit).kind == NICOISETARN_KIND_IDLE);
 }
 
+/* ---- previews */
+
+/* The parts of a preview's five numbers; an answer of another kind has none. */
+static void check_parts(void) {
+    const nicoisetarn_preview_parts wanted = {3, 1, 4095, 10, {2, 0, 3, 1}}, none = {0, 0, 0, 0, {0, 0, 0, 0}};
+    for (uint32_t kind = 0; kind < 300; kind++) {
+        const nicoisetarn_answer answer = {kind, 3, 1, 4095, 10, 0x01030002};
+        const nicoisetarn_preview_parts parts = nicoisetarn_previewed(answer);
+        CHECK(memcmp(&parts, kind == NICOISETARN_KIND_PREVIEWED ? &wanted : &none, sizeof parts) == 0);
+    }
+}
+
+/* A clean line is evicted, in either profile: no word is written. */
+static void check_clean_victim(uint32_t profile) {
+    const nicoisetarn_answer wanted = {NICOISETARN_KIND_PREVIEWED, 0, 1, 0, 0, 0x0100}; /* ages 0 and 1 */
+    two_ways b;
+    nicoisetarn_unit unit = lent_two(&b);
+    make_two(&b, profile);
+    request(&unit, 2);
+    const nicoisetarn_answer answer = nicoisetarn_preview(&unit);
+    CHECK(memcmp(&answer, &wanted, sizeof answer) == 0);
+}
+
+/* Lengths that disagree and a damaged image are refused as by a reply. */
+static void check_refused_previews(void) {
+    bench b, before;
+    nicoisetarn_unit unit = lent(&b), no_cache = unit, short_memory = unit;
+    no_cache.cache_length = 0;
+    short_memory.memory_length = 16;
+    make_busy(&b);
+    before = b;
+    check_refused(nicoisetarn_preview(&no_cache), NICOISETARN_REFUSED_FIGURES, &b, &before);
+    check_refused(nicoisetarn_preview(&short_memory), NICOISETARN_REFUSED_FIGURES, &b, &before);
+    b.image.nicoisetarn_words[NICOISETARN_AT_REQUESTED / 4] = 2;
+    before = b;
+    check_refused(nicoisetarn_preview(&unit), NICOISETARN_REFUSED_STATE, &b, &before);
+    check_refused(nicoisetarn_preview(&short_memory), NICOISETARN_REFUSED_FIGURES, &b, &before);
+}
+
 /* ---- dirty marks */
 
 /* Line 0, clean. */
@@ -554,7 +695,7 @@ static void put_dirty_marks(bench *b, uint8_t marks) {
 static void check_ill_formed(bench *b) {
     nicoisetarn_unit unit = lent(b);
     const bench before = *b;
-    for (uint32_t call = NICOISETARN_CALL_LOAD; call <= NICOISETARN_CALL_RESTORE; call++) {
+    for (uint32_t call = NICOISETARN_CALL_LOAD; call <= NICOISETARN_CALL_PREVIEW; call++) {
         if (call != NICOISETARN_CALL_SHOW_LINE) {
             check_refused(nicoisetarn_step(&unit, (nicoisetarn_call)call, 1, 1, 1), NICOISETARN_REFUSED_STATE, b, &before);
         }
@@ -765,8 +906,8 @@ static void check_shown_of_const(void) {
     make_busy(&b);
     CHECK(same(nicoisetarn_reply(&unit), NICOISETARN_KIND_FILLED, 16, 0));
     const bench seen = b;
-    CHECK(same(nicoisetarn_show_line_in(&seen.image, 16, seen.cache, sizeof seen.cache, seen.memory,
-                                        sizeof seen.memory),
+    CHECK(same(nicoisetarn_show_line_24_in(&seen.image, 16, seen.cache, sizeof seen.cache, seen.memory,
+                                           sizeof seen.memory),
                NICOISETARN_KIND_SHOWN, 0, 16));
 }
 
@@ -775,12 +916,11 @@ static void check_shown_of_const(void) {
 /* Answers that no batch gives. */
 enum { UNTOUCHED = 0xA5 };
 
-/* The answer in a place is this, and its last three numbers are 0. */
+/* The answer in a place is this, by its six numbers. */
 static void check_answer(const uint32_t *answers, size_t place, nicoisetarn_answer wanted) {
-    CHECK(same(nicoisetarn_answer_at(answers, place), wanted.kind, wanted.first, wanted.second));
-    for (size_t number = 3; number < NICOISETARN_ANSWER_STRIDE; number++) {
-        CHECK(answers[NICOISETARN_ANSWER_STRIDE * place + number] == 0);
-    }
+    const nicoisetarn_answer answer = nicoisetarn_answer_at(answers, place);
+    CHECK(memcmp(&answer, &wanted, sizeof answer) == 0);
+    CHECK(memcmp(answers + NICOISETARN_ANSWER_STRIDE * place, &wanted, sizeof wanted) == 0);
 }
 
 /* The batch that is printed, beside the same calls one by one. */
@@ -794,8 +934,8 @@ static void check_batch(void) {
     for (size_t place = 0; place < LISTED; place++) {
         const uint32_t *call = listed + NICOISETARN_CALL_STRIDE * place;
         check_answer(answers, place,
-                     nicoisetarn_step_in(&single.image, call[0], call[1], call[2], call[3], single.cache,
-                                         sizeof single.cache, single.memory, sizeof single.memory));
+                     nicoisetarn_step_24_in(&single.image, call[0], call[1], call[2], call[3], single.cache,
+                                            sizeof single.cache, single.memory, sizeof single.memory));
     }
     CHECK(memcmp(&b, &single, sizeof b) == 0);
 }
@@ -811,9 +951,30 @@ static void check_batch_waits(void) {
     nicoisetarn_put_call(calls, 2, NICOISETARN_CALL_LOAD, 0, 4, 0);
     make_busy(&b);
     CHECK(same(nicoisetarn_run(&unit, calls, answers, 3), NICOISETARN_KIND_RAN, 0, 0));
-    check_answer(answers, 0, (nicoisetarn_answer){NICOISETARN_KIND_WAITS_REQUESTED, 1, 0});
-    check_answer(answers, 1, (nicoisetarn_answer){NICOISETARN_KIND_WAITS_REQUESTED, 4, 0});
-    check_answer(answers, 2, (nicoisetarn_answer){NICOISETARN_KIND_WAITS, 5, 0});
+    check_answer(answers, 0, answer_of(NICOISETARN_KIND_WAITS_REQUESTED, 1, 0));
+    check_answer(answers, 1, answer_of(NICOISETARN_KIND_WAITS_REQUESTED, 4, 0));
+    check_answer(answers, 2, answer_of(NICOISETARN_KIND_WAITS, 5, 0));
+}
+
+/* A preview before its reply and one behind it: the list answers as the calls alone do. */
+static void check_batch_preview(void) {
+    const nicoisetarn_answer wanted = {NICOISETARN_KIND_PREVIEWED, 1, 1, 1, 5, 0x0001}; /* ages 1 and 0 */
+    two_ways b, single;
+    nicoisetarn_unit unit = lent_two(&b), alone = lent_two(&single);
+    uint32_t calls[3 * NICOISETARN_CALL_STRIDE], answers[3 * NICOISETARN_ANSWER_STRIDE];
+    memset(answers, UNTOUCHED, sizeof answers);
+    nicoisetarn_put_call(calls, 0, NICOISETARN_CALL_PREVIEW, 0, 0, 0);
+    nicoisetarn_put_call(calls, 1, NICOISETARN_CALL_REPLY, 0, 0, 0);
+    nicoisetarn_put_call(calls, 2, NICOISETARN_CALL_PREVIEW, 0, 0, 0);
+    make_dirty_victim(&b);
+    single = b;
+    CHECK(same(nicoisetarn_run(&unit, calls, answers, 3), NICOISETARN_KIND_RAN, 0, 0));
+    check_answer(answers, 0, wanted);
+    check_answer(answers, 0, nicoisetarn_preview(&alone));
+    check_answer(answers, 1, nicoisetarn_reply(&alone));
+    check_answer(answers, 2, nicoisetarn_preview(&alone));
+    check_answer(answers, 2, answer_of(NICOISETARN_KIND_REFUSED, NICOISETARN_REFUSED_NO_REQUEST, 0));
+    CHECK(memcmp(&b, &single, sizeof b) == 0);
 }
 
 /* Lengths that do not fit change nothing, the answers neither; an empty list runs. */
@@ -826,8 +987,8 @@ static void check_batch_lengths(void) {
     make_busy(&b);
     before = b;
     for (size_t place = 0; place < sizeof lengths / sizeof *lengths; place++) {
-        CHECK(same(nicoisetarn_run_in(&b.image, listed, lengths[place][0], answers, lengths[place][1], b.cache,
-                                      sizeof b.cache, b.memory, sizeof b.memory),
+        CHECK(same(nicoisetarn_run_24_in(&b.image, listed, lengths[place][0], answers, lengths[place][1], b.cache,
+                                         sizeof b.cache, b.memory, sizeof b.memory),
                    NICOISETARN_KIND_NO_SUCH_CALL, 0, 0));
     }
     nicoisetarn_unit unit = lent(&b);
@@ -855,11 +1016,11 @@ static void check_batch_refused(void) {
     b.image.nicoisetarn_words[NICOISETARN_AT_REQUESTED / 4] = 2;
     before = b;
     CHECK(same(nicoisetarn_run(&unit, calls, answers, 5), NICOISETARN_KIND_RAN, 0, 0));
-    check_answer(answers, 0, (nicoisetarn_answer){NICOISETARN_KIND_REFUSED, NICOISETARN_REFUSED_STATE, 0});
-    check_answer(answers, 1, (nicoisetarn_answer){NICOISETARN_KIND_SHOWN, 0, 0});
-    check_answer(answers, 2, (nicoisetarn_answer){NICOISETARN_KIND_REFUSED, NICOISETARN_REFUSED_STATE, 0});
-    check_answer(answers, 3, (nicoisetarn_answer){NICOISETARN_KIND_NO_SUCH_CALL, 0, 0});
-    check_answer(answers, 4, (nicoisetarn_answer){NICOISETARN_KIND_NO_SUCH_CALL, 0, 0});
+    check_answer(answers, 0, answer_of(NICOISETARN_KIND_REFUSED, NICOISETARN_REFUSED_STATE, 0));
+    check_answer(answers, 1, answer_of(NICOISETARN_KIND_SHOWN, 0, 0));
+    check_answer(answers, 2, answer_of(NICOISETARN_KIND_REFUSED, NICOISETARN_REFUSED_STATE, 0));
+    check_answer(answers, 3, answer_of(NICOISETARN_KIND_NO_SUCH_CALL, 0, 0));
+    check_answer(answers, 4, answer_of(NICOISETARN_KIND_NO_SUCH_CALL, 0, 0));
     CHECK(memcmp(&b, &before, sizeof b) == 0);
 }
 
@@ -954,6 +1115,8 @@ int main(void) {
     play_waits(&b);
     play_fed(1); /* fed whole */
     play_fed(2); /* half of it */
+    play_preview(make_invalid_victim);
+    play_preview(make_dirty_victim);
     play_study();
     check_words();
     check_image();
@@ -967,6 +1130,10 @@ int main(void) {
     check_fed(NICOISETARN_WRITE_BACK);
     check_fed(NICOISETARN_WRITE_THROUGH);
     check_damaged_fed();
+    check_parts();
+    check_clean_victim(NICOISETARN_WRITE_BACK);
+    check_clean_victim(NICOISETARN_WRITE_THROUGH);
+    check_refused_previews();
     check_dirty_marks();
     check_clean_words();
     check_refused_checkpoints();
@@ -979,6 +1146,7 @@ int main(void) {
     check_shown_of_const();
     check_batch();
     check_batch_waits();
+    check_batch_preview();
     check_batch_lengths();
     check_batch_refused();
     check_empty_study();

@@ -23,9 +23,11 @@
  *     nicoisetarn_retry(&unit, 3);               value, number 3: the byte of memory
  *
  * A drained store stands in its line until the line is evicted or the unit is flushed. Then the words of 4 bytes that were
- * written go to memory, and no others.
+ * written go to memory, and no others. A preview (02: preview of a reply) tells what a reply will evict and where it puts
+ * its line, and changes nothing.
  *
  *     nicoisetarn_idle(&unit);                   request 0, for the store
+ *     nicoisetarn_preview(&unit);                previewed: way 0, line 1 evicted, none of its words written, age 0
  *     nicoisetarn_reply(&unit);                  filled 0
  *     nicoisetarn_idle(&unit);                   drained 1
  *     nicoisetarn_flush(&unit);                  flushed 1: a word
@@ -153,13 +155,19 @@ typedef struct nicoisetarn_answer {
     uint32_t kind; /* a nicoisetarn_kind */
     uint32_t first;
     uint32_t second;
+    uint32_t third;
+    uint32_t fourth;
+    uint32_t fifth;
 } nicoisetarn_answer;
 
-NICOISETARN_ASSERT(sizeof(nicoisetarn_answer) == 12, "an answer has 12 bytes");
+NICOISETARN_ASSERT(sizeof(nicoisetarn_answer) == 24, "an answer has 24 bytes");
 NICOISETARN_ASSERT(offsetof(nicoisetarn_answer, first) == 4, "first stands behind kind");
 NICOISETARN_ASSERT(offsetof(nicoisetarn_answer, second) == 8, "second stands behind first");
+NICOISETARN_ASSERT(offsetof(nicoisetarn_answer, third) == 12, "third stands behind second");
+NICOISETARN_ASSERT(offsetof(nicoisetarn_answer, fourth) == 16, "fourth stands behind third");
+NICOISETARN_ASSERT(offsetof(nicoisetarn_answer, fifth) == 20, "fifth stands behind fourth");
 
-/* Kinds of answers, with what first and second are. Kinds from 15 to 253 are free for answers to come. */
+/* Kinds of answers, with their numbers from first on. Kinds from 16 to 253 are free for answers to come. */
 typedef enum nicoisetarn_kind {
     NICOISETARN_KIND_REFUSED = 0,      /* a nicoisetarn_refusal */
     NICOISETARN_KIND_STORED = 1,       /* the store's number */
@@ -176,7 +184,8 @@ typedef enum nicoisetarn_kind {
     NICOISETARN_KIND_READY = 12,       /* an accepted start */
     NICOISETARN_KIND_CHECKPOINTED = 13, /* the operation number that the mark remembers */
     NICOISETARN_KIND_WAITS_REQUESTED = 14, /* the load's number: it waits, and its line is requested */
-    NICOISETARN_KIND_RAN = 254,        /* nicoisetarn_run_in: each call of the list has its own answer, accepted or refused */
+    NICOISETARN_KIND_PREVIEWED = 15,   /* way, evicts, line, words, and the ages in bytes: nicoisetarn_preview_parts */
+    NICOISETARN_KIND_RAN = 254,        /* a batch: each call of the list has its own answer, accepted or refused */
     NICOISETARN_KIND_NO_SUCH_CALL = 255 /* no such call or profile, or a batch of lengths that do not fit: nothing changed */
 } nicoisetarn_kind;
 
@@ -198,7 +207,7 @@ typedef enum nicoisetarn_refusal {
     NICOISETARN_REFUSED_RETRY = 14,       /* retry: no waiting load has that number */
     NICOISETARN_REFUSED_COMMIT = 15,      /* commit: the number is below the committed one or above the last */
     NICOISETARN_REFUSED_ABORT = 16,       /* abort: the number is at most the committed one, or above last + 1 */
-    NICOISETARN_REFUSED_NO_REQUEST = 17,  /* reply: the miss register is free */
+    NICOISETARN_REFUSED_NO_REQUEST = 17,  /* reply, preview: the miss register is free */
     NICOISETARN_REFUSED_FLUSH = 18,       /* flush: a committed store is held */
     NICOISETARN_REFUSED_NAME = 19,        /* checkpoint, restore: the name is not 1 to 8 */
     NICOISETARN_REFUSED_NAME_IN_USE = 20, /* checkpoint: a mark in force has the name */
@@ -224,6 +233,7 @@ static inline const char *nicoisetarn_kind_word(uint32_t kind) {
     case NICOISETARN_KIND_SHOWN: return "shown"; /* not printed by the player */
     case NICOISETARN_KIND_READY: return "ready";
     case NICOISETARN_KIND_CHECKPOINTED: return "checkpointed"; /* nor are these */
+    case NICOISETARN_KIND_PREVIEWED: return "previewed";
     case NICOISETARN_KIND_RAN: return "ran";
     case NICOISETARN_KIND_NO_SUCH_CALL: return "no such call";
     default: return "";
@@ -251,7 +261,7 @@ static inline const char *nicoisetarn_refusal_words(uint32_t number) {
     case NICOISETARN_REFUSED_RETRY: return "inquiry: no waiting load of that number";
     case NICOISETARN_REFUSED_COMMIT: return "commit: k is below h or above last";
     case NICOISETARN_REFUSED_ABORT: return "abort: n is at most h or above last + 1";
-    case NICOISETARN_REFUSED_NO_REQUEST: return "reply: register free";
+    case NICOISETARN_REFUSED_NO_REQUEST: return "reply or preview: register free";
     case NICOISETARN_REFUSED_FLUSH: return "flush: a committed store is held";
     case NICOISETARN_REFUSED_NAME: return "name outside 1 to 8";
     case NICOISETARN_REFUSED_NAME_IN_USE: return "set: name in use";
@@ -261,7 +271,7 @@ static inline const char *nicoisetarn_refusal_words(uint32_t number) {
     }
 }
 
-/* Call numbers of nicoisetarn_step_in and of a batch, with the operands that each takes. */
+/* Call numbers of nicoisetarn_step_24_in and of a batch, with the operands that each takes. */
 typedef enum nicoisetarn_call {
     NICOISETARN_CALL_LOAD = 0,       /* address, width */
     NICOISETARN_CALL_STORE = 1,      /* address, width, value */
@@ -273,61 +283,69 @@ typedef enum nicoisetarn_call {
     NICOISETARN_CALL_FLUSH = 7,      /* none */
     NICOISETARN_CALL_SHOW_LINE = 8,  /* address */
     NICOISETARN_CALL_CHECKPOINT = 9, /* name */
-    NICOISETARN_CALL_RESTORE = 10    /* name */
+    NICOISETARN_CALL_RESTORE = 10,   /* name */
+    NICOISETARN_CALL_PREVIEW = 11    /* none */
 } nicoisetarn_call;
 
 #define NICOISETARN_CALL_STRIDE 6   /* numbers of a call in a batch: the call's, x, y, z, and two that must be 0 */
-#define NICOISETARN_ANSWER_STRIDE 6 /* numbers of an answer in a batch: kind, first, second, and three that are 0 */
+#define NICOISETARN_ANSWER_STRIDE 6 /* numbers of an answer in a batch: kind, first to fifth */
+
+NICOISETARN_ASSERT(sizeof(nicoisetarn_answer) == 4 * NICOISETARN_ANSWER_STRIDE, "a batch has all numbers of an answer");
 
 /* ---- the functions of the library; the calls by name, below, are what a bench wants */
+
+/*
+ * Their names have the length of an answer, 24, and that of the start has the length of an image too, 2048: the caller gives
+ * the room for both, so that an object file made for other lengths must not link.
+ */
 
 /*
  * A start in a profile, on an image where it is stored. It reads the memory alone. A number that no profile has is
  * answered by NICOISETARN_KIND_NO_SUCH_CALL: nothing changes, and figures, image, cache and memory are not looked at.
  */
-nicoisetarn_answer nicoisetarn_start_2048_in(nicoisetarn_image *image, uint32_t sets, uint32_t ways, uint32_t profile,
-                                             uint8_t *cache, size_t cache_length,
-                                             const uint8_t *memory, size_t memory_length);
+nicoisetarn_answer nicoisetarn_start_2048_24_in(nicoisetarn_image *image, uint32_t sets, uint32_t ways,
+                                                uint32_t profile, uint8_t *cache, size_t cache_length,
+                                                const uint8_t *memory, size_t memory_length);
 
 /*
  * Any other call by its number. Operands that the call does not take are not looked at. A number that no call has
  * is answered by NICOISETARN_KIND_NO_SUCH_CALL: nothing changes, and image, cache and memory are not looked at.
  */
-nicoisetarn_answer nicoisetarn_step_in(nicoisetarn_image *image, uint32_t call,
-                                       uint32_t x, uint32_t y, uint32_t z,
-                                       uint8_t *cache, size_t cache_length,
-                                       uint8_t *memory, size_t memory_length);
+nicoisetarn_answer nicoisetarn_step_24_in(nicoisetarn_image *image, uint32_t call,
+                                          uint32_t x, uint32_t y, uint32_t z,
+                                          uint8_t *cache, size_t cache_length,
+                                          uint8_t *memory, size_t memory_length);
 
 /*
- * A batch: calls made one after the other. Answers, image, cache and memory are those of nicoisetarn_step_in, call by
+ * A batch: calls made one after the other. Answers, image, cache and memory are those of nicoisetarn_step_24_in, call by
  * call: a refused call changes nothing, and the list goes on. A call whose number no call has, or whose fifth or sixth
  * number is not 0, is answered by NICOISETARN_KIND_NO_SUCH_CALL in its place and changes nothing, and the list goes on.
  * Call k begins at calls[k * NICOISETARN_CALL_STRIDE], its answer at answers[k * NICOISETARN_ANSWER_STRIDE]. The
  * lengths count numbers: that of the calls must be a multiple of their stride, and there must be room for as many
  * answers and no more.
- * It answers NICOISETARN_KIND_RAN, with 0, 0, where the lengths fit, also for an empty list and on an image that is
+ * It answers NICOISETARN_KIND_RAN, with no numbers, where the lengths fit, also for an empty list and on an image that is
  * refused: then each call has the refusal 1 or 10 (show line the empty part, an unknown call its own answer), and image,
  * cache and memory stay. Where they do not fit it answers NICOISETARN_KIND_NO_SUCH_CALL, and nothing changes, the
  * answers neither.
  * Of a show line the answer is place and length. The bytes in the cache are those of that moment only if no later
  * call of the list writes them: a bench that wants to see them ends its list there.
  */
-nicoisetarn_answer nicoisetarn_run_in(nicoisetarn_image *image,
-                                      const uint32_t *calls, size_t calls_length,
-                                      uint32_t *answers, size_t answers_length,
-                                      uint8_t *cache, size_t cache_length,
-                                      uint8_t *memory, size_t memory_length);
+nicoisetarn_answer nicoisetarn_run_24_in(nicoisetarn_image *image,
+                                         const uint32_t *calls, size_t calls_length,
+                                         uint32_t *answers, size_t answers_length,
+                                         uint8_t *cache, size_t cache_length,
+                                         uint8_t *memory, size_t memory_length);
 
 /* Show line on an image and bytes that are only read: what NICOISETARN_CALL_SHOW_LINE answers. */
-nicoisetarn_answer nicoisetarn_show_line_in(const nicoisetarn_image *image, uint32_t address,
-                                            const uint8_t *cache, size_t cache_length,
-                                            const uint8_t *memory, size_t memory_length);
+nicoisetarn_answer nicoisetarn_show_line_24_in(const nicoisetarn_image *image, uint32_t address,
+                                               const uint8_t *cache, size_t cache_length,
+                                               const uint8_t *memory, size_t memory_length);
 
 /* A call by its number on a unit. For the functions below. */
 static inline nicoisetarn_answer nicoisetarn_step(nicoisetarn_unit *unit, nicoisetarn_call call,
                                                   uint32_t x, uint32_t y, uint32_t z) {
-    return nicoisetarn_step_in(unit->image, (uint32_t)call, x, y, z,
-                               unit->cache, unit->cache_length, unit->memory, unit->memory_length);
+    return nicoisetarn_step_24_in(unit->image, (uint32_t)call, x, y, z,
+                                  unit->cache, unit->cache_length, unit->memory, unit->memory_length);
 }
 
 /* ---- the calls by name */
@@ -347,8 +365,8 @@ static inline nicoisetarn_answer nicoisetarn_step(nicoisetarn_unit *unit, nicois
  */
 static inline nicoisetarn_answer nicoisetarn_start_with(nicoisetarn_unit *unit, uint32_t sets, uint32_t ways,
                                                         uint32_t profile) {
-    return nicoisetarn_start_2048_in(unit->image, sets, ways, profile, unit->cache, unit->cache_length,
-                                     unit->memory, unit->memory_length);
+    return nicoisetarn_start_2048_24_in(unit->image, sets, ways, profile, unit->cache, unit->cache_length,
+                                        unit->memory, unit->memory_length);
 }
 
 /* Start in write-back. */
@@ -450,6 +468,43 @@ static inline nicoisetarn_answer nicoisetarn_reply(nicoisetarn_unit *unit) {
 }
 
 /*
+ * Preview (02: preview of a reply): previewed, with what a reply would do here: the way that the line will take, the line
+ * that is evicted, which of its words are written to memory, and the ages of the set after it. nicoisetarn_previewed gives
+ * these parts. Nothing changes: image, cache and memory stay, and the request stands.
+ * Refused as a reply is, by 17: the miss register is free.
+ */
+static inline nicoisetarn_answer nicoisetarn_preview(nicoisetarn_unit *unit) {
+    return nicoisetarn_step(unit, NICOISETARN_CALL_PREVIEW, 0, 0, 0);
+}
+
+/*
+ * What a preview tells. way: the one that the line will take, from 0. evicts: 1 where a line is evicted, 0 where the way is
+ * invalid. line: the number of the evicted line, its first address divided by 16, else 0. words: which of its words are
+ * written to memory, 0 to 15, that of the word at 4 * n of the line being 1 << n; none in write-through. ages[w]: that of
+ * way w after the reply, 0 behind the last way.
+ */
+typedef struct nicoisetarn_preview_parts {
+    uint32_t way, evicts, line, words;
+    uint32_t ages[NICOISETARN_MAX_WAYS];
+} nicoisetarn_preview_parts;
+
+/* The parts that a preview answered, the age of way w in byte w of fifth; all zero where the answer is of another kind. */
+static inline nicoisetarn_preview_parts nicoisetarn_previewed(nicoisetarn_answer answer) {
+    nicoisetarn_preview_parts parts = {0, 0, 0, 0, {0, 0, 0, 0}};
+    if (answer.kind != NICOISETARN_KIND_PREVIEWED) {
+        return parts;
+    }
+    parts.way = answer.first;
+    parts.evicts = answer.second;
+    parts.line = answer.third;
+    parts.words = answer.fourth;
+    for (uint32_t way = 0; way < NICOISETARN_MAX_WAYS; way++) {
+        parts.ages[way] = answer.fifth >> 8 * way & 0xFF;
+    }
+    return parts;
+}
+
+/*
  * Flush: every dirty word is written to memory and marked clean; flushed, with how many: 0 in write-through. Ages stay.
  * Refused by 18: a committed store is held (drain it by idle calls first).
  */
@@ -460,12 +515,12 @@ static inline nicoisetarn_answer nicoisetarn_flush(nicoisetarn_unit *unit) {
 /*
  * Show line: the 16 bytes of the line of an address as a part of the cache, or the empty part where the line is
  * absent, the address is outside memory, or another call would be refused by 1 or 10. It is never refused, and all
- * that is lent is only read: a bench whose bytes are const calls nicoisetarn_show_line_in. nicoisetarn_shown gives
+ * that is lent is only read: a bench whose bytes are const calls nicoisetarn_show_line_24_in. nicoisetarn_shown gives
  * the bytes.
  */
 static inline nicoisetarn_answer nicoisetarn_show_line(const nicoisetarn_unit *unit, uint32_t address) {
-    return nicoisetarn_show_line_in(unit->image, address, unit->cache, unit->cache_length,
-                                    unit->memory, unit->memory_length);
+    return nicoisetarn_show_line_24_in(unit->image, address, unit->cache, unit->cache_length,
+                                       unit->memory, unit->memory_length);
 }
 
 /*
@@ -489,25 +544,25 @@ static inline void nicoisetarn_put_call(uint32_t *calls, size_t place, nicoiseta
 }
 
 /*
- * Makes count calls and writes as many answers: ran. nicoisetarn_run_in says how. The calls have at least
+ * Makes count calls and writes as many answers: ran. nicoisetarn_run_24_in says how. The calls have at least
  * count * NICOISETARN_CALL_STRIDE numbers, and the answers count * NICOISETARN_ANSWER_STRIDE. More calls than a list
  * of any length has are answered as lengths that do not fit.
  */
 static inline nicoisetarn_answer nicoisetarn_run(nicoisetarn_unit *unit, const uint32_t *calls, uint32_t *answers,
                                                  size_t count) {
     if (count > SIZE_MAX / NICOISETARN_CALL_STRIDE) {
-        const nicoisetarn_answer none = {NICOISETARN_KIND_NO_SUCH_CALL, 0, 0};
+        const nicoisetarn_answer none = {NICOISETARN_KIND_NO_SUCH_CALL, 0, 0, 0, 0, 0};
         return none;
     }
-    return nicoisetarn_run_in(unit->image, calls, count * NICOISETARN_CALL_STRIDE,
-                              answers, count * NICOISETARN_ANSWER_STRIDE,
-                              unit->cache, unit->cache_length, unit->memory, unit->memory_length);
+    return nicoisetarn_run_24_in(unit->image, calls, count * NICOISETARN_CALL_STRIDE,
+                                 answers, count * NICOISETARN_ANSWER_STRIDE,
+                                 unit->cache, unit->cache_length, unit->memory, unit->memory_length);
 }
 
 /* The answer to the call in a place, counted from 0. */
 static inline nicoisetarn_answer nicoisetarn_answer_at(const uint32_t *answers, size_t place) {
     const uint32_t *numbers = answers + place * NICOISETARN_ANSWER_STRIDE;
-    const nicoisetarn_answer answer = {numbers[0], numbers[1], numbers[2]};
+    const nicoisetarn_answer answer = {numbers[0], numbers[1], numbers[2], numbers[3], numbers[4], numbers[5]};
     return answer;
 }
 

@@ -13,7 +13,7 @@ pub type Needed = [(&'static str, u64)];
 const OF_ALL: [(&str, u64); 1] = [("run after a start", 3)];
 
 /// What they must meet out of so many of their own.
-const NEEDED: [(&str, u64); 76] = [
+const NEEDED: [(&str, u64); 89] = [
     ("run from a well-formed state", 40),
     ("value", 1),
     ("load waits", 1),
@@ -51,11 +51,23 @@ const NEEDED: [(&str, u64); 76] = [
     ("eviction of another line than by 01 alone", 40),
     ("forwarded load aborted", 12),
     ("forwarded load dropped by a return", 12),
+    ("preview", 1),
+    ("preview of a fill that evicts nothing", 1),
+    ("preview of an invalid way, another one older", 2),
+    ("preview of an eviction behind the first set", 2),
+    ("preview of an eviction, one way", 2),
+    ("preview of an eviction, two ways", 4),
+    ("preview of an eviction, three ways", 10),
+    ("preview of an eviction, four ways", 20),
+    ("preview of a clean line", 1),
+    ("preview refused by 17", 1),
+    ("reply behind its preview", 2),
     ("dropped stretch", 1),
     ("dropped stretch, load and drain inside", 2),
     ("dropped stretch, load and reply inside", 2),
     ("dropped stretch, load and eviction inside", 5),
     ("dropped stretch, forwarded load inside", 4),
+    ("dropped stretch, load and preview inside", 2),
     ("dropped stretch at a mark, load inside", 5),
     ("mark set", 1),
     ("return to a mark", 1),
@@ -70,6 +82,7 @@ const NEEDED: [(&str, u64); 76] = [
     ("mark stretch, load and reply inside", 5),
     ("mark stretch, load and eviction inside", 12),
     ("mark stretch, forwarded load inside", 10),
+    ("mark stretch, load and preview inside", 8),
     ("mark stretch, waiting load and eviction inside", 20),
     ("mark stretch, second mark and refusals inside", 8),
     ("mark stretch, older work committed inside", 8),
@@ -93,11 +106,14 @@ const NEEDED: [(&str, u64); 76] = [
 ];
 
 /// What those of write-back must meet besides.
-const OF_BACK: [(&str, u64); 10] = [
+const OF_BACK: [(&str, u64); 13] = [
     ("wait for a line requested for a store", 5),
     ("eviction of a dirty line", 2),
     ("eviction of one dirty word", 4),
     ("eviction of two or three dirty words", 15),
+    ("preview of one dirty word", 4),
+    ("preview of several dirty words", 25),
+    ("preview of a dirty word that memory has", 100),
     ("flush of several lines", 5),
     ("flush of more words than lines", 8),
     ("drain to a dirty word", 2),

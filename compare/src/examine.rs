@@ -9,6 +9,7 @@ use crate::fed::{last_forwarded, Fed};
 use crate::flat::Flat;
 use crate::forwarded::Forwarded;
 use crate::plain;
+use crate::preview::{self, Previews};
 use crate::random::Run;
 use crate::rules::{self, Source};
 use crate::stretch::{self, Given, Stretch, MARK, PLAIN};
@@ -26,13 +27,19 @@ pub struct Checks {
     pub flat: bool,
     /// The marks of forwarded loads over the run, and each commit without them.
     pub forwarded: bool,
+    /// Each preview beside the reply on a copy.
+    pub previews: bool,
     /// Demand 3 for every dropped stretch.
     pub dropped: bool,
 }
 
 impl Checks {
-    pub const ALL: Checks = Checks { rules: true, flat: true, forwarded: true, dropped: true };
-    pub const NONE: Checks = Checks { rules: false, flat: false, forwarded: false, dropped: false };
+    pub const ALL: Checks = Checks::each(true);
+    pub const NONE: Checks = Checks::each(false);
+
+    const fn each(made: bool) -> Checks {
+        Checks { rules: made, flat: made, forwarded: made, previews: made, dropped: made }
+    }
 }
 
 /// A run that fails, where and how.
@@ -69,6 +76,7 @@ struct Examiner<'a> {
     checks: Checks,
     flat: Flat,
     forwarded: Forwarded,
+    previews: Previews,
     counts: Counts,
     fed: Fed,
     /// The numbers given out so far, and those given out more than once.
@@ -94,6 +102,7 @@ pub fn examine(run: &Run, step: Step, checks: Checks) -> Result<Counts, Failure>
         checks,
         flat: Flat::new(&run.found, first + 1, first),
         forwarded: Forwarded::default(),
+        previews: Previews::default(),
         counts: Counts::one_run(run.calls.len()),
         fed: Fed::default(),
         used: BTreeSet::new(),
@@ -185,6 +194,9 @@ impl Examiner<'_> {
         if self.checks.forwarded {
             self.forwarded.observe(self.step, before, call, answer, after)?;
         }
+        if self.checks.previews {
+            self.previews.observe(self.step, before, call, answer, after)?;
+        }
         Ok(())
     }
 
@@ -219,6 +231,7 @@ impl Examiner<'_> {
             Answer::Flushed(_) => self.counts.met("flush", true),
             Answer::Shown(part) => self.counts.met("line shown", part.length > 0),
             Answer::Checkpointed(_) => self.counts.met("mark set", true),
+            Answer::Previewed(_) => preview::count(&mut self.counts, before),
             Answer::Kept(_) | Answer::Committed(_) => self.count_marks(place, before, after),
             _ => {}
         }
@@ -249,6 +262,7 @@ impl Examiner<'_> {
         let set = matches!(call, Call::Checkpoint { .. });
         let spent = set && before.state.last == u32::MAX;
         self.counts.met(counts::refused(no), true);
+        self.counts.met("preview refused by 17", call == Call::Preview && no == 17);
         self.counts.met("set refused by 21", set && no == 21);
         self.counts.met("set refused by 20 when no number is left", spent && no == 20);
     }
@@ -305,7 +319,9 @@ impl Examiner<'_> {
         let mut records = before.state.tags.iter().zip(&after.state.tags);
         let gone = records.find(|(old, new)| old.valid && old.line != new.line);
         let dirty = gone.map(|(old, _)| old.dirty != 0);
+        let previewed = place > 0 && self.run.calls[place - 1] == Call::Preview;
         self.counts.met("fill", true);
+        self.counts.met("reply behind its preview", previewed);
         self.counts.met("eviction of a clean line", dirty == Some(false));
         if dirty == Some(self.run.figures.policy == WritePolicy::WriteBack) {
             self.evicting.insert(place);
@@ -367,11 +383,13 @@ impl Examiner<'_> {
             inside.iter().any(|one| matches!(one.call, Call::Load { .. }) && one.answer.accepted());
         let drain = inside.iter().any(|one| matches!(one.answer, Answer::Drained(_)));
         let reply = inside.iter().any(|one| matches!(one.answer, Answer::Filled(_)));
+        let preview = inside.iter().any(|one| matches!(one.answer, Answer::Previewed(_)));
         let evicts = self.evicting.range(stretch.first..=stretch.end).next().is_some();
         self.counts.met(stretch.kind.name, true);
         self.counts.met(stretch.kind.with_drain, load && drain);
         self.counts.met(stretch.kind.with_reply, load && reply);
         self.counts.met(stretch.kind.with_eviction, load && evicts);
+        self.counts.met(stretch.kind.with_preview, load && preview);
         let forwarded = self.forwarding.range(stretch.first..=stretch.end).next().is_some();
         self.counts.met(stretch.kind.with_forwarded, forwarded);
         if stretch.kind.name == PLAIN.name {

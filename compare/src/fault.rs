@@ -361,6 +361,71 @@ faults! {
     TakesFallingCheckpoints,
     /// Marks with other ranks count as well formed.
     TakesOtherRanks,
+
+    /// A preview tells the ages before the reply.
+    PreviewAgesBefore,
+    /// It tells them with 0 for its way, and the others as they are.
+    PreviewAgesVictim,
+    /// It adds 1 to every other age of the set.
+    PreviewAgesAll,
+    /// It tells the ages from the last way to the first.
+    PreviewAgesReversed,
+    /// It tells the ways in order of age.
+    PreviewOrder,
+    /// It tells the ages of the first set.
+    PreviewAgesOfFirst,
+    /// It tells every word of a line that has a dirty one.
+    PreviewAllWords,
+    /// It tells no word.
+    PreviewNoWords,
+    /// It tells the words that are not to be written back.
+    PreviewCleanWords,
+    /// It tells how many words there are.
+    PreviewCountsWords,
+    /// It tells the words from the last to the first.
+    PreviewWordsReversed,
+    /// It tells the number of the record as its way.
+    PreviewGivesRecord,
+    /// It counts the ways from 1.
+    PreviewFromOne,
+    /// It takes the way of least age.
+    PreviewLeastAge,
+    /// It takes the way of greatest age, though one is invalid.
+    PreviewPassesInvalid,
+    /// It takes the highest invalid way.
+    PreviewHighestInvalid,
+    /// It tells line 0 where none is evicted.
+    PreviewEvictsZero,
+    /// It tells the requested line as the one evicted.
+    PreviewEvictsRequested,
+    /// It tells the first address of the line evicted.
+    PreviewGivesAddress,
+    /// It tells no clean line.
+    PreviewHidesClean,
+    /// It counts the lines of answered loads that are listed as used.
+    PreviewUsesListed,
+    /// It tells the words whose bytes are not memory's.
+    PreviewChangedWords,
+    /// A preview is accepted while the register is free, and tells of line 0.
+    PreviewOfFree,
+    /// It is always refused.
+    PreviewRefuses,
+    /// It is refused where no line is evicted.
+    PreviewRefusesInvalid,
+    /// It is refused by 17 before 10.
+    PreviewFreeBeforeFormed,
+    /// It is accepted of an ill-formed state.
+    PreviewTakesIllFormed,
+    /// A preview frees the register.
+    PreviewFreesRegister,
+    /// It leaves the ages that it tells.
+    PreviewUses,
+    /// It makes the reply.
+    PreviewReplies,
+    /// It writes the words that it tells to memory.
+    PreviewWritesBack,
+    /// It marks them clean.
+    PreviewMarksClean,
 }
 
 /// The faults of write-through alone. Scripts keep to write-back.
@@ -422,8 +487,44 @@ pub const CHECKPOINTS: [Fault; 37] = [
     Fault::TakesOtherRanks,
 ];
 
-/// The faults in what counts as well formed alone, which no run after a start tells.
-pub const OF_STATES: [Fault; 14] = [
+/// The faults of previews alone. No script has a letter for them.
+pub const PREVIEWS: [Fault; 32] = [
+    Fault::PreviewAgesBefore,
+    Fault::PreviewAgesVictim,
+    Fault::PreviewAgesAll,
+    Fault::PreviewAgesReversed,
+    Fault::PreviewOrder,
+    Fault::PreviewAgesOfFirst,
+    Fault::PreviewAllWords,
+    Fault::PreviewNoWords,
+    Fault::PreviewCleanWords,
+    Fault::PreviewCountsWords,
+    Fault::PreviewWordsReversed,
+    Fault::PreviewGivesRecord,
+    Fault::PreviewFromOne,
+    Fault::PreviewLeastAge,
+    Fault::PreviewPassesInvalid,
+    Fault::PreviewHighestInvalid,
+    Fault::PreviewEvictsZero,
+    Fault::PreviewEvictsRequested,
+    Fault::PreviewGivesAddress,
+    Fault::PreviewHidesClean,
+    Fault::PreviewUsesListed,
+    Fault::PreviewChangedWords,
+    Fault::PreviewOfFree,
+    Fault::PreviewRefuses,
+    Fault::PreviewRefusesInvalid,
+    Fault::PreviewFreeBeforeFormed,
+    Fault::PreviewTakesIllFormed,
+    Fault::PreviewFreesRegister,
+    Fault::PreviewUses,
+    Fault::PreviewReplies,
+    Fault::PreviewWritesBack,
+    Fault::PreviewMarksClean,
+];
+
+/// The faults that ill-formed states alone tell, and no run after a start.
+pub const OF_STATES: [Fault; 16] = [
     Fault::TakesFifthMark,
     Fault::TakesCleanWord,
     Fault::TakesWaitingForwarded,
@@ -438,4 +539,6 @@ pub const OF_STATES: [Fault; 14] = [
     Fault::TakesCheckpointAhead,
     Fault::TakesFallingCheckpoints,
     Fault::TakesOtherRanks,
+    Fault::PreviewFreeBeforeFormed,
+    Fault::PreviewTakesIllFormed,
 ];

@@ -1,11 +1,13 @@
 //! The faulty machines: each is the right one with one step made wrong, and some
 //! do not know the clause of well-formedness that they would else stop at.
 //! `fault` says what each does. `checkpoints` has those that are wrong about branch
-//! marks, `forwarded` those that are wrong about loads fed from held stores, `waits`
-//! those that are wrong about loads that wait.
+//! marks, `forwarded` those that are wrong about loads fed from held stores, `preview`
+//! those that are wrong about previews, `waits` those that are wrong about loads that
+//! wait.
 
 mod checkpoints;
 mod forwarded;
+mod preview;
 mod waits;
 
 use std::ops::Range;
@@ -22,6 +24,7 @@ use crate::types::{
 
 pub use checkpoints::*;
 pub use forwarded::*;
+pub use preview::*;
 pub use waits::*;
 
 /// Checks 1 and 10 of a machine that does not know one of the clauses.

@@ -150,6 +150,7 @@ impl Flat {
             (Call::Checkpoint { name }, Answer::Checkpointed(number)) => self.set(name, number),
             (Call::Restore { name }, Answer::Kept(last)) => self.returned(name, last),
             (Call::Flush, Answer::Flushed(_)) => self.flushed(after),
+            (Call::Preview, Answer::Previewed(_)) => Ok(()),
             (Call::Idle | Call::Reply | Call::ShowLine { .. }, _) => Ok(()),
             _ => Err(format!("{answer:?} is no answer to {call:?}")),
         }

@@ -9,6 +9,7 @@
 //! - `rules`: each call's rule once more, slow and plain.
 //! - `flat`: demand 2, over whole runs.
 //! - `forwarded`: loads fed from held stores, over whole runs.
+//! - `preview`: previews of a reply, over whole runs.
 //! - `stretch`: the kinds of dropped stretches.
 //! - `dropped`: demand 3, over whole runs.
 //! - `script`: the script player.
@@ -47,6 +48,7 @@ mod maker;
 pub mod met;
 pub mod model;
 pub mod plain;
+pub mod preview;
 pub mod program;
 pub mod random;
 pub mod rules;

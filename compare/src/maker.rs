@@ -50,8 +50,9 @@ impl Row {
     }
 }
 
-/// Every call, then every turn of several calls. The calls on marks are for short runs
-/// alone: no script has a letter for them.
+/// Every call but the preview, which `random` puts among the others, then every turn of
+/// several calls. The calls on marks are for short runs alone: no script has a letter for
+/// them.
 const ROWS: &[Row] = &[
     row(Maker::load, &[(Single, 9), (Inside, 3), (Marked, 3), (Branches, 6)]),
     row(Maker::store, &[(Single, 6), (Inside, 2), (Marked, 2), (Branches, 6)]),

@@ -138,6 +138,7 @@ pub fn name(answer: Answer) -> &'static str {
         Answer::Refused(no) => refused(no),
         Answer::Shown(_) => "shown",
         Answer::Checkpointed(_) => "mark set",
+        Answer::Previewed(_) => "preview",
     }
 }
 

@@ -1,4 +1,4 @@
-//! The machine: twelve calls in place on a lent state, cache and memory, and the steps
+//! The machine: thirteen calls in place on a lent state, cache and memory, and the steps
 //! that they are made of. Each call does its own checks in the paper's order and
 //! changes nothing when it refuses.
 //!
@@ -6,12 +6,13 @@
 //! `Self`, so that another machine can have one of them otherwise: `Unchecked` does
 //! not make checks 1 and 10.
 
+use std::cmp::Ordering;
 use std::ops::Range;
 
 use crate::check;
 use crate::types::{
-    Answer, Call, Checkpoint, Figures, LoadEntry, Lookup, Part, Request, State, StoreEntry, Tag,
-    CHECKPOINTS, LINE, LOADS, STORES, WORD, WORDS,
+    Answer, Call, Checkpoint, Figures, LoadEntry, Lookup, Part, Preview, Request, State,
+    StoreEntry, Tag, CHECKPOINTS, LINE, LOADS, STORES, WAYS, WORD, WORDS,
 };
 
 /// The right machine.
@@ -46,7 +47,7 @@ pub fn line_bytes(line: u32) -> Range<usize> {
 }
 
 /// The bytes of a word: of a record in the cache, of a line in memory.
-fn word_bytes(line: usize, word: usize) -> Range<usize> {
+pub fn word_bytes(line: usize, word: usize) -> Range<usize> {
     let first = line.saturating_mul(LINE).saturating_add(word * WORD);
     first..first.saturating_add(WORD)
 }
@@ -57,7 +58,7 @@ pub fn mark_of(address: u32) -> u8 {
 }
 
 /// The records of a line's set.
-fn set_of(state: &State, line: u32) -> Range<usize> {
+pub fn set_of(state: &State, line: u32) -> Range<usize> {
     let ways = state.figures.ways as usize;
     let base = (line % state.figures.sets) as usize * ways;
     base..base + ways
@@ -66,6 +67,23 @@ fn set_of(state: &State, line: u32) -> Range<usize> {
 /// The record of a line in a way of its set.
 fn record_of(state: &State, line: u32, way: usize) -> usize {
     set_of(state, line).start + way
+}
+
+/// The records of the set that a record is in.
+fn set_around(state: &State, record: usize) -> Range<usize> {
+    let ways = state.figures.ways as usize;
+    let base = record / ways * ways;
+    base..base + ways
+}
+
+/// The age of a record once one of its set is used, by the two ages before. The ages of a
+/// set differ, so that the record of the used age is the one used.
+fn aged(age: u32, used: u32) -> u32 {
+    match age.cmp(&used) {
+        Ordering::Less => age + 1,
+        Ordering::Equal => 0,
+        Ordering::Greater => age,
+    }
 }
 
 /// The aligned word of the cache that holds an address of a record's line.
@@ -341,15 +359,10 @@ pub trait Machine {
 
     /// Use: age 0 for the record, 1 more for each smaller age of its set.
     fn use_record(state: &mut State, record: usize) {
-        let ways = state.figures.ways as usize;
-        let base = record / ways * ways;
-        let old = state.tags[record].age;
-        for tag in &mut state.tags[base..base + ways] {
-            if tag.age < old {
-                tag.age += 1;
-            }
+        let (set, used) = (set_around(state, record), state.tags[record].age);
+        for tag in &mut state.tags[set] {
+            tag.age = aged(tag.age, used);
         }
-        state.tags[record].age = 0;
     }
 
     /// Uses a line if it is present.
@@ -405,6 +418,34 @@ pub trait Machine {
             tag.dirty = 0;
         }
         written
+    }
+
+    // The steps of the preview.
+
+    /// The ages of a record's set once the record is used, by way.
+    fn ages_after(state: &State, record: usize) -> [u32; WAYS] {
+        let (set, used) = (set_around(state, record), state.tags[record].age);
+        let mut ages = [0; WAYS];
+        for (age, tag) in ages.iter_mut().zip(&state.tags[set]) {
+            *age = aged(tag.age, used);
+        }
+        ages
+    }
+
+    /// What a reply that takes a record would do. An invalid record has no dirty marks.
+    fn preview_at(state: &State, record: usize) -> Preview {
+        let Tag { valid, dirty, line, .. } = state.tags[record];
+        Preview {
+            way: (record - set_around(state, record).start) as u32,
+            evicted: valid.then_some(line),
+            words: dirty,
+            ages: Self::ages_after(state, record),
+        }
+    }
+
+    /// What a reply with a line would do.
+    fn preview_of(state: &State, line: u32) -> Preview {
+        Self::preview_at(state, Self::victim(state, line))
     }
 
     // The steps of idle.
@@ -533,7 +574,7 @@ pub trait Machine {
         state.checkpoints[place..].fill(Checkpoint::default());
     }
 
-    // The twelve calls.
+    // The thirteen calls.
 
     /// Start. Refused, it hands back the all-zero state and leaves the cache.
     fn start(figures: Figures, cache: &mut [u8], memory: &[u8]) -> (State, Answer) {
@@ -712,13 +753,24 @@ pub trait Machine {
         Self::drop_from(state, number)
     }
 
+    /// Preview: tells of a reply, which it does not make, and is refused as that is.
+    fn preview(state: &State, cache: &[u8], memory: &[u8]) -> Answer {
+        if let Some(no) = Self::refusal(state, cache, memory) {
+            return Answer::Refused(no);
+        }
+        match state.request {
+            Request::Line(line) => Answer::Previewed(Self::preview_of(state, line)),
+            Request::Free => Answer::Refused(17),
+        }
+    }
+
     /// The bytes that show line gives: that part of the lent cache.
     fn shown_bytes<'a>(state: &State, cache: &'a [u8], memory: &[u8], address: u32) -> &'a [u8] {
         let part = Self::show_line(state, cache, memory, address);
         &cache[part.place..part.place + part.length]
     }
 
-    /// One call out of the twelve.
+    /// One call out of the thirteen.
     fn step(state: &mut State, cache: &mut [u8], memory: &mut [u8], call: Call) -> Answer {
         match call {
             Call::Start { figures } => {
@@ -741,6 +793,7 @@ pub trait Machine {
             }
             Call::Checkpoint { name } => Self::checkpoint(state, cache, memory, name),
             Call::Restore { name } => Self::restore(state, cache, memory, name),
+            Call::Preview => Self::preview(state, cache, memory),
         }
     }
 }

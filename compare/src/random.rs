@@ -1,10 +1,12 @@
-//! Random runs: many figures and found memories. `maker` makes their calls.
+//! Random runs: many figures and found memories. `maker` makes their calls; previews are
+//! put among these.
 
 use crate::check;
 use crate::maker::Maker;
 pub use crate::maker::Mix;
+use crate::model::{Machine, Right};
 use crate::script::line_of;
-use crate::types::{Call, Figures, Setup, State, Step, WritePolicy, LINE};
+use crate::types::{Call, Figures, Request, Setup, State, Step, WritePolicy, LINE};
 
 /// A small generator of random numbers (splitmix64).
 #[derive(Clone, Debug)]
@@ -109,7 +111,28 @@ pub fn run(seed: u64) -> Run {
     let mix = if branches { Mix::Branches } else { Mix::Short };
     let mut run = Maker::new(run, rng).make(length, mix).run;
     run.calls.truncate(length);
-    run
+    with_previews(run)
+}
+
+/// One preview for so many calls, while a line is requested and while the register is free.
+const EACH_REQUESTED: u64 = 2;
+const EACH_FREE: u64 = 24;
+
+/// Puts previews among the calls of a run, inside stretches and outside. They change
+/// nothing, so that the other calls do what they did without them.
+fn with_previews(run: Run) -> Run {
+    let mut rng = Rng::new(!run.seed);
+    let (mut state, mut cache, mut memory) = run.begin(Right::step);
+    let mut calls = Vec::new();
+    for &call in &run.calls {
+        let each = if state.request == Request::Free { EACH_FREE } else { EACH_REQUESTED };
+        if rng.one_in(each) {
+            calls.push(Call::Preview);
+        }
+        Right::step(&mut state, &mut cache, &mut memory, call);
+        calls.push(call);
+    }
+    Run { calls, ..run }
 }
 
 /// Begins a run over zeroed memory, as a script can have it: after a start.

@@ -6,7 +6,7 @@ use std::collections::BTreeMap;
 
 use crate::plain::{self, covers, input_refusal, Mark, Present, View};
 use crate::types::{
-    Answer, Call, Figures, LoadEntry, Part, Snapshot, State, StoreEntry, WritePolicy,
+    Answer, Call, Figures, LoadEntry, Part, Preview, Snapshot, State, StoreEntry, WritePolicy,
 };
 
 /// Where a byte of a load comes from.
@@ -123,7 +123,7 @@ fn conditions(view: &View, call: Call) -> Vec<Option<u32>> {
             let allowed = view.committed + 1..=view.last + 1;
             vec![when(16, !allowed.contains(&(number as u64)))]
         }
-        Call::Reply => vec![when(17, view.request.is_none())],
+        Call::Reply | Call::Preview => vec![when(17, view.request.is_none())],
         Call::Flush => {
             let mut held = view.stores.iter().map(|store| store.number as u64);
             vec![when(18, held.any(|number| number <= view.committed))]
@@ -170,6 +170,7 @@ fn outcome(view: View, call: Call) -> (Answer, View) {
         Call::ShowLine { address } => (Answer::Shown(shown(&view, address)), view),
         Call::Checkpoint { name } => checkpoint(view, name),
         Call::Restore { name } => restore(view, name),
+        Call::Preview => (Answer::Previewed(preview(&view)), view),
         Call::Start { .. } => (Answer::Ready, view),
     }
 }
@@ -373,6 +374,23 @@ fn reply(mut view: View) -> (Answer, View) {
     view.present.insert(line, Present { set, way, dirty: [false; 4], bytes });
     use_line(&mut view, line);
     (Answer::Filled(line * 16), view)
+}
+
+/// A preview: the reply is made on a copy, and what it did is read off the two views. The
+/// words are those that were dirty where the requested line then is.
+fn preview(view: &View) -> Preview {
+    let line = view.request.expect("a line is requested");
+    let (_, after) = reply(view.clone());
+    let Present { set, way, .. } = after.present[&line];
+    let gone = view.present.keys().find(|old| !after.present.contains_key(old));
+    let there = view.present.values().find(|old| (old.set, old.way) == (set, way));
+    let dirty = there.map_or([false; 4], |old| old.dirty);
+    let mut ages = [0; 4];
+    for (age, way) in after.recency[set].iter().enumerate() {
+        ages[*way] = age as u32;
+    }
+    let words = (0..4).filter(|word| dirty[*word]).map(|word| 2u8.pow(word as u32)).sum();
+    Preview { way: way as u32, evicted: gone.copied(), words, ages }
 }
 
 /// Memory gets the bytes of a line that are in its dirty words.

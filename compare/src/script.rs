@@ -114,12 +114,12 @@ pub fn begin_line(setup: Setup) -> String {
     format!("G {} {} {memory}", figures.sets, figures.ways)
 }
 
-/// A call as a script line; a start, show line and the two calls on marks have none: the
-/// player keeps its letters. Scripts are made of the other calls.
+/// A call as a script line; a start, show line, the two calls on marks and the preview have
+/// none: the player keeps its letters. Scripts are made of the other calls.
 pub fn line_of(call: Call) -> Option<String> {
     Some(match call {
         Call::Start { .. } | Call::ShowLine { .. } => return None,
-        Call::Checkpoint { .. } | Call::Restore { .. } => return None,
+        Call::Checkpoint { .. } | Call::Restore { .. } | Call::Preview => return None,
         Call::Load { address, width } => format!("L {address} {width}"),
         Call::Store { address, width, value } => format!("S {address} {width} {value}"),
         Call::Retry { number } => format!("A {number}"),
@@ -198,8 +198,8 @@ fn words(answer: Answer) -> (&'static str, Option<u32>, Option<u32>) {
         Answer::Idle => ("idle", None, None),
         Answer::Flushed(words) => ("flushed", Some(words), None),
         Answer::Refused(no) => ("refused", Some(no), None),
-        // No letter of the script shows a line or sets a mark.
-        Answer::Shown(_) | Answer::Checkpointed(_) => ("", None, None),
+        // No letter of the script shows a line, sets a mark or previews a reply.
+        Answer::Shown(_) | Answer::Checkpointed(_) | Answer::Previewed(_) => ("", None, None),
     }
 }
 

@@ -18,12 +18,13 @@ pub struct Given {
 pub struct Kind {
     /// The names under which such a stretch is counted: any, one with a load and a
     /// drain inside, one with a load and a reply, one with a load and an eviction, one
-    /// with a forwarded load.
+    /// with a forwarded load, one with a load and a preview.
     pub name: &'static str,
     pub with_drain: &'static str,
     pub with_reply: &'static str,
     pub with_eviction: &'static str,
     pub with_forwarded: &'static str,
+    pub with_preview: &'static str,
     /// Every stretch of this kind in a run whose first number is this.
     pub find: fn(u64, &[Given]) -> Vec<Stretch>,
     /// Is a call inside a stretch for n struck from it?
@@ -59,6 +60,7 @@ pub const PLAIN: Kind = Kind {
     with_reply: "dropped stretch, load and reply inside",
     with_eviction: "dropped stretch, load and eviction inside",
     with_forwarded: "dropped stretch, forwarded load inside",
+    with_preview: "dropped stretch, load and preview inside",
     find: plain_stretches,
     struck: struck_from_plain,
 };
@@ -70,6 +72,7 @@ pub const MARK: Kind = Kind {
     with_reply: "mark stretch, load and reply inside",
     with_eviction: "mark stretch, load and eviction inside",
     with_forwarded: "mark stretch, forwarded load inside",
+    with_preview: "mark stretch, load and preview inside",
     find: mark_stretches,
     struck: struck_from_mark,
 };

@@ -11,6 +11,8 @@ pub const WORDS: usize = LINE / WORD;
 pub const ALL_DIRTY: u8 = (1 << WORDS) - 1;
 /// Places of the tag table.
 pub const RECORDS: usize = 256;
+/// Ways of a set, at most.
+pub const WAYS: usize = 4;
 /// Places of the store queue.
 pub const STORES: usize = 16;
 /// Places of the load queue.
@@ -168,7 +170,7 @@ pub struct Snapshot<'a> {
     pub memory: &'a [u8],
 }
 
-/// The twelve calls with their arguments.
+/// The thirteen calls with their arguments.
 #[derive(Clone, Copy, Debug, PartialEq, Eq)]
 pub enum Call {
     Start {
@@ -207,6 +209,8 @@ pub enum Call {
     Restore {
         name: u32,
     },
+    /// Tells what a reply would do.
+    Preview,
 }
 
 /// A part of the lent cache. The empty part is place 0, length 0.
@@ -214,6 +218,19 @@ pub enum Call {
 pub struct Part {
     pub place: usize,
     pub length: usize,
+}
+
+/// What a reply would do.
+#[derive(Clone, Copy, Debug, Default, PartialEq, Eq)]
+pub struct Preview {
+    /// The way of its set that the requested line would be in, counted from 0.
+    pub way: u32,
+    /// The number of the line evicted; none where the way is invalid.
+    pub evicted: Option<u32>,
+    /// The words of that line to be written back: bit q is that of word q.
+    pub words: u8,
+    /// The ages of the set after the reply, by way. Those of ways that it has not are zero.
+    pub ages: [u32; WAYS],
 }
 
 /// What a call answers.
@@ -246,6 +263,7 @@ pub enum Answer {
     Shown(Part),
     /// The next operation number, which the mark remembers.
     Checkpointed(u32),
+    Previewed(Preview),
     /// The number of the refusal.
     Refused(u32),
 }

@@ -44,7 +44,7 @@ fn rich() -> Judged {
 }
 
 /// One call of each kind but the start, all with arguments that would pass.
-fn calls() -> [Call; 11] {
+fn calls() -> [Call; 12] {
     [
         Call::Load { address: 0, width: 1 },
         Call::Store { address: 0, width: 1, value: 1 },
@@ -57,6 +57,7 @@ fn calls() -> [Call; 11] {
         Call::ShowLine { address: 0 },
         Call::Checkpoint { name: 1 },
         Call::Restore { name: 5 },
+        Call::Preview,
     ]
 }
 
@@ -405,6 +406,8 @@ fn states_of_faults() {
     let [mut fifth_mark, mut clean_word] = [rich(), rich()];
     fifth_mark.state.tags[0].dirty |= 16;
     clean_word.cache[15] ^= 1;
+    let mut unrequested = clean_word.clone();
+    unrequested.state.request = Request::Free;
     let forwarded = |place: usize| {
         let mut judged = rich();
         judged.state.loads[place].forwarded = true;
@@ -427,7 +430,7 @@ fn states_of_faults() {
     let ranks = marks(|marks| marks[2].rank = 4);
     let states = [
         (Fault::TakesFifthMark, "four dirty marks", fifth_mark),
-        (Fault::TakesCleanWord, "clean words equal memory", clean_word),
+        (Fault::TakesCleanWord, "clean words equal memory", clean_word.clone()),
         (Fault::TakesWaitingForwarded, "waiting loads not forwarded", forwarded(1)),
         (Fault::TakesFreeForwarded, "free places zero", forwarded(3)),
         (Fault::ThroughTakesDirty, "none dirty in write-through", dirty),
@@ -440,11 +443,13 @@ fn states_of_faults() {
         (Fault::TakesCheckpointAhead, "checkpoints up to last + 1", high),
         (Fault::TakesFallingCheckpoints, "checkpoints never fall", falling),
         (Fault::TakesOtherRanks, "checkpoint ranks in order", ranks),
+        (Fault::PreviewFreeBeforeFormed, "clean words equal memory", unrequested),
+        (Fault::PreviewTakesIllFormed, "clean words equal memory", clean_word),
     ];
     assert_eq!(states.iter().map(|(fault, ..)| *fault).collect::<Vec<_>>(), OF_STATES);
     for (fault, name, judged) in states {
-        assert_eq!(check_call(Right::step, &judged, Call::Idle), Ok(()));
-        assert!(check_call(fault.step(), &judged, Call::Idle).is_err(), "{fault:?}");
+        assert_eq!(check_call(Right::step, &judged, telling(fault)), Ok(()));
+        assert!(check_call(fault.step(), &judged, telling(fault)).is_err(), "{fault:?}");
         breaks(&[name], judged);
     }
 }
@@ -668,6 +673,7 @@ fn odd_call(rng: &mut Rng) -> Call {
         Call::ShowLine { address },
         Call::Checkpoint { name },
         Call::Restore { name },
+        Call::Preview,
     ])
 }
 
@@ -687,7 +693,7 @@ const NEEDED: [(&str, u64); 3] = [("accepted", 15), ("refused 1", 15), ("refused
 
 /// The states that it must meet besides, out of as many: those that are well formed to
 /// each of the faults of states.
-const STATES: [(Fault, &str, u64); 14] = [
+const STATES: [(Fault, &str, u64); 16] = [
     (Fault::TakesFifthMark, "a fifth dirty mark", 150),
     (Fault::TakesCleanWord, "a clean word that differs, beside a dirty one", 100),
     (Fault::TakesWaitingForwarded, "a forwarded load that waits", 150),
@@ -702,7 +708,17 @@ const STATES: [(Fault, &str, u64); 14] = [
     (Fault::TakesCheckpointAhead, "a mark above last + 1", 150),
     (Fault::TakesFallingCheckpoints, "marks that fall", 150),
     (Fault::TakesOtherRanks, "marks with other ranks", 150),
+    (Fault::PreviewFreeBeforeFormed, "an ill-formed state with a free register", 5),
+    (Fault::PreviewTakesIllFormed, "an ill-formed state with a line requested", 15),
 ];
+
+/// The call by which a fault of states is told.
+fn telling(fault: Fault) -> Call {
+    match fault {
+        Fault::PreviewFreeBeforeFormed | Fault::PreviewTakesIllFormed => Call::Preview,
+        _ => Call::Idle,
+    }
+}
 
 /// Counts what a damage led to.
 fn count(counts: &mut Counts, judged: &Judged) {
@@ -710,7 +726,7 @@ fn count(counts: &mut Counts, judged: &Judged) {
     counts.runs += 1;
     counts.met(refusal.map_or("accepted", refused), true);
     for (fault, name, _) in STATES {
-        counts.met(name, check_call(fault.step(), judged, Call::Idle).is_err());
+        counts.met(name, check_call(fault.step(), judged, telling(fault)).is_err());
     }
 }
 

@@ -3,7 +3,7 @@
 //! faults of states.
 
 use compare::examine::{examine, Checks};
-use compare::fault::{Fault, ALL, OF_STATES};
+use compare::fault::{Fault, ALL, OF_STATES, PREVIEWS};
 use compare::random;
 use compare::types::Step;
 
@@ -13,6 +13,7 @@ const BOUND: u64 = 200;
 const RULES: Checks = Checks { rules: true, ..Checks::NONE };
 const FLAT: Checks = Checks { flat: true, ..Checks::NONE };
 const FORWARDED: Checks = Checks { forwarded: true, ..Checks::NONE };
+const PREVIEWED: Checks = Checks { previews: true, ..Checks::NONE };
 const DROPPED: Checks = Checks { dropped: true, ..Checks::NONE };
 
 /// The first seed at which the checks notice something, and what.
@@ -108,6 +109,7 @@ fn demand_3_alone_notices() {
         Fault::AbortForgetsForwarded,
         Fault::AbortLeavesForwarded,
         Fault::ForwardedOutlives,
+        Fault::PreviewUsesListed,
     ];
     assert_eq!(missed(DROPPED, &faults), []);
 }
@@ -147,4 +149,19 @@ fn forwarded_loads_alone_notice() {
         Fault::ThroughNeverForwarded,
     ];
     assert_eq!(missed(FORWARDED, &faults), []);
+}
+
+/// What the reply on a copy alone tells: every fault of previews but those of states, and
+/// those of replies that do otherwise than is told.
+#[test]
+fn previews_alone_notice() {
+    assert_eq!(missed(PREVIEWED, &PREVIEWS), OF_STATES[OF_STATES.len() - 2..]);
+    let faults = [
+        Fault::ReplyRefuses,
+        Fault::EvictWithoutWriteBack,
+        Fault::EvictMissesWord,
+        Fault::FillWithoutUse,
+        Fault::AnswersAlike,
+    ];
+    assert_eq!(missed(PREVIEWED, &faults), []);
 }

@@ -327,6 +327,7 @@ fn other_calls_keep_the_mark() {
         Call::Commit { number: 3 },
         Call::Idle,
         Call::Retry { number: 3 },
+        Call::Preview,
         Call::Reply,
         Call::Retry { number: 3 },
         Call::Commit { number: 4 },

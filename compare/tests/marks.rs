@@ -228,7 +228,8 @@ fn other_calls_keep_marks() {
         judged.checkpoint(2);
         let expected = marks(&judged);
         judged.commit(2);
-        for call in [Call::Idle, Call::Reply, Call::Retry { number: 1 }, Call::Idle, Call::Idle] {
+        let retry = Call::Retry { number: 1 };
+        for call in [Call::Idle, Call::Preview, Call::Reply, retry, Call::Idle, Call::Idle] {
             assert!(judged.call(call).accepted(), "{call:?}");
         }
         while judged.call(Call::Idle) != Answer::Idle {

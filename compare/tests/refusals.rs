@@ -188,6 +188,19 @@ fn idle_reply_and_flush_refusals_in_order() {
     }
 }
 
+/// A preview is refused as a reply is.
+#[test]
+fn preview_refusals_in_order() {
+    for bad in subsets(&[1, 10]) {
+        for (free, mut judged) in [(false, busy()), (true, Judged::new(1, 1, 32))] {
+            spoil(&mut judged, &bad);
+            let with: Vec<u32> = bad.iter().copied().chain(free.then_some(17)).collect();
+            expect(judged.clone(), Call::Preview, &with);
+            expect(judged, Call::Reply, &with);
+        }
+    }
+}
+
 #[test]
 fn show_line_names_no_refusal() {
     let mut judged = Judged::new(2, 2, 64);

@@ -152,7 +152,8 @@ fn struck_calls() {
     for call in [LOAD, BAD_LOAD, retry(3), retry(4), abort(3), abort(9)] {
         assert!((stretch::PLAIN.struck)(call, 3), "{call:?}");
     }
-    for call in [retry(2), abort(2), commit, show, Call::Idle, Call::Reply, Call::Flush] {
+    let [idle, reply, flush, preview] = [Call::Idle, Call::Reply, Call::Flush, Call::Preview];
+    for call in [retry(2), abort(2), commit, show, idle, reply, flush, preview] {
         assert!(!(stretch::PLAIN.struck)(call, 3), "{call:?}");
         assert!(!(stretch::MARK.struck)(call, 3), "{call:?}");
     }

@@ -145,7 +145,9 @@ fn any_bytes_give_one_answer_a_line() {
 /// An answer as an output line.
 fn text_of(answer: Answer) -> String {
     match answer {
-        Answer::Ready | Answer::Shown(_) => unreachable!("no such line in these scripts"),
+        Answer::Ready | Answer::Shown(_) | Answer::Previewed(_) => {
+            unreachable!("no such line in these scripts")
+        }
         Answer::Value { number, value } => format!("value {number} {value}"),
         Answer::WaitsRequested(number) => format!("waits-requested {number}"),
         Answer::Requested(address) => format!("request {address}"),

@@ -97,5 +97,6 @@ fn stored_examples_notice_faults() {
         examples.iter().all(|example| stored::check(&player, example).is_ok())
     };
     let missed: Vec<Fault> = fault::ALL.iter().copied().filter(missed).collect();
-    assert_eq!(missed, [&UNSEEN[..], &fault::THROUGH, &fault::CHECKPOINTS].concat());
+    let no_script = [&fault::THROUGH[..], &fault::CHECKPOINTS, &fault::PREVIEWS].concat();
+    assert_eq!(missed, [&UNSEEN[..], &no_script].concat());
 }

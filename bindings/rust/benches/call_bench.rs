@@ -193,7 +193,7 @@ struct Case {
     call: Call,
 }
 
-/// The twelve calls, each on a state in which it does its work, a drain under each write
+/// The thirteen calls, each on a state in which it does its work, a drain under each write
 /// policy, and a refused one.
 fn cases(setup: Setup) -> Vec<Case> {
     let figures = setup.figures;
@@ -211,8 +211,11 @@ fn cases(setup: Setup) -> Vec<Case> {
         way
     };
     let through = figures.with_policy(WritePolicy::WriteThrough);
-    let mut requested = filled();
-    requested.request(absent);
+    let requested = || {
+        let mut way = filled();
+        way.request(absent);
+        way.busy()
+    };
     let mut marked = filled();
     marked.push(Call::Checkpoint { name: 1 });
     let restore = Call::Restore { name: 1 };
@@ -230,7 +233,8 @@ fn cases(setup: Setup) -> Vec<Case> {
         Case { name: "restore: six entries dropped", way: marked.busy(), call: restore },
         Case { name: "idle: a store drained", way: committed(figures), call: Call::Idle },
         Case { name: "idle: .. in write-through", way: committed(through), call: Call::Idle },
-        Case { name: "reply: a dirty line evicted", way: requested.busy(), call: Call::Reply },
+        Case { name: "preview: a dirty line evicted", way: requested(), call: Call::Preview },
+        Case { name: "reply: a dirty line evicted", way: requested(), call: Call::Reply },
         busy("flush: half of the lines dirty", |_| Call::Flush),
         busy("show line", |_| Call::ShowLine { address: 20 }),
         busy(REFUSED, |_| Call::Load { address: 0, width: 3 }),

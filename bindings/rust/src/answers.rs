@@ -3,6 +3,7 @@
 use std::fmt;
 
 use crate::boundary::{self, AnswerImage};
+use crate::image::MAX_WAYS;
 
 /// Why a call was refused, with the scope paper's number. A refused call has
 /// changed nothing.
@@ -38,7 +39,7 @@ pub enum Refusal {
     Commit = 15,
     /// Abort: the number is at most the committed one, or above last + 1.
     Abort = 16,
-    /// Reply: the miss register is free.
+    /// Reply or preview: the miss register is free.
     NoRequest = 17,
     /// Flush: a committed store is held.
     Flush = 18,
@@ -104,7 +105,7 @@ impl Refusal {
             Refusal::Retry => "inquiry: no waiting load of that number",
             Refusal::Commit => "commit: k is below h or above last",
             Refusal::Abort => "abort: n is at most h or above last + 1",
-            Refusal::NoRequest => "reply: register free",
+            Refusal::NoRequest => "reply or preview: register free",
             Refusal::Flush => "flush: a committed store is held",
             Refusal::Name => "name outside 1 to 8",
             Refusal::NameInUse => "set: name in use",
@@ -121,6 +122,21 @@ impl fmt::Display for Refusal {
 }
 
 impl std::error::Error for Refusal {}
+
+/// What a preview tells: all that a reply would do.
+#[derive(Clone, Copy, Debug, Default, PartialEq, Eq, Hash)]
+pub struct Preview {
+    /// The way of its set that the requested line will take, from 0.
+    pub way: u32,
+    /// The number of the line that is evicted, its first address divided by 16; none
+    /// where the way is invalid.
+    pub evicted: Option<u32>,
+    /// Which of its words are written to memory, 0 to 15: that of word n is `1 << n`, as
+    /// in [`Tag::dirty`](crate::Tag::dirty). None in write-through.
+    pub words: u8,
+    /// The ages of the set after the reply, by way; 0 for ways that the set has not.
+    pub ages: [u32; MAX_WAYS as usize],
+}
 
 /// What an accepted call answers.
 #[derive(Clone, Copy, Debug, PartialEq, Eq, Hash)]
@@ -163,6 +179,8 @@ pub enum Answer {
     Ready,
     /// The operation number that the mark remembers.
     Checkpointed(u32),
+    /// What a reply would do.
+    Previewed(Preview),
 }
 
 impl Answer {
@@ -177,7 +195,7 @@ impl Answer {
 
 /// What an answer of the library stands for.
 pub(crate) fn told(answer: AnswerImage) -> Result<Answer, Refusal> {
-    let AnswerImage { kind, first, second } = answer;
+    let AnswerImage { kind, first, second, .. } = answer;
     Ok(match kind {
         boundary::KIND_REFUSED => return Err(refusal_of(first)),
         boundary::KIND_STORED => Answer::Stored(first),
@@ -194,10 +212,18 @@ pub(crate) fn told(answer: AnswerImage) -> Result<Answer, Refusal> {
         boundary::KIND_READY => Answer::Ready,
         boundary::KIND_CHECKPOINTED => Answer::Checkpointed(first),
         boundary::KIND_WAITS_REQUESTED => Answer::WaitsRequested(first),
+        boundary::KIND_PREVIEWED => Answer::Previewed(preview_of(answer)),
         // "No such call" and "ran" among them: this crate makes only calls that there are,
         // starts only in profiles that there are, and a batch is no call.
         _ => panic!("the library answers no call of this crate by kind {kind}"),
     })
+}
+
+/// The parts of a preview. Byte w of its last number is the age of way w.
+fn preview_of(answer: AnswerImage) -> Preview {
+    let AnswerImage { first: way, second: evicts, third: line, fourth: words, fifth, .. } = answer;
+    let ages = fifth.to_le_bytes().map(u32::from);
+    Preview { way, evicted: (evicts != 0).then_some(line), words: words as u8, ages }
 }
 
 /// The refusal of a number that the library gave.

@@ -32,9 +32,8 @@ impl Batch {
 
     /// The answers of the last run, in the order of the calls; none before a run.
     pub fn answers(&self) -> impl ExactSizeIterator<Item = Result<Answer, Refusal>> + '_ {
-        self.answers.chunks_exact(ANSWER_STRIDE).map(|numbers| {
-            told(AnswerImage { kind: numbers[0], first: numbers[1], second: numbers[2] })
-        })
+        let answers = self.answers.chunks_exact(ANSWER_STRIDE);
+        answers.map(|numbers| told(AnswerImage::listed(numbers)))
     }
 
     /// Makes the calls.

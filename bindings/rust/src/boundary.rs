@@ -22,6 +22,7 @@ pub const KIND_SHOWN: u32 = 11;
 pub const KIND_READY: u32 = 12;
 pub const KIND_CHECKPOINTED: u32 = 13;
 pub const KIND_WAITS_REQUESTED: u32 = 14;
+pub const KIND_PREVIEWED: u32 = 15;
 pub const KIND_RAN: u32 = 254;
 
 // Calls by their numbers.
@@ -36,6 +37,7 @@ pub const CALL_FLUSH: u32 = 7;
 pub const CALL_SHOW_LINE: u32 = 8;
 pub const CALL_CHECKPOINT: u32 = 9;
 pub const CALL_RESTORE: u32 = 10;
+pub const CALL_PREVIEW: u32 = 11;
 
 // Profiles by their numbers.
 pub const PROFILE_WRITE_BACK: u32 = 0;
@@ -45,20 +47,36 @@ pub const PROFILE_WRITE_THROUGH: u32 = 1;
 pub const CALL_STRIDE: usize = 6;
 pub const ANSWER_STRIDE: usize = 6;
 
-/// An answer, as the library lays it out.
+/// An answer, as the library lays it out: its kind, and the numbers that the kind has;
+/// the others are 0.
 #[derive(Clone, Copy, Debug)]
 #[repr(C)]
 pub struct AnswerImage {
     pub kind: u32,
     pub first: u32,
     pub second: u32,
+    pub third: u32,
+    pub fourth: u32,
+    pub fifth: u32,
 }
 
 const _: () = {
-    assert!(size_of::<AnswerImage>() == 12 && align_of::<AnswerImage>() == 4);
-    assert!(offset_of!(AnswerImage, kind) == 0);
+    assert!(size_of::<AnswerImage>() == 4 * ANSWER_STRIDE && align_of::<AnswerImage>() == 4);
+    assert!(size_of::<AnswerImage>() == 24 && offset_of!(AnswerImage, kind) == 0);
     assert!(offset_of!(AnswerImage, first) == 4 && offset_of!(AnswerImage, second) == 8);
+    assert!(offset_of!(AnswerImage, third) == 12 && offset_of!(AnswerImage, fourth) == 16);
+    assert!(offset_of!(AnswerImage, fifth) == 20);
 };
+
+impl AnswerImage {
+    /// The answer whose numbers stand in the list of a batch.
+    pub fn listed(numbers: &[u32]) -> AnswerImage {
+        let &[kind, first, second, third, fourth, fifth] = numbers else {
+            panic!("an answer has {ANSWER_STRIDE} numbers, not {}", numbers.len());
+        };
+        AnswerImage { kind, first, second, third, fourth, fifth }
+    }
+}
 
 /// What a ways study gives, as the library lays it out.
 #[derive(Clone, Copy, Debug)]
@@ -76,8 +94,10 @@ const _: () = {
     assert!(offset_of!(StudyResult, hits) == 4 && offset_of!(StudyResult, rates) == 20);
 };
 
+// The names have the length of an answer, and that of the start the length of an image
+// too: for other lengths there are no such functions to link with.
 extern "C" {
-    fn nicoisetarn_start_2048_in(
+    fn nicoisetarn_start_2048_24_in(
         image: *mut Image,
         sets: u32,
         ways: u32,
@@ -88,7 +108,7 @@ extern "C" {
         memory_length: usize,
     ) -> AnswerImage;
 
-    fn nicoisetarn_step_in(
+    fn nicoisetarn_step_24_in(
         image: *mut Image,
         call: u32,
         x: u32,
@@ -100,7 +120,7 @@ extern "C" {
         memory_length: usize,
     ) -> AnswerImage;
 
-    fn nicoisetarn_run_in(
+    fn nicoisetarn_run_24_in(
         image: *mut Image,
         calls: *const u32,
         calls_length: usize,
@@ -112,7 +132,7 @@ extern "C" {
         memory_length: usize,
     ) -> AnswerImage;
 
-    fn nicoisetarn_show_line_in(
+    fn nicoisetarn_show_line_24_in(
         image: *const Image,
         address: u32,
         cache: *const u8,
@@ -139,7 +159,7 @@ pub fn start(image: &mut Image, figures: Figures, cache: &mut [u8], memory: &[u8
     // two of them are exclusive; each slice goes with its own length; the library
     // reads the memory only and keeps no pointer; any bytes are an image.
     unsafe {
-        nicoisetarn_start_2048_in(
+        nicoisetarn_start_2048_24_in(
             image,
             sets,
             ways,
@@ -166,7 +186,9 @@ pub fn step(
     // SAFETY: the three references are live, not null and exclusive, so they do
     // not overlap; each slice goes with its own length; the library keeps no
     // pointer; any bytes are an image, and it writes whole images only.
-    unsafe { nicoisetarn_step_in(image, call, x, y, z, cache, cache_length, memory, memory_length) }
+    unsafe {
+        nicoisetarn_step_24_in(image, call, x, y, z, cache, cache_length, memory, memory_length)
+    }
 }
 
 /// A batch on an image: its calls and its answers in numbers.
@@ -186,7 +208,7 @@ pub fn run(
     // length; the library only reads the calls and keeps no pointer; any bytes are an
     // image, and it writes whole images only.
     unsafe {
-        nicoisetarn_run_in(
+        nicoisetarn_run_24_in(
             image,
             calls,
             calls_length,
@@ -207,7 +229,9 @@ pub fn show_line(image: &Image, address: u32, cache: &[u8], memory: &[u8]) -> An
     // SAFETY: the three references are live and not null, and each slice goes with
     // its own length; the library only reads them and keeps no pointer; any bytes
     // are an image.
-    unsafe { nicoisetarn_show_line_in(image, address, cache, cache_length, memory, memory_length) }
+    unsafe {
+        nicoisetarn_show_line_24_in(image, address, cache, cache_length, memory, memory_length)
+    }
 }
 
 /// A ways study in a scratch.

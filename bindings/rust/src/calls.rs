@@ -30,6 +30,8 @@ pub enum Call {
     Checkpoint(u32),
     /// The name of the mark to return to.
     Restore(u32),
+    /// Tells what a reply would do, and changes nothing.
+    Preview,
 }
 
 impl Call {
@@ -47,6 +49,7 @@ impl Call {
             Call::ShowLine(address) => (boundary::CALL_SHOW_LINE, [address, 0, 0]),
             Call::Checkpoint(name) => (boundary::CALL_CHECKPOINT, [name, 0, 0]),
             Call::Restore(name) => (boundary::CALL_RESTORE, [name, 0, 0]),
+            Call::Preview => (boundary::CALL_PREVIEW, [0; 3]),
         }
     }
 }

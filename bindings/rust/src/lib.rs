@@ -73,6 +73,25 @@
 //! # Ok::<(), Refusal>(())
 //! ```
 //!
+//! A preview (02: preview of a reply) tells what a reply would do, and changes nothing: the
+//! way that the line will take, the line that is evicted, which of its words are written to
+//! memory, and the ages of the set after it.
+//!
+//! ```
+//! # use nicoisetarn::{Answer, Call, Figures, Preview, Refusal, Unit};
+//! # let mut unit = Unit::start(Figures::new(1, 2), vec![0; 48])?;
+//! // Word 1 of line 0 is dirty, line 1 is used last, and line 2 is requested.
+//! unit.run(&[Call::Store(5, 1, 7), Call::Commit(1), Call::Idle, Call::Reply, Call::Idle]);
+//! unit.run(&[Call::Load(16, 1), Call::Commit(2), Call::Idle, Call::Reply, Call::Retry(2)]);
+//! unit.run(&[Call::Load(32, 1), Call::Commit(3), Call::Idle]);
+//! let preview = Preview { way: 0, evicted: Some(0), words: 0b10, ages: [0, 1, 0, 0] };
+//! assert_eq!((unit.preview()?, unit.memory()[5]), (preview, 0));
+//! assert_eq!((unit.reply()?, unit.memory()[5]), (Answer::Filled(32), 7));
+//! assert_eq!(unit.image().tag(0).map(|tag| (tag.line, tag.age)), Some((2, 0)));
+//! assert_eq!(unit.preview(), Err(Refusal::NoRequest));
+//! # Ok::<(), Refusal>(())
+//! ```
+//!
 //! A checkpoint (02: a mark) has a name, 1 to 8, and remembers the next operation number.
 //! A restore (02: return to a mark) drops what was loaded and stored since.
 //!
@@ -145,7 +164,7 @@ mod image;
 mod study;
 mod unit;
 
-pub use answers::{Answer, Refusal};
+pub use answers::{Answer, Preview, Refusal};
 pub use batch::Batch;
 pub use calls::{Call, Part};
 pub use image::{

@@ -1,6 +1,6 @@
 //! The unit with all that it works on: its image, cache and memory.
 
-use crate::answers::{Answer, Refusal};
+use crate::answers::{Answer, Preview, Refusal};
 use crate::batch::Batch;
 use crate::calls::{Call, Part};
 use crate::image::{Figures, Image, MAX_SETS, MAX_WAYS};
@@ -171,6 +171,17 @@ impl Unit {
     /// Refused by 17: the miss register is free.
     pub fn reply(&mut self) -> Result<Answer, Refusal> {
         self.call(Call::Reply)
+    }
+
+    /// Preview (02: preview of a reply): what a reply would do, its four parts. Nothing
+    /// changes: image, cache and memory stay, and the request stands.
+    ///
+    /// Refused as a reply is, by 17: the miss register is free.
+    pub fn preview(&mut self) -> Result<Preview, Refusal> {
+        match self.call(Call::Preview)? {
+            Answer::Previewed(preview) => Ok(preview),
+            other => panic!("the library answers a preview by {other:?}"),
+        }
     }
 
     /// Writes every dirty word to memory and marks it clean: [`Answer::Flushed`]. Ages

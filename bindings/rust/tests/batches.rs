@@ -7,7 +7,7 @@
 mod beside;
 mod numbered;
 
-use beside::{in_each_profile, times, with_marks, Bench, Beside};
+use beside::{in_each_profile, times, with_marks, with_previews, Bench, Beside};
 use compare::random::{self, Mix, Rng, Run};
 use compare::types::{Answer, Setup};
 use nicoisetarn::{Answer as Ours, Batch, Call as Made, Figures, Image, Refusal, Unit};
@@ -60,7 +60,7 @@ fn long_runs_in_lists() {
     let mut rng = Rng::new(0x10_BA7C);
     for setup in in_each_profile(&setups.repeat(times() as usize)) {
         let run = random::script_run(&mut rng, setup, 6_500, Mix::Accepted);
-        let run = with_marks(run, &mut rng);
+        let run = with_previews(with_marks(run, &mut rng), &mut rng);
         if let Err(what) = check_run(&run, &mut rng, 1_000) {
             panic!("{setup:?}, {what}");
         }
@@ -166,7 +166,7 @@ fn line_shown_on_the_way() {
 /// Operands that a call does not take are not looked at.
 #[test]
 fn operands_not_taken_in_a_list() {
-    let taken = [2, 3, 1, 1, 1, 0, 0, 0, 1, 1, 1];
+    let taken = [2, 3, 1, 1, 1, 0, 0, 0, 1, 1, 1, 0];
     for (call, taken) in (0..).zip(taken) {
         let made = [0, u32::MAX].map(|not_taken| {
             let (mut image, mut cache, mut memory) = started().into_parts();

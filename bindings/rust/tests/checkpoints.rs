@@ -13,7 +13,7 @@ use compare::check::CLAUSES;
 use compare::counts::Counts;
 use compare::examine::{examine, Checks};
 use compare::random;
-use compare::types::{Answer as Told, Call, Part, Setup, WritePolicy};
+use compare::types::{Answer as Told, Call, Part, Preview, Setup, WritePolicy};
 use nicoisetarn::{Answer, Checkpoint, Figures, Image, Refusal, Unit, CHECKPOINTS};
 
 /// A start of one set of one way over two lines.
@@ -190,9 +190,9 @@ fn before_the_stretch(setup: Setup) -> Bench {
 
 /// A stretch from a mark to the return to it, each call with whether it remains when the
 /// stretch is struck. Inside: a second mark at the same number, a set and a return that are
-/// refused, a commit of older work, replies that evict, and a load that waits and, in
-/// write-back, is answered late.
-const STRETCH: [(Call, bool); 19] = [
+/// refused, a commit of older work, replies that evict, each behind its preview, and a load
+/// that waits and, in write-back, is answered late.
+const STRETCH: [(Call, bool); 21] = [
     (Call::Checkpoint { name: 1 }, false),
     (Call::Checkpoint { name: 2 }, false),
     (Call::Checkpoint { name: 1 }, false),
@@ -200,9 +200,11 @@ const STRETCH: [(Call, bool); 19] = [
     (Call::Load { address: 20, width: 1 }, false),
     (Call::Commit { number: 3 }, true),
     (Call::Idle, true),
+    (Call::Preview, true),
     (Call::Reply, true),
     (Call::Retry { number: 2 }, true),
     (Call::Idle, true),
+    (Call::Preview, true),
     (Call::Reply, true),
     (Call::Store { address: 4, width: 1, value: 1 }, false),
     (Call::Retry { number: 4 }, false),
@@ -214,8 +216,13 @@ const STRETCH: [(Call, bool); 19] = [
     (Call::ShowLine { address: 16 }, true),
 ];
 
+/// What a reply to the one way evicts, where the line is clean.
+const fn evicts(line: u32) -> Told {
+    Told::Previewed(Preview { way: 0, evicted: Some(line), words: 0, ages: [0; 4] })
+}
+
 /// What the stretch answers in write-back.
-const IN_WRITE_BACK: [Told; 19] = [
+const IN_WRITE_BACK: [Told; 21] = [
     Told::Checkpointed(4),
     Told::Checkpointed(4),
     Told::Refused(20),
@@ -223,9 +230,11 @@ const IN_WRITE_BACK: [Told; 19] = [
     Told::Waits(4),
     Told::Committed(3),
     Told::Requested(32),
+    evicts(0),
     Told::Filled(32),
     Told::Value { number: 2, value: 33 },
     Told::Requested(16),
+    evicts(2),
     Told::Filled(16),
     Told::Stored(5),
     Told::Value { number: 4, value: 21 },
@@ -274,6 +283,11 @@ fn runs_under_the_plain_rules() {
         ("mark stretch, second mark and refusals inside", 2_000),
         ("mark stretch, older work committed inside", 2_000),
         ("dropped stretch at a mark, load inside", 4_000),
+        ("preview", 100),
+        ("preview refused by 17", 500),
+        ("reply behind its preview", 500),
+        ("dropped stretch, load and preview inside", 1_000),
+        ("mark stretch, load and preview inside", 2_000),
         ("load waits, its line requested", 400),
         ("load waits, another line requested", 500),
         ("inquiry waits, its line requested", 400),
@@ -308,7 +322,7 @@ fn three_marks(setup: Setup) -> Bench {
 }
 
 /// A call of each kind, all of which `three_marks` takes.
-const CALLS: [Call; 11] = [
+const CALLS: [Call; 12] = [
     Call::ShowLine { address: 0 },
     Call::Load { address: 4, width: 1 },
     Call::Store { address: 0, width: 1, value: 9 },
@@ -320,6 +334,7 @@ const CALLS: [Call; 11] = [
     Call::Flush,
     Call::Checkpoint { name: 4 },
     Call::Restore { name: 3 },
+    Call::Preview,
 ];
 
 /// The bench with these checkpoints in place of its own.

@@ -253,8 +253,8 @@ fn play_none(bench: &Bench, rng: &mut Rng, counts: &mut Counts) -> Result<(), St
     Ok(())
 }
 
-/// Plays every call on a bench, each from the beginning; a refused one has left
-/// all as it was. Gives what an idle call answered, which has no operands.
+/// Plays every call on a bench, each from the beginning; a refused one, a show line and a
+/// preview have left all as it was. Gives what an idle call answered, which has no operands.
 fn play_each(bench: &Bench, rng: &mut Rng, counts: &mut Counts) -> Result<Answer, String> {
     let mut beside = Beside::new(bench);
     let mut idle = Answer::Idle;
@@ -265,7 +265,7 @@ fn play_each(bench: &Bench, rng: &mut Rng, counts: &mut Counts) -> Result<Answer
         if call == Call::Idle {
             idle = answer;
         }
-        if answer.accepted() && !matches!(call, Call::ShowLine { .. }) {
+        if answer.accepted() && !matches!(call, Call::ShowLine { .. } | Call::Preview) {
             beside.reset(bench);
         } else if beside.library != *bench {
             return Err(format!("{call:?}: {answer:?}, but it has changed something"));
@@ -330,9 +330,10 @@ fn count(counts: &mut Counts, call: Call, answer: Answer) {
     counts.met("accepted start", answer == Answer::Ready);
     let plain = !matches!(call, Call::Start { .. } | Call::ShowLine { .. });
     counts.met("other call accepted", plain && answer.accepted());
-    if answer.waits().is_some() {
+    if answer.waits().is_some() || matches!(answer, Answer::Previewed(_)) {
         counts.met(met::name(answer), true);
     }
+    counts.met("preview refused by 17", call == Call::Preview && answer == Answer::Refused(17));
     if let Answer::Refused(no) = answer {
         counts.met(refused(no), true);
     }
@@ -428,8 +429,10 @@ fn judge_fields(tallies: &[Tally]) {
 }
 
 /// What damaged fields must meet, out of so many calls.
-const NEEDED_OF_FIELDS: [(&str, u64); 40] = [
+const NEEDED_OF_FIELDS: [(&str, u64); 42] = [
     ("other call accepted", 40),
+    ("preview", 1_000),
+    ("preview refused by 17", 500),
     ("waits", 1_000),
     ("waits-requested", 8_000),
     ("accepted start", 100),
@@ -625,9 +628,9 @@ fn random_images() {
     let needed = [
         ("image that stands for no state", 40),
         ("no state, refused 1", 60),
-        ("no state, refused 10", 120),
+        ("no state, refused 10", 150),
         ("state, refused 1", 120),
-        ("state, refused 10", 60),
+        ("state, refused 10", 80),
         ("accepted start", 200),
         ("no such call", 20),
         ("no such profile", 20),

@@ -44,7 +44,7 @@ fn half_dirty() -> Bench {
 }
 
 /// A call of each kind, all of which `half_dirty` takes.
-const CALLS: [Call; 11] = [
+const CALLS: [Call; 12] = [
     Call::ShowLine { address: 0 },
     Call::Load { address: 4, width: 4 },
     Call::Store { address: 0, width: 1, value: 9 },
@@ -56,6 +56,7 @@ const CALLS: [Call; 11] = [
     Call::Flush,
     Call::Checkpoint { name: 8 },
     Call::Restore { name: 3 },
+    Call::Preview,
 ];
 
 /// Every call is accepted, the line is shown, and a flush writes the words marked: so many,

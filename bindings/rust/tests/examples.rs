@@ -1,6 +1,7 @@
 //! The scope paper's worked script by calls, every refusal, starts, loads that wait,
-//! write-through, dirty words, show line's part, and what an image tells. (`checkpoints`
-//! has those of marks, `waits` more of loads that wait.)
+//! write-through, dirty words, previews, show line's part, and what an image tells.
+//! (`checkpoints` has those of marks, `waits` more of loads that wait, `previews` more of
+//! previews.)
 
 mod beside;
 mod numbered;
@@ -8,8 +9,8 @@ mod numbered;
 use beside::layout::{self, LOADS_AT, TAGS_AT};
 use nicoisetarn::WritePolicy::{WriteBack, WriteThrough};
 use nicoisetarn::{
-    Answer, Call, Checkpoint, Figures, HeldStore, Image, ListedLoad, Part, Refusal, Tag, Unit,
-    MAX_MEMORY, MAX_SETS, MAX_WAYS, MIN_MEMORY,
+    Answer, Call, Checkpoint, Figures, HeldStore, Image, ListedLoad, Part, Preview, Refusal, Tag,
+    Unit, MAX_MEMORY, MAX_SETS, MAX_WAYS, MIN_MEMORY,
 };
 use numbered::{NO_CALLS, NO_PROFILES};
 
@@ -42,9 +43,9 @@ fn resized(unit: &Unit, cache_length: usize, memory_length: usize) -> Unit {
 }
 
 /// A call is refused so, and all stays as it was.
-fn refuses(unit: &Unit, refusal: Refusal, call: impl Fn(&mut Unit) -> Result<Answer, Refusal>) {
+fn refuses<A>(unit: &Unit, refusal: Refusal, call: impl Fn(&mut Unit) -> Result<A, Refusal>) {
     let mut after = unit.clone();
-    assert_eq!(call(&mut after), Err(refusal));
+    assert_eq!(call(&mut after).err(), Some(refusal));
     assert_eq!(after, *unit, "{refusal}");
 }
 
@@ -100,6 +101,7 @@ fn refusals_of_the_input() {
     for (cache, memory) in [(0, 48), (16, 48), (33, 48), (32, 0), (32, 32), (32, 49), (0, 0)] {
         let lent = resized(&unit, cache, memory);
         refuses(&lent, Refusal::Figures, |u| u.idle());
+        refuses(&lent, Refusal::Figures, |u| u.preview());
         assert_eq!(lent.show_line(0), Part { place: 0, bytes: &[] });
     }
 }
@@ -113,6 +115,7 @@ fn refusals_of_the_state() {
     refuses(&unit, Refusal::Abort, |u| u.abort(1));
     refuses(&unit, Refusal::Abort, |u| u.abort(5));
     refuses(&started(1, 1, 16), Refusal::NoRequest, |u| u.reply());
+    refuses(&started(1, 1, 16), Refusal::NoRequest, |u| u.preview());
     let mut committed = unit.clone();
     assert_eq!(committed.commit(2), Ok(Answer::Committed(2)));
     refuses(&committed, Refusal::Flush, |u| u.flush());
@@ -121,6 +124,7 @@ fn refusals_of_the_state() {
     refuses(&spent, Refusal::Numbers, |u| u.store(0, 1, 0));
     let ill = damaged(&unit, layout::COMMITTED, 4);
     refuses(&ill, Refusal::State, |u| u.idle());
+    refuses(&ill, Refusal::State, |u| u.preview());
     refuses(&damaged(&ill, layout::SETS, 3), Refusal::Figures, |u| u.idle());
 }
 
@@ -369,6 +373,31 @@ fn evictions_write_dirty_words() -> Result<(), Refusal> {
     Ok(())
 }
 
+/// A preview tells all that the reply will do, and leaves all as it was.
+#[test]
+fn previews_of_replies() -> Result<(), Refusal> {
+    let mut unit = busy();
+    let invalid = Preview { way: 0, evicted: None, words: 0, ages: [0, 1, 0, 0] };
+    assert_eq!((unit.preview()?, unit.clone()), (invalid, busy()));
+    let mut unit = started(1, 2, 48);
+    for address in [0, 16] {
+        fill(&mut unit, address)?;
+    }
+    drain(&mut unit, 21, 200)?;
+    // A load of line 0 is committed, and line 1 is the older one.
+    unit.run(&[Call::Load(0, 1), Call::Load(32, 1), Call::Commit(5), Call::Idle]);
+    let (asked, dirty) =
+        (unit.clone(), Preview { way: 1, evicted: Some(1), words: 0b10, ages: [1, 0, 0, 0] });
+    assert_eq!((unit.preview()?, &unit), (dirty, &asked));
+    let listed = unit.run(&[Call::Preview, Call::Reply, Call::Preview]);
+    let expected = [Ok(Answer::Previewed(dirty)), Ok(Answer::Filled(32)), Err(Refusal::NoRequest)];
+    assert_eq!(listed, expected);
+    let filled = Tag { valid: true, dirty: 0, line: 2, age: 0 };
+    assert_eq!(unit.image().tag(1), Some(filled));
+    assert_eq!((asked.memory()[21], unit.memory()[21]), (22, 200));
+    Ok(())
+}
+
 /// What a tag record tells of its words, marks above the fourth left out.
 #[test]
 fn words_of_tags() {
@@ -445,7 +474,7 @@ fn shown_part() {
 /// Operands that a call does not take are not looked at.
 #[test]
 fn operands_not_taken() {
-    let taken = [2, 3, 1, 1, 1, 0, 0, 0, 1, 1, 1];
+    let taken = [2, 3, 1, 1, 1, 0, 0, 0, 1, 1, 1, 0];
     for (call, taken) in (0..).zip(taken) {
         let made = [0, u32::MAX].map(|not_taken| {
             let (mut image, mut cache, mut memory) = busy().into_parts();
@@ -502,5 +531,6 @@ fn refusals_have_their_numbers() {
         assert_eq!(Refusal::of_number(refusal.number()), Some(refusal));
     }
     assert_eq!([6, 7, 23].map(Refusal::of_number), [None; 3]);
+    assert_eq!(Refusal::NoRequest.to_string(), "refused 17: reply or preview: register free");
     assert_eq!(Refusal::Flush.to_string(), "refused 18: flush: a committed store is held");
 }

@@ -110,8 +110,9 @@ fn what_a_commit_uses() {
     }
 }
 
-/// A call of each kind; as found the reply alone is refused, since nothing is requested.
-const EACH: [Call; 11] = [
+/// A call of each kind; as found reply and preview alone are refused, since nothing is
+/// requested.
+const EACH: [Call; 12] = [
     Call::ShowLine { address: 0 },
     load(4, 4),
     Call::Store { address: 0, width: 1, value: 9 },
@@ -123,6 +124,7 @@ const EACH: [Call; 11] = [
     Call::Flush,
     Call::Checkpoint { name: 8 },
     Call::Restore { name: 1 },
+    Call::Preview,
 ];
 
 /// Flags of one bit, none, and several.
@@ -145,8 +147,8 @@ fn any_flag_in_any_place() {
                 (0, _) | (1, 0 | 1 | 3) => assert_eq!(answers(&bench, &EACH), as_found, "{what}"),
                 (1, _) => all_refused(&bench, &EACH, &what),
                 _ => {
-                    assert_eq!(answers(&bench, &EACH[1..]), [Refused(10); 10], "{what}");
-                    assert_eq!(bench.clone().run(&EACH[1..]), [Refused(10); 10], "{what}");
+                    assert_eq!(answers(&bench, &EACH[1..]), [Refused(10); 11], "{what}");
+                    assert_eq!(bench.clone().run(&EACH[1..]), [Refused(10); 11], "{what}");
                 }
             }
         }

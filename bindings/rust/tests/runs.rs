@@ -6,7 +6,8 @@
 
 mod beside;
 
-use beside::{in_each_profile, in_force, judge, tags, times, with_marks, Bench, Beside};
+use beside::{in_each_profile, in_force, judge, tags, times, with_marks, with_previews};
+use beside::{Bench, Beside};
 use compare::counts::{Counts, Needed};
 use compare::met;
 use compare::random::{self, Mix, Rng, Run};
@@ -34,6 +35,7 @@ fn play(run: &Run, counts: &mut ByProfile) -> Result<(), String> {
         count_writes(counts, answer, &before, &beside.library.image);
         count_marks(counts, call, answer, [&before, &beside.library.image]);
         count_forwarded(counts, call, &before, &beside.library.image);
+        count_previews(counts, call, answer, place > 0 && run.calls[place - 1] == Call::Preview);
     }
     Ok(())
 }
@@ -125,6 +127,22 @@ fn count_forwarded(counts: &mut Counts, call: Call, before: &Image, after: &Imag
     }
 }
 
+/// Counts what a preview told, and a reply that comes behind its preview.
+fn count_previews(counts: &mut Counts, call: Call, answer: Answer, behind_preview: bool) {
+    let refused = call == Call::Preview && answer == Answer::Refused(17);
+    counts.met("preview refused by 17", refused);
+    match answer {
+        Answer::Previewed(preview) => {
+            counts.met("preview of an invalid way", preview.evicted.is_none());
+            counts.met("preview of an eviction", preview.evicted.is_some());
+            counts.met("preview of one dirty word", preview.words.count_ones() == 1);
+            counts.met("preview of several dirty words", preview.words.count_ones() > 1);
+        }
+        Answer::Filled(_) => counts.met("reply behind its preview", behind_preview),
+        _ => {}
+    }
+}
+
 /// What is dirty in an image, as its accessors tell it.
 fn dirty_of(image: &Image) -> Dirty {
     let words: Vec<u32> = tags(image).map(|(_, tag)| tag.dirty_words()).collect();
@@ -137,7 +155,7 @@ fn dirty_of(image: &Image) -> Dirty {
 }
 
 /// What both kinds of runs must meet in each write profile, out of so many calls.
-const NEEDED: [(&str, u64); 26] = [
+const NEEDED: [(&str, u64); 31] = [
     ("accepted call", 2),
     ("stored", 20),
     ("value", 20),
@@ -161,6 +179,11 @@ const NEEDED: [(&str, u64); 26] = [
     ("return that keeps a mark", 1_000),
     ("commit that forgets a mark", 1_000),
     ("abort that forgets a mark", 2_000),
+    ("preview", 100),
+    ("preview of an invalid way", 1_000),
+    ("preview of an eviction", 200),
+    ("preview refused by 17", 100),
+    ("reply behind its preview", 200),
     ("load forwarded", 100),
     ("forwarded load committed, its line present", 500),
     ("forwarded load committed, its stores drained", 2_000),
@@ -176,6 +199,8 @@ const PROFILES: [(&str, &Needed, &[&str]); 2] = [
             ("eviction of a dirty line", 200),
             ("eviction of one dirty word", 500),
             ("eviction of two or three dirty words", 2_000),
+            ("preview of one dirty word", 1_000),
+            ("preview of several dirty words", 2_000),
             ("drain to a dirty word", 200),
             ("drain to a clean word of a dirty line", 200),
             ("drain that leaves a line dirty whole", 3_000),
@@ -192,6 +217,8 @@ const PROFILES: [(&str, &Needed, &[&str]); 2] = [
             "eviction of a dirty line",
             "flush of a dirty line",
             "drain to a dirty word",
+            "preview of one dirty word",
+            "preview of several dirty words",
         ],
     ),
 ];
@@ -210,7 +237,7 @@ fn judge_each(what: &str, counts: &ByProfile, needed: &Needed) {
 
 /// What short runs must meet besides.
 const NEEDED_OF_SHORT: [(&str, u64); 19] = [
-    ("line shown", 250),
+    ("line shown", 400),
     ("refused 2", 5_000),
     ("refused 3", 5_000),
     ("refused 4", 5_000),
@@ -260,7 +287,7 @@ fn long_runs() {
         let mut rng = Rng::new(turn ^ 0x1046_0000);
         for setup in in_each_profile(&SETUPS) {
             let run = random::script_run(&mut rng, setup, 20_000, Mix::Accepted);
-            let run = with_marks(run, &mut rng);
+            let run = with_previews(with_marks(run, &mut rng), &mut rng);
             if let Err(what) = play(&run, &mut counts) {
                 panic!("turn {turn}, {setup:?}, {what}");
             }

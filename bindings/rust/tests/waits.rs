@@ -5,11 +5,13 @@
 
 mod beside;
 mod numbered;
+mod told;
 
 use beside::refused::{all_refused, answers};
 use beside::{in_each_profile, layout, played, stands, with_word, Bench};
 use compare::types::{Answer, Call, Setup, WritePolicy};
 use nicoisetarn::LINE;
+use told::{tells, Told};
 use Answer::{Committed, Drained, Filled, Kept, Refused, Requested, Stored};
 use Answer::{Value, Waits, WaitsRequested};
 
@@ -28,9 +30,6 @@ const fn retry(number: u32) -> Call {
 const fn commit(number: u32) -> Call {
     Call::Commit { number }
 }
-
-/// A call with its answer.
-type Told = (Call, Answer);
 
 /// Four sets of two ways over 16 lines.
 const SETUP: Setup = Setup::new(4, 2, 256);
@@ -95,26 +94,6 @@ const FOR_NO_STORE: [Told; 8] = [
     (load(16, 2), Waits(3)),
     (load(0, 1), Waits(4)),
 ];
-
-/// Calls from a start, one by one and in a list, by the crate and by numbers.
-fn tells(setup: Setup, told: &[Told]) {
-    let (calls, expected): (Vec<Call>, Vec<Answer>) = told.iter().copied().unzip();
-    let start = Bench::start(setup);
-    let (seen, left) = played(&start, &calls);
-    assert_eq!(seen, expected, "{setup:?}");
-    let listed: Vec<_> = calls.iter().filter_map(|call| numbered::call_of(*call)).collect();
-    let expected: Vec<_> = expected.into_iter().map(numbered::answer_of).collect();
-    let Bench { mut image, mut cache, mut memory } = start.clone();
-    for ([call, x, y, z, ..], expected) in listed.iter().zip(&expected) {
-        let seen = numbered::step(&mut image, &mut cache, &mut memory, *call, [*x, *y, *z]);
-        assert_eq!([seen.kind, seen.first, seen.second], expected[..3], "{setup:?}");
-    }
-    assert!(Bench { image, cache, memory } == left, "{setup:?}: not as by calls");
-    let Bench { mut image, mut cache, mut memory } = start;
-    let seen = numbered::run_list(&mut image, &mut cache, &mut memory, &listed);
-    assert_eq!(seen, expected, "{setup:?}");
-    assert!(Bench { image, cache, memory } == left, "{setup:?}: not as by calls");
-}
 
 #[test]
 fn requested_for_a_load() {
@@ -193,10 +172,7 @@ const OF_LOADS: [u32; 4] = [2, 3, 6, 0];
 const OF_STORE: u32 = 9;
 
 fn many_waiting(setup: Setup) -> Bench {
-    let calls = MANY.map(|(call, _)| call);
-    let (answers, bench) = played(&Bench::start(setup), &calls);
-    assert_eq!(answers, MANY.map(|(_, answer)| answer));
-    bench
+    tells(setup, &MANY)
 }
 
 /// The bench with other numbers in its register: whether it is free, and its line.
@@ -244,8 +220,15 @@ fn tells_by_line(bench: &Bench, requested: Option<u32>, what: &str) {
 }
 
 /// Calls that are refused with the image.
-const CALLS: [Call; 6] =
-    [load(32, 1), load(36, 1), retry(4), retry(9), Call::Idle, Call::ShowLine { address: 80 }];
+const CALLS: [Call; 7] = [
+    load(32, 1),
+    load(36, 1),
+    retry(4),
+    retry(9),
+    Call::Idle,
+    Call::Preview,
+    Call::ShowLine { address: 80 },
+];
 
 /// Taken are a free register, the lines that committed loads wait for and, in write-back,
 /// that of the oldest store: each load and each inquiry has its word by that line alone.
@@ -275,8 +258,8 @@ fn registers_of_no_state() {
         for (requested, line) in [(0, 2), (0, 1), (2, 2), (2, 0), (1 << 31, 2), (u32::MAX, 2)] {
             let bench = with_register(&found, requested, line);
             assert!(!stands(&bench.image), "{requested} {line}");
-            assert_eq!(answers(&bench, &CALLS[..5]), [Refused(10); 5], "{requested} {line}");
-            assert_eq!(bench.clone().run(&CALLS[..5]), [Refused(10); 5], "{requested} {line}");
+            assert_eq!(answers(&bench, &CALLS[..6]), [Refused(10); 6], "{requested} {line}");
+            assert_eq!(bench.clone().run(&CALLS[..6]), [Refused(10); 6], "{requested} {line}");
         }
     }
 }

@@ -84,6 +84,10 @@ impl Judged {
         self.call(Call::Restore { name })
     }
 
+    pub fn preview(&mut self) -> Answer {
+        self.call(Call::Preview)
+    }
+
     /// The bytes that show line gives.
     pub fn shown(&self, address: u32) -> &[u8] {
         Right::shown_bytes(&self.state, &self.cache, &self.memory, address)

@@ -106,6 +106,15 @@ pub(crate) fn is_flushed(r: Step, k: u32) -> bool {
     }
 }
 
+// A preview of the way and of the words that are to be written back.
+pub(crate) fn is_previewed(r: Step, way: u32, words: u8) -> bool {
+    let a = r.answer;
+    match a {
+        Answer::Previewed(p) => p.way == way && p.words == words,
+        _ => false,
+    }
+}
+
 pub(crate) fn is_checkpointed(r: Step, i: u32) -> bool {
     let a = r.answer;
     match a {

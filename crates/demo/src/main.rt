@@ -55,9 +55,11 @@ fn load_part(s: State, cache: &mut [u8], memory: &mut [u8]) -> State {
     d.next
 }
 
-// The reply fills the line, and a retry gives the value.
+// A preview tells what the reply will do; the reply fills the line, and a retry gives the value.
 fn fill_part(s: State, cache: &mut [u8], memory: &mut [u8]) -> State {
-    let a = s.reply(cache, memory);
+    let p = s.preview(cache, memory);
+    report(b"way 0 will be filled", answers::is_previewed(p, 0, 0));
+    let a = p.next.reply(cache, memory);
     report(b"reply fills", answers::is_filled(a, 48));
     let b = a.next.retry(cache, memory, 1);
     report(b"retry gives the value", answers::is_value(b, 1, 50));

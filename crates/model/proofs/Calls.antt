@@ -9,7 +9,7 @@ use borrow.Author.Tests.{ltb-true, ltb-false, le-leb, lt-leb, eq-eqb, ne-eqb}
 use Rattle.lists.proofs.Cond.{cases, and-left}
 use Rattle.rules.specs.Shape.{Queues, Hierarchy, fits, topNumber, isFreeStore, isFreeLoad}
 use Rattle.lists.specs.Padded.{any}
-use Rattle.rules.specs.Calls.{Call, Check, load, store, retry, commit, abort, idle, reply, flush, show, checkpoint, restore, refused, check, numberCheck, loadRule, storeRule, checkpointRule, restoreRule, guarded, passes, unchanged, accessChecks, earlyChecks, callChecks, rule}
+use Rattle.rules.specs.Calls.{Call, Check, load, store, retry, commit, abort, idle, reply, flush, show, checkpoint, restore, preview, refused, check, numberCheck, loadRule, storeRule, checkpointRule, restoreRule, guarded, passes, unchanged, accessChecks, earlyChecks, callChecks, rule}
 use Rattle.rules.specs.Checkpoints.{nameAllowed, inUse}
 use Rattle.rules.specs.WellFormed.{linesFormed, queuesFormed, checkpointsFormed, wellFormed}
 use Rattle.rules.specs.Runs.{stateChecks, refusal, outcome}
@@ -74,6 +74,7 @@ early flush b = tt
 early (show a) b = tt
 early (checkpoint x) b = tt
 early (restore x) b = tt
+early preview b = tt
 
 -- ---- load, store: the access, then the rest of the checks
 

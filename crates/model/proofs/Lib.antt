@@ -4,4 +4,5 @@ pub mod Facts
 pub mod Reading
 pub mod Checking
 pub mod Moves
+pub mod Previews
 pub mod Accepted

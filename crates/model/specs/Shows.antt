@@ -25,6 +25,7 @@ partIn (rules.filled a) = record { start = 0; length = 0 }
 partIn (rules.flushed k) = record { start = 0; length = 0 }
 partIn (rules.shown p bs) = record { start = p; length = length bs }
 partIn (rules.checkpointed n) = record { start = 0; length = 0 }
+partIn (rules.previewed p) = record { start = 0; length = 0 }
 
 -- the part that show line gives at this world
 unfoldable pub shownPart : ℕ → World → Part

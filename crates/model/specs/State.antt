@@ -17,14 +17,14 @@ use Rattle.rules.specs.Calls.{Outcome, waitingAt, guarded}
 use Rattle.rules.specs.Calls as rules
 use Rattle.rules.specs.WellFormed.{wellFormed}
 use Rattle.rules.specs.Runs.{outcome}
-use Rattle.records.specs.Records.{hasRoom}
+use Rattle.records.specs.Records.{hasRoom, previewGiven}
 use Rattle.line_bytes.specs.Writes.{DirtyInside}
 use Rattle.model.specs.declared.State.{State}
 use Rattle.model.specs.declared.Step.{Step}
 use Rattle.model.specs.declared.Call.{Call}
-use Rattle.model.specs.declared.Call.the-variants.{Load, Store, Retry, Commit, Abort, Idle, Reply, Flush, Show, Checkpoint, Restore}
+use Rattle.model.specs.declared.Call.the-variants.{Load, Store, Retry, Commit, Abort, Idle, Reply, Flush, Show, Checkpoint, Restore, Preview}
 use Rattle.model.specs.declared.Answer.{Answer}
-use Rattle.model.specs.declared.Answer.the-variants.{Refused, Stored, Value, Waits, WaitsRequested, Committed, Kept, Drained, Requested, Idled, Filled, Flushed, Shown, Checkpointed}
+use Rattle.model.specs.declared.Answer.the-variants.{Refused, Stored, Value, Waits, WaitsRequested, Committed, Kept, Drained, Requested, Idled, Filled, Flushed, Shown, Checkpointed, Previewed}
 
 -- ---- the state
 
@@ -118,6 +118,7 @@ answerOf (Filled a) cache = rules.filled a
 answerOf (Flushed k) cache = rules.flushed k
 answerOf (Shown p n) cache = rules.shown p (bytesFrom p n cache)
 answerOf (Checkpointed n) cache = rules.checkpointed n
+answerOf (Previewed p) cache = rules.previewed (previewGiven p)
 
 -- what a call hands back, with the cache and the memory that it leaves
 abbrev pub outcomeOf : Step → List ℕ → List ℕ → Outcome
@@ -154,6 +155,7 @@ callOf Flush = rules.flush
 callOf (Show a) = rules.show a
 callOf (Checkpoint x) = rules.checkpoint x
 callOf (Restore x) = rules.restore x
+callOf Preview = rules.preview
 
 -- the call is one of those that `read_formed` makes: they only read the lent bytes (a setting and a return do not look at them)
 abbrev pub readsOnly : Call → Bool
@@ -168,6 +170,7 @@ readsOnly Flush = false
 readsOnly (Show a) = true
 readsOnly (Checkpoint x) = false
 readsOnly (Restore x) = false
+readsOnly Preview = true
 
 -- ---- what check 1 and the access checks leave to the functions behind them
 

@@ -1,6 +1,7 @@
 // The load/store unit: its state by value, and its calls as methods.
 // Each call takes any state, buffers of any length and numbers of any size, refuses what is bad by the paper's number and then
 // changes nothing. `answerOf` in specs/State.antt gives the paper's number and values for each answer.
+use records::Preview;
 use rules::CHECKPOINT_PLACES;
 use rules::Checkpoint;
 use rules::Figures;
@@ -19,6 +20,7 @@ mod commit;
 mod flush;
 mod idle;
 mod load;
+mod preview;
 mod read;
 mod reply;
 mod restore;
@@ -91,6 +93,8 @@ pub enum Answer {
     Shown(usize, usize),
     // the operation number that the mark remembers
     Checkpointed(u32),
+    // what the reply will do (02, card 7)
+    Previewed(Preview),
 }
 
 // What a call hands back: its answer and the next state.
@@ -121,4 +125,6 @@ pub enum Call {
     Checkpoint(u32),
     // return to it
     Restore(u32),
+    // 02, card 7: preview of a reply
+    Preview,
 }

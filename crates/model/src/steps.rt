@@ -38,6 +38,7 @@ impl State {
             Call::Commit(k) => return self.commit_formed(k),
             Call::Abort(n) => return self.abort_formed(n),
             Call::Show(address) => return self.show_formed(address),
+            Call::Preview => return self.preview_formed(),
             _ => {}
         }
         Step {

@@ -37,7 +37,7 @@ use Rattle.nicoisetarn.proofs.ShownPart.{image-over}
 
 module _ (q : Queues) (b : Hierarchy) where
   rule-keeps : (c : rules.Call) → changesRecords c ≡ false → rules.rule c q b .hierarchy .tags ≡ b .tags
-  unfolding rules.loadRule rules.storeRule rules.abortRule rules.showRule rules.checkpointRule rules.restoreRule
+  unfolding rules.loadRule rules.storeRule rules.abortRule rules.showRule rules.previewRule rules.checkpointRule rules.restoreRule
   rule-keeps (rules.load a w) e = refl
   rule-keeps (rules.store a w v) e = refl
   rule-keeps (rules.retry i) e = wrong refl e
@@ -49,6 +49,7 @@ module _ (q : Queues) (b : Hierarchy) where
   rule-keeps (rules.show a) e = refl
   rule-keeps (rules.checkpoint x) e = refl
   rule-keeps (rules.restore x) e = refl
+  rule-keeps rules.preview e = refl
 
   outcome-keeps : (c : rules.Call) → changesRecords c ≡ false → outcome c q b .hierarchy .tags ≡ b .tags
   outcome-keeps c e = outcome-by c q b (λ o. o .hierarchy .tags ≡ b .tags) (λ k. refl) (λ f g p. rule-keeps c e)
@@ -173,6 +174,7 @@ kind-refused (rules.filled a) e = let no : ⊥ = omega arith in absurd no
 kind-refused (rules.flushed k) e = let no : ⊥ = omega arith in absurd no
 kind-refused (rules.shown p bs) e = let no : ⊥ = omega arith in absurd no
 kind-refused (rules.checkpointed n) e = let no : ⊥ = omega arith in absurd no
+kind-refused (rules.previewed p) e = let no : ⊥ = omega arith in absurd no
 
 module _ (i : Image) (cache memory : List ℕ) where
   state-keeps : (c : rules.Call) → standsFor i ≡ true → Keeps (Leaves (outcomeFrom c i cache memory)) i cache memory
@@ -208,7 +210,7 @@ refused-kept = record {
 
 -- ---- numbers that no call has
 
-kind-known : (a : rules.Answer) → imagedAnswer a .kind ≤ 14
+kind-known : (a : rules.Answer) → imagedAnswer a .kind ≤ 15
 kind-known (rules.refused k) = omega arith
 kind-known (rules.stored i) = omega arith
 kind-known (rules.value i v) = omega arith
@@ -223,6 +225,7 @@ kind-known (rules.filled a) = omega arith
 kind-known (rules.flushed k) = omega arith
 kind-known (rules.shown p bs) = omega arith
 kind-known (rules.checkpointed n) = omega arith
+kind-known (rules.previewed p) = omega arith
 
 module _ (i : Image) (cache memory : List ℕ) where
   called-known : (o : Option rules.Call) → called o i cache memory .answer ≡ noSuchCall → o ≡ none
@@ -268,22 +271,38 @@ module _ (address : ℕ) (i : Image) (cache memory : List ℕ) where
   unfolding lineShown
   none-shown stands = rw stands
 
-  -- nothing changes
-  show-keeps : standsFor i ≡ true → Leaves (outcomeFrom (rules.show address) i cache memory) ≡ kept (imagedAnswer (outcomeFrom (rules.show address) i cache memory .answer)) i cache memory
-  unfolding outcomeFrom rules.showRule
-  show-keeps stands = outcome-by (rules.show address) q b (λ o. Leaves o ≡ kept (imagedAnswer (o .answer)) i cache memory) (λ k. same (refusal (rules.show address) k)) (λ f g p. same (rules.rule (rules.show address) q b .answer))
-    where
-      q : Queues
-      q = queuesOf (openedOf i)
+-- ---- calls that only look
 
-      b : Hierarchy
-      b = hierarchyOf (openedOf i) cache memory
+-- a call whose rule changes nothing leaves the image, the cache and the memory as they were
+module _ (i : Image) (cache memory : List ℕ) (stands : standsFor i ≡ true) where
+  abbrev q : Queues
+  q = queuesOf (openedOf i)
 
-      same : (a : rules.Answer) → Leaves (rules.unchanged a q b) ≡ kept (imagedAnswer a) i cache memory
-      same a = λ j. record { answer = imagedAnswer a; image = imaged-opened i stands j; cache = cache; memory = memory }
+  abbrev b : Hierarchy
+  b = hierarchyOf (openedOf i) cache memory
+
+  same : (a : rules.Answer) → Leaves (rules.unchanged a q b) ≡ kept (imagedAnswer a) i cache memory
+  same a = λ j. record { answer = imagedAnswer a; image = imaged-opened i stands j; cache = cache; memory = memory }
+
+  look-keeps :
+      (c : rules.Call) → rules.rule c q b ≡ rules.unchanged (rules.rule c q b .answer) q b
+      → Leaves (outcomeFrom c i cache memory) ≡ kept (imagedAnswer (outcomeFrom c i cache memory .answer)) i cache memory
+  unfolding outcomeFrom
+  look-keeps c e =
+      outcome-by c q b (λ o. Leaves o ≡ kept (imagedAnswer (o .answer)) i cache memory) (λ k. same (refusal c k))
+      (λ f g p. ap Leaves e ∙ same (rules.rule c q b .answer))
+
+  show-keeps : (a : ℕ) → Leaves (outcomeFrom (rules.show a) i cache memory) ≡ kept (imagedAnswer (outcomeFrom (rules.show a) i cache memory .answer)) i cache memory
+  unfolding rules.showRule
+  show-keeps a = look-keeps (rules.show a) refl
+
+  preview-keeps : Leaves (outcomeFrom rules.preview i cache memory) ≡ kept (imagedAnswer (outcomeFrom rules.preview i cache memory .answer)) i cache memory
+  unfolding rules.previewRule
+  preview-keeps = look-keeps rules.preview refl
 
 pub looks-kept : LooksKept
 unfolding stepped called callNumbered lineShown
 looks-kept = record {
-  shown = λ address y z i cache memory. cases (standsFor i) (λ t. rw t (show-keeps address i cache memory t)) (λ t. rw t refl);
+  shown = λ address y z i cache memory. cases (standsFor i) (λ t. rw t (show-keeps i cache memory t address)) (λ t. rw t refl);
+  previewed = λ x y z i cache memory. cases (standsFor i) (λ t. rw t (preview-keeps i cache memory t)) (λ t. rw t refl);
 }

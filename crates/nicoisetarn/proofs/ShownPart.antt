@@ -16,14 +16,14 @@ use Rattle.rules.specs.declared.Lookup.{Lookup}
 use Rattle.rules.specs.Shape.{Queues, Hierarchy, fits, topNumber, noLoad, lineOf, setOf, firstSlot}
 use Rattle.rules.specs.Lines.{present, slotOf, placeOf, lookup}
 use Rattle.rules.specs.Forward.{loadValue}
-use Rattle.rules.specs.Calls.{Call, Outcome, load, store, retry, commit, abort, idle, reply, flush, show, checkpoint, restore, rule, loadAnswer, loadRule, storeRule, answerLoad, retryWith, retryRule, commitRule, abortRule, checkpointRule, restoreRule, canDrain, canRequestLoad, canRequestStore, idleRule, replyRule, flushRule, showRule, waitingAt, nextNumber}
+use Rattle.rules.specs.Calls.{Call, Outcome, load, store, retry, commit, abort, idle, reply, flush, show, checkpoint, restore, preview, rule, loadAnswer, loadRule, storeRule, answerLoad, retryWith, retryRule, commitRule, abortRule, checkpointRule, restoreRule, canDrain, canRequestLoad, canRequestStore, idleRule, replyRule, flushRule, previewRule, showRule, waitingAt, nextNumber}
 use Rattle.rules.specs.Calls as rules
 use Rattle.rules.specs.Runs.{refusal, outcome}
 use Rattle.rules.proofs.Checks.{refusal-by, outcome-by, either-word}
 use Rattle.rules.proofs.LineFacts.{fits-tells}
 use Rattle.model.specs.State.{bytesFrom, answerOf, outcomeOf}
 use Rattle.model.specs.declared.Answer.{Answer}
-use Rattle.model.specs.declared.Answer.the-variants.{Refused, Stored, Value, Waits, WaitsRequested, Committed, Kept, Drained, Requested, Idled, Filled, Flushed, Shown, Checkpointed}
+use Rattle.model.specs.declared.Answer.the-variants.{Refused, Stored, Value, Waits, WaitsRequested, Committed, Kept, Drained, Requested, Idled, Filled, Flushed, Shown, Checkpointed, Previewed}
 use Rattle.model.specs.declared.Step.{Step}
 use Rattle.model.proofs.Moves.{bytes-long}
 use Rattle.nicoisetarn.specs.declared.AnswerImage.{AnswerImage}
@@ -72,7 +72,7 @@ module _ (q : Queues) (b : Hierarchy) where
       (λ e. no-part)
 
   rule-small : (c : Call) → fits b ≡ true → Small (rule c q b)
-  unfolding loadRule storeRule retryRule commitRule abortRule replyRule flushRule checkpointRule restoreRule
+  unfolding loadRule storeRule retryRule commitRule abortRule replyRule flushRule previewRule checkpointRule restoreRule
   rule-small (load a w) f = load-small (nextNumber q) (lookup (q .request) b (lineOf a)) (loadValue (nextNumber q) a w (q .stores) b)
   rule-small (store a w v) f = no-part
   rule-small (retry i) f =
@@ -86,6 +86,7 @@ module _ (q : Queues) (b : Hierarchy) where
   rule-small (show a) f = show-small a f
   rule-small (checkpoint x) f = no-part
   rule-small (restore x) f = no-part
+  rule-small preview f = no-part
 
   refusal-small : (c : Call) (k : ℕ) → PartSmall (refusal c k)
   refusal-small = refusal-by (λ c r. PartSmall r) (λ c k. no-part) (λ a. no-part)
@@ -111,6 +112,7 @@ over-any P f (Filled a) cache cache′ h = h
 over-any P f (Flushed k) cache cache′ h = h
 over-any P f (Shown p n) cache cache′ h = f p _ _ (bytes-long p n cache ∙ sym (bytes-long p n cache′)) h
 over-any P f (Checkpointed n) cache cache′ h = h
+over-any P f (Previewed p) cache cache′ h = h
 
 module _ (c : Call) (q : Queues) (b : Hierarchy) (r : Step) (cache memory : List ℕ) (e : outcomeOf r cache memory ≡ outcome c q b) where
   pub step-small : PartSmall (answerOf (r .answer) [])

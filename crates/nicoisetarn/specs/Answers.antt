@@ -4,7 +4,9 @@ use mathlib.Core.Bool.{cond}
 use mathlib.Core.Option.{Option, some, none}
 use lib.Dec.{eqb}
 use lib.ListN.{length}
-use Rattle.rules.specs.Shape.{topNumber}
+use Rattle.lists.specs.Bytes.{valueAt}
+use Rattle.rules.specs.Shape.{topNumber, mostWays}
+use Rattle.rules.specs.Lines.{Preview}
 use Rattle.rules.specs.Calls as rules
 use Rattle.model.specs.State.{callOf}
 use Rattle.model.specs.Shows.{partIn}
@@ -25,18 +27,39 @@ callNumbered call x y z =
     (cond (eqb call 7) (some rules.flush)
     (cond (eqb call 8) (some (rules.show x))
     (cond (eqb call 9) (some (rules.checkpoint x))
-    (cond (eqb call 10) (some (rules.restore x)) none))))))))))
+    (cond (eqb call 10) (some (rules.restore x))
+    (cond (eqb call 11) (some rules.preview) none)))))))))))
 
 -- the same, as the code has it
 abbrev pub numberedOf : Numbered → Option rules.Call
 numberedOf (Known c) = some (callOf c)
 numberedOf Unknown = none
 
--- an answer by its three numbers
+-- an answer with at most two numbers beside its kind
 abbrev pub coded : ℕ → ℕ → ℕ → AnswerImage
-coded kind first second = record { kind = kind; first = first; second = second }
+coded kind first second = record { kind = kind; first = first; second = second; third = 0; fourth = 0; fifth = 0 }
 
--- an answer's kind and 01's numbers; a part by its place in the cache and its length
+-- 1 where a line is evicted, and its number
+abbrev pub evicts : Option ℕ → ℕ
+evicts none = 0
+evicts (some l) = 1
+
+abbrev pub lineEvicted : Option ℕ → ℕ
+lineEvicted none = 0
+lineEvicted (some l) = l
+
+-- a preview by its five numbers: of the ages, that of way w is byte w
+abbrev pub codedPreview : Preview → AnswerImage
+codedPreview p = record {
+  kind = 15;
+  first = p .way;
+  second = evicts (p .evicted);
+  third = lineEvicted (p .evicted);
+  fourth = p .words;
+  fifth = valueAt (p .ages) 0 mostWays;
+}
+
+-- an answer's kind and the papers' numbers; a part by its place in the cache and its length
 abbrev pub imagedAnswer : rules.Answer → AnswerImage
 imagedAnswer (rules.refused k) = coded 0 k 0
 imagedAnswer (rules.stored i) = coded 1 i 0
@@ -53,6 +76,7 @@ imagedAnswer (rules.shown p bs) = coded 11 p (length bs)
 -- (12 is an accepted start)
 imagedAnswer (rules.checkpointed n) = coded 13 n 0
 imagedAnswer (rules.waitsRequested i) = coded 14 i 0
+imagedAnswer (rules.previewed p) = codedPreview p
 
 -- the answer of an accepted start
 abbrev pub readyAnswer : AnswerImage

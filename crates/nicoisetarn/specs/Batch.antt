@@ -35,9 +35,9 @@ unfoldable pub callsListed : ℕ → List ℕ → List (Option rules.Call)
 callsListed zero l = []
 callsListed (suc n) l = callListed l ∷ callsListed n (drop callStride l)
 
--- the numbers of an answer: its three, and three zeros
+-- the numbers of an answer
 abbrev pub numbersOf : AnswerImage → List ℕ
-numbersOf a = a .kind ∷ a .first ∷ a .second ∷ 0 ∷ 0 ∷ 0 ∷ []
+numbersOf a = a .kind ∷ a .first ∷ a .second ∷ a .third ∷ a .fourth ∷ a .fifth ∷ []
 
 -- the length of the calls is a multiple of their stride, and there is room for just as many answers
 unfoldable pub batchFits : List ℕ → List ℕ → Bool

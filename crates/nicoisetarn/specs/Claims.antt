@@ -24,10 +24,10 @@ pub record RefusedImagesKept : Type 0 where
   pub by-call : (call x y z : ℕ) (i : Image) (cache memory : List ℕ) → Keeps (stepped call x y z i cache memory) i cache memory
 
 pub record UnknownCallsKept : Type 0 where
-  -- a number above 10 is no call: that is the answer, and everything stays
-  pub told : (call x y z : ℕ) (i : Image) (cache memory : List ℕ) → 10 < call → stepped call x y z i cache memory ≡ kept noSuchCall i cache memory
+  -- a number above 11 is no call: that is the answer, and everything stays
+  pub told : (call x y z : ℕ) (i : Image) (cache memory : List ℕ) → 11 < call → stepped call x y z i cache memory ≡ kept noSuchCall i cache memory
   -- no call answers so
-  pub known : (call x y z : ℕ) (i : Image) (cache memory : List ℕ) → call ≤ 10 → stepped call x y z i cache memory .answer ≡ noSuchCall → ⊥
+  pub known : (call x y z : ℕ) (i : Image) (cache memory : List ℕ) → call ≤ 11 → stepped call x y z i cache memory .answer ≡ noSuchCall → ⊥
   -- a number above 1 is no profile: that is the answer to a start, and everything stays
   pub profile-told : (sets ways profile : ℕ) (i : Image) (cache memory : List ℕ) → 1 < profile → started sets ways profile i cache memory ≡ kept noSuchCall i cache memory
   -- no other start answers so
@@ -36,6 +36,8 @@ pub record UnknownCallsKept : Type 0 where
 pub record LooksKept : Type 0 where
   -- call 8, show line, answers the look on shared bytes, and everything stays
   pub shown : (address y z : ℕ) (i : Image) (cache memory : List ℕ) → stepped 8 address y z i cache memory ≡ kept (lineShown address i cache memory) i cache memory
+  -- call 11, preview: whatever it answers, everything stays
+  pub previewed : (x y z : ℕ) (i : Image) (cache memory : List ℕ) → stepped 11 x y z i cache memory ≡ kept (stepped 11 x y z i cache memory .answer) i cache memory
 
 -- ---- batches
 

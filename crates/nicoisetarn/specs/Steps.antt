@@ -107,6 +107,7 @@ changesRecords rules.flush = true
 changesRecords (rules.show a) = false
 changesRecords (rules.checkpoint x) = false
 changesRecords (rules.restore x) = false
+changesRecords rules.preview = false
 
 -- the image of the state after a call, which keeps the images of records that do not change
 abbrev pub nextImage : rules.Call → Image → State → Image

@@ -44,9 +44,9 @@ fn put_answer(answers: &mut [u32], at: usize, a: AnswerImage)
     answers[at] = a.kind;
     answers[at + 1] = a.first;
     answers[at + 2] = a.second;
-    answers[at + 3] = 0;
-    answers[at + 4] = 0;
-    answers[at + 5] = 0;
+    answers[at + 3] = a.third;
+    answers[at + 4] = a.fourth;
+    answers[at + 5] = a.fifth;
 }
 
 // ---- checks 1 and 10 refuse

@@ -39,14 +39,20 @@ pub const CALL_CHECKPOINT: u32 = 9;
 // name (02, card 3: return to a mark)
 pub const CALL_RESTORE: u32 = 10;
 
+// 02, card 7: preview of a reply
+pub const CALL_PREVIEW: u32 = 11;
+
 // ---- answers by numbers
 
-// An answer: its kind and 01's numbers, the others 0.
+// An answer: its kind and the papers' numbers, the others 0.
 #[repr(C)]
 pub struct AnswerImage {
     pub kind: u32,
     pub first: u32,
     pub second: u32,
+    pub third: u32,
+    pub fourth: u32,
+    pub fifth: u32,
 }
 
 // the refusal's number
@@ -79,7 +85,10 @@ pub const KIND_READY: u32 = 12;
 pub const KIND_CHECKPOINTED: u32 = 13;
 // the load's number: a byte is lacking, and its line is requested
 pub const KIND_WAITS_REQUESTED: u32 = 14;
-// A batch was made: the boundary's own, as the next. Kinds from 15 to 253 are free for answers to come.
+// the way; 1 if a line is evicted, else 0; its number, else 0; its words to be written back (that of word n weighs 2 to the power n); the
+// ages of the set after the reply, that of way w in byte w
+pub const KIND_PREVIEWED: u32 = 15;
+// A batch was made: the boundary's own, as the next. Kinds from 16 to 253 are free for answers to come.
 pub const KIND_RAN: u32 = 254;
 // There is no such call, or no such profile, or the lengths of a batch do not fit: the boundary's own, no answer of 01.
 pub const KIND_NO_SUCH_CALL: u32 = 255;
@@ -88,7 +97,7 @@ pub const KIND_NO_SUCH_CALL: u32 = 255;
 
 // How many numbers a call has in its list: its number, three operands, and two that no call has yet, which are 0.
 pub const CALL_STRIDE: usize = 6;
-// How many numbers an answer has in its list: its three, and three zeros.
+// How many numbers an answer has in its list: all six.
 pub const ANSWER_STRIDE: usize = 6;
 
 // What a call hands back by value: its answer and the next image.
@@ -101,9 +110,10 @@ pub struct ImageStep {
 
 // Start, with a profile by its number (`images` has the numbers): an accepted one stores the image of the started state, a refused one
 // leaves image and cache as they were. Where there is no such profile the answer is that of an unknown call, and nothing is looked at.
-// Its name has the length of the image, so that an object file made for another length does not link.
+// Its name has the length of the image and that of an answer, in bytes, so that an object file made for other lengths does not link; those of
+// the next three functions have the length of an answer.
 #[no_mangle]
-pub extern "C" fn nicoisetarn_start_2048_in(
+pub extern "C" fn nicoisetarn_start_2048_24_in(
     image: &mut Image,
     sets: u32,
     ways: u32,
@@ -120,7 +130,7 @@ pub extern "C" fn nicoisetarn_start_2048_in(
 
 // Any other call, by its number, with up to three operands. For a number that no call has the answer says so, and nothing is looked at.
 #[no_mangle]
-pub extern "C" fn nicoisetarn_step_in(
+pub extern "C" fn nicoisetarn_step_24_in(
     image: &mut Image,
     call: u32,
     x: u32,
@@ -139,7 +149,7 @@ pub extern "C" fn nicoisetarn_step_in(
 // A batch: the calls of a list, one after the other, and the list of their answers. The image is opened, tested and made once. Where the
 // lengths do not fit the answer is that of an unknown call, and nothing is looked at.
 #[no_mangle]
-pub extern "C" fn nicoisetarn_run_in(
+pub extern "C" fn nicoisetarn_run_24_in(
     image: &mut Image,
     calls: &[u32],
     answers: &mut [u32],
@@ -155,7 +165,7 @@ pub extern "C" fn nicoisetarn_run_in(
 
 // Show line on bytes that are only read: what call number 8 answers.
 #[no_mangle]
-pub extern "C" fn nicoisetarn_show_line_in(
+pub extern "C" fn nicoisetarn_show_line_24_in(
     image: &Image,
     address: u32,
     cache: &[u8],
@@ -192,7 +202,7 @@ pub fn unknown_calls_kept()
     ensures { λ r. ⌜ UnknownCallsKept ⌝ }
 {}
 
-// Show line leaves everything as it was, so that call number 8 and the look on shared bytes are one.
+// Show line and preview leave everything as it was; call number 8 and the look on shared bytes are one.
 pub fn looks_kept()
     ensures { λ r. ⌜ LooksKept ⌝ }
 {}

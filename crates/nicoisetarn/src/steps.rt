@@ -85,6 +85,7 @@ fn changes_records(call: Call) -> bool
         Call::Show(_) => false,
         Call::Checkpoint(_) => false,
         Call::Restore(_) => false,
+        Call::Preview => false,
     }
 }
 

@@ -2,7 +2,8 @@
 use mathlib.Core.Path.{_≡_, refl, sym, ap, ap₂, _∙_}
 use mathlib.Core.Bool.{Bool, true, false, cond, not, _&&_}
 use mathlib.Core.List.{List, [], _∷_}
-use Prim.Native.Nat.{ℕ, _+_, _*_, _%_, _<_, _≤_}
+use mathlib.Core.Option.{Option, some, none}
+use Prim.Native.Nat.{ℕ, _+_, _*_, _-_, _%_, _<_, _≤_}
 use native.Mathlib.Nat.{mod-eq-of-lt}
 use native.Mathlib.Omega.{arith}
 use lib.Dec.{ltb}
@@ -25,8 +26,8 @@ use Rattle.rules.specs.Lines.{slotOf, present, wayOf, lookup, agedAt, useSlot, 
 use Rattle.rules.specs.Calls.{usesLineBy, useEach}
 use Rattle.rules.proofs.Lookup as answer
 use Rattle.rules.proofs.TagLookup.{hit-tells}
-use Rattle.records.specs.Records.{hasRoom, inTable, inSet, isHit, lookupIn, tabled, usedTags, victimIn, installedIn}
-use Rattle.records.proofs.Places.{room-bounds, slots-room, in-table, in-set}
+use Rattle.records.specs.Records.{hasRoom, inTable, inSet, isHit, lookupIn, tabled, usedTags, victimIn, agesIn, previewIn, noPreview, installedIn}
+use Rattle.records.proofs.Places.{room-bounds, slots-room, table-bound, in-table, in-set}
 
 -- the records of a choice
 tags-of : (t : Bool) (x y : Hierarchy) → cond t x y .tags ≡ cond t (x .tags) (y .tags)
@@ -152,7 +153,7 @@ module _ (g : Figures) (k : ℕ) (l : LoadEntry) (ls : List LoadEntry) (tags : L
 -- the victim is in the set
 pub victim-inside : (tags : List Tag) (f ways : ℕ) → 0 < ways → (f ≤ victimIn tags f ways) × (victimIn tags f ways < f + ways)
 unfolding victimIn
-victim-inside tags f ways some =
+victim-inside tags f ways pos =
     let p : ℕ → Bool = λ k. not (tagAt tags k .valid) in
     let g = greatest-in (λ k. tagAt tags k .age) f (f + ways) ways f f (omega arith, omega arith) (omega arith) (omega arith) in
     either (λ (r : ℕ). (f ≤ r) × (r < f + ways)) (ltb (firstFrom p f ways) (f + ways))
@@ -162,7 +163,41 @@ victim-inside tags f ways some =
 pub victim-known :
     (tags : List Tag) (f ways r : ℕ) → inTable f ways ≡ true → 0 < ways
     → r ≡ cond (inTable f ways && ltb 0 ways) (victimIn tags f ways) 0 → r ≡ victimIn tags f ways
-victim-known tags f ways r t some e = e ∙ sym (cond-then _ _ (and-both (inTable f ways) (ltb 0 ways) t (lt-ltb 0 ways some)))
+victim-known tags f ways r t pos e = e ∙ sym (cond-then _ _ (and-both (inTable f ways) (ltb 0 ways) t (lt-ltb 0 ways pos)))
+
+-- where it stands
+pub record VictimAt (tags : List Tag) (f ways v : ℕ) : Type 0 where
+  pub within : f + ways ≤ 256
+  pub low : f ≤ v
+  pub high : v < f + ways
+  pub slot : v ≡ victimIn tags f ways
+
+pub victim-at :
+    (tags : List Tag) (f ways v : ℕ) → inTable f ways ≡ true → (ways ≡ 0 → ⊥)
+    → v ≡ cond (inTable f ways && ltb 0 ways) (victimIn tags f ways) 0 → VictimAt tags f ways v
+victim-at tags f ways v t pos e =
+    let is = victim-known tags f ways v t (omega arith) e in
+    let i = victim-inside tags f ways (omega arith) in
+    record { within = table-bound f ways t; low = omega (arith, i .0, is); high = omega (arith, i .1, is); slot = is }
+
+-- ---- preview_fill
+
+module _ (tags : List Tag) (f ways : ℕ) where
+  -- there is no such set
+  pub no-set : inTable f ways ≡ false → noPreview ≡ cond (inTable f ways && ltb 0 ways) (previewIn tags f ways) noPreview
+  no-set t = rw t
+
+  pub no-way : inTable f ways ≡ true → ways ≡ 0 → noPreview ≡ cond (inTable f ways && ltb 0 ways) (previewIn tags f ways) noPreview
+  no-way t e = rw (t, e)
+
+  -- what the victim's record and the ages make
+  pub previewed :
+      (v : ℕ) (evicted : Option ℕ) (ages : List ℕ) → inTable f ways ≡ true → (ways ≡ 0 → ⊥) → v ≡ victimIn tags f ways
+      → evicted ≡ cond (tagAt tags v .valid) (some (tagAt tags v .line)) none → ages ≡ agesIn tags f ways v
+      → record { way = v - f; evicted = evicted; words = tagAt tags v .dirty; ages = ages }
+      ≡ cond (inTable f ways && ltb 0 ways) (previewIn tags f ways) noPreview
+  unfolding previewIn
+  previewed v evicted ages t pos slot gone aged = rw (gone, aged, slot, t, lt-ltb 0 ways (omega arith))
 
 -- ---- install
 

@@ -24,7 +24,7 @@ use Rattle.rules.specs.declared.Lookup.the-variants.{Hit, Pending, Miss}
 use Rattle.rules.specs.Shape.{Hierarchy, names, noLoad, noTag, tagAt, withAge, withDirty}
 use Rattle.rules.specs.Lines.{holdsLine, agedAt, writeBackSlot}
 use Rattle.rules.specs.Runs.{startTags}
-use Rattle.records.specs.Records.{lookupIn, victimIn, flushedTags}
+use Rattle.records.specs.Records.{lookupIn, victimIn, ageIn, flushedTags}
 
 -- ---- use
 
@@ -53,6 +53,17 @@ pub use-each :
     (f ways v a : ℕ) (tags : List Tag) → f ≤ v → v < f + ways
     → stepsFrom (change (agedAt f ways v a) noTag) f ways tags ≡ eachFrom (agedAt f ways v a) 0 tags
 use-each f ways v a tags p q = changes-each (agedAt f ways v a) noTag f ways tags (λ k x o. aged-out f ways v a k x o p q)
+
+-- ---- the age of a way after a fill
+
+module _ (tags : List Tag) (f ways v k : ℕ) where
+  pub age-in : (t : Tag) → k < ways → t ≡ agedAt f ways v (tagAt tags v .age) (f + k) (tagAt tags (f + k)) → t .age ≡ ageIn tags f ways v k 0
+  unfolding ageIn
+  age-in t h e = rw (lt-ltb k ways h, e)
+
+  pub no-age : ways ≤ k → 0 ≡ ageIn tags f ways v k 0
+  unfolding ageIn
+  no-age h = rw (le-ltb k ways h)
 
 -- ---- lookup
 

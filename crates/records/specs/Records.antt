@@ -1,17 +1,22 @@
 -- Tables of tag records by themselves, as the code has them: which places a call may name, and what the rules make of the records.
 use Prim.Native.Nat.{ℕ, _+_, _*_, _-_}
 use mathlib.Core.Bool.{Bool, true, false, cond, not, _&&_}
-use mathlib.Core.List.{List, []}
+use mathlib.Core.List.{List, [], _∷_}
 use lib.Dec.{ltb, leb}
-use lib.ListN.{set}
+use mathlib.Core.Option.{Option, some, none}
+use lib.ListN.{set, replicate}
 use Rattle.lists.specs.Counted.{firstFrom, greatestFrom, stepsFrom, eachFrom}
 use Rattle.rules.specs.declared.Figures.{Figures}
 use Rattle.rules.specs.declared.Tag.{Tag}
 use Rattle.rules.specs.declared.Request.{Request}
 use Rattle.rules.specs.declared.Lookup.{Lookup}
 use Rattle.rules.specs.declared.Lookup.the-variants.{Hit, Pending, Miss}
-use Rattle.rules.specs.Shape.{Hierarchy, names, noFigures, tableSize, tagAt}
-use Rattle.rules.specs.Lines.{holdsLine, agedAt, useLine, writeBackSlot}
+use Rattle.rules.specs.Shape.{Hierarchy, names, noFigures, tableSize, mostWays, tagAt}
+use Rattle.rules.specs.Lines.{holdsLine, agedAt, useLine, writeBackSlot, Preview}
+use Rattle.records.specs.declared.Eviction.{Eviction}
+use Rattle.records.specs.declared.Eviction.the-variants.{Nothing, Line}
+use Rattle.records.specs.declared.Ages.{Ages}
+use Rattle.records.specs.declared.Preview as code
 
 -- ---- places in the table
 
@@ -64,6 +69,38 @@ unfoldable pub installedIn : ℕ → ℕ → ℕ → ℕ → List Tag → List T
 installedIn f ways v l tags =
     let t : Tag = record { valid = true; dirty = 0; line = l; age = tagAt tags v .age } in
     eachFrom (agedAt f ways v (tagAt (set tags v t) v .age)) 0 (set tags v t)
+
+-- ---- what a fill will do (02, card 7)
+
+-- the age of way k of the set from slot f on, when slot v is used; x where the set has no such way
+unfoldable pub ageIn : List Tag → ℕ → ℕ → ℕ → ℕ → ℕ → ℕ
+ageIn tags f ways v k x = cond (ltb k ways) (agedAt f ways v (tagAt tags v .age) (f + k) (tagAt tags (f + k)) .age) x
+
+-- the ages of its ways, in four places
+unfoldable pub agesIn : List Tag → ℕ → ℕ → ℕ → List ℕ
+agesIn tags f ways v = eachFrom (ageIn tags f ways v) 0 (replicate mostWays 0)
+
+-- what the fill of a line of the set will do
+unfoldable pub previewIn : List Tag → ℕ → ℕ → Preview
+previewIn tags f ways =
+    let v = victimIn tags f ways in
+    let t = tagAt tags v in
+    record { way = v - f; evicted = cond (t .valid) (some (t .line)) none; words = t .dirty; ages = agesIn tags f ways v }
+
+-- where there is no such set
+abbrev pub noPreview : Preview
+noPreview = record { way = 0; evicted = none; words = 0; ages = replicate mostWays 0 }
+
+-- the same, as the code has it
+abbrev pub evictionGiven : Eviction → Option ℕ
+evictionGiven Nothing = none
+evictionGiven (Line l) = some l
+
+abbrev pub agesGiven : Ages → List ℕ
+agesGiven a = a .way0 ∷ a .way1 ∷ a .way2 ∷ a .way3 ∷ []
+
+abbrev pub previewGiven : code.Preview → Preview
+previewGiven p = record { way = p .way; evicted = evictionGiven (p .evicted); words = p .words; ages = agesGiven (p .ages) }
 
 -- ---- flush
 

@@ -1,9 +1,10 @@
-// The table of tag records, by value: the tag lookup, use, the victim, and the changes of a record.
+// The table of tag records, by value: the tag lookup, use, the victim, what a fill will do, and the changes of a record.
 // A record is named by its slot, s × ways + w for way w of set s; a set's records stand from its first slot on.
-// A public function takes any table and any places. Where the places it is given do not lie in the table, it answers slot 0 or a miss, or
+// A public function takes any table and any places. Where the places it is given do not lie in the table, it answers slot 0, a miss or an empty preview, or
 // leaves the records as they are; else its answer is a definition of the rules, or one of specs/Records that says the same of a set's slots.
 ghost use mathlib.Core.Path.{_≡_};
 ghost use mathlib.Core.Bool.{cond, not, true, _&&_};
+ghost use mathlib.Core.Option.{some, none};
 ghost use Prim.Native.Nat.{_+_, _*_, _%_, _<_, _≤_};
 ghost use lib.Dec.{ltb, leb};
 ghost use lib.ListN.{set, replicate};
@@ -13,7 +14,7 @@ ghost use Rattle.rules.specs.Shape.{names, noTag, noLoad, tagAt};
 ghost use Rattle.rules.specs.Lines.{holdsLine, present, agedAt, wordsOf, dirtyAfter, marked};
 ghost use Rattle.rules.specs.Calls.{usesLineBy, useEach, wantsLine};
 ghost use Rattle.rules.specs.Runs.{startTags};
-ghost use Rattle.records.specs.Records.{hasRoom, inTable, inSet, isHit, lookupIn, tabled, usedTags, victimIn, installedIn, flushedTags};
+ghost use Rattle.records.specs.Records.{hasRoom, inTable, inSet, isHit, lookupIn, tabled, usedTags, victimIn, ageIn, agesIn, evictionGiven, agesGiven, previewGiven, previewIn, noPreview, installedIn, flushedTags};
 use rules::Figures;
 use rules::LINE_BYTES;
 use rules::LOAD_PLACES;
@@ -279,6 +280,103 @@ pub fn victim(tags: [Tag; TAG_RECORDS], first: usize, ways: usize) -> usize
         return k;
     }
     oldest(tags, first, ways)
+}
+
+// ---- what a fill will do (02, card 7)
+
+// "the line evicted if any", by its number.
+pub enum Eviction {
+    Nothing,
+    Line(u16),
+}
+
+// The ages of a set, way by way; 0 for a way that the set has not.
+pub struct Ages {
+    pub way0: u8,
+    pub way1: u8,
+    pub way2: u8,
+    pub way3: u8,
+}
+
+// "the way, the line evicted if any, which of its four words are to be written back and the ages of that set after it"
+pub struct Preview {
+    // from 0
+    pub way: u32,
+    pub evicted: Eviction,
+    // that of word n weighs 2 to the power n
+    pub words: u8,
+    pub ages: Ages,
+}
+
+// What is answered where there is no such set.
+const NO_PREVIEW: Preview = Preview {
+    way: 0,
+    evicted: Eviction::Nothing,
+    words: 0,
+    ages: Ages {
+        way0: 0,
+        way1: 0,
+        way2: 0,
+        way3: 0,
+    },
+};
+
+// The line that leaves, when another comes in the place of this record: its own, if it is valid.
+fn evicted_line(old: Tag) -> Eviction
+    ensures { λ r. ⌜ evictionGiven r ≡ cond (old .valid) (some (old .line)) none ⌝ }
+{
+    if old.valid {
+        Eviction::Line(old.line)
+    } else {
+        Eviction::Nothing
+    }
+}
+
+// The age of way k of the set, when slot v is filled, and so used.
+fn age_after(tags: [Tag; TAG_RECORDS], first: usize, ways: usize, v: usize, k: usize) -> u8
+    requires { ⌜ (first + ways ≤ 256) × (first ≤ v) × (v < first + ways) ⌝ }
+    ensures { λ r. ⌜ r ≡ ageIn tags first ways v k 0 ⌝ }
+{
+    if ways <= k {
+        return 0;
+    }
+    let used = tags[v];
+    let t = tags[first + k];
+    let a = aged(t, first, ways, v, used.age, first + k);
+    a.age
+}
+
+// "the ages of that set after it"
+fn ages_after(tags: [Tag; TAG_RECORDS], first: usize, ways: usize, v: usize) -> Ages
+    requires { ⌜ (first + ways ≤ 256) × (first ≤ v) × (v < first + ways) ⌝ }
+    ensures { λ r. ⌜ agesGiven r ≡ agesIn tags first ways v ⌝ }
+{
+    Ages {
+        way0: age_after(tags, first, ways, v, 0),
+        way1: age_after(tags, first, ways, v, 1),
+        way2: age_after(tags, first, ways, v, 2),
+        way3: age_after(tags, first, ways, v, 3),
+    }
+}
+
+// What the fill of a line of this set will do.
+pub fn preview_fill(tags: [Tag; TAG_RECORDS], first: usize, ways: usize) -> Preview
+    ensures { λ r. ⌜ previewGiven r ≡ cond (inTable first ways && ltb 0 ways) (previewIn tags first ways) noPreview ⌝ }
+{
+    if !in_table(first, ways) {
+        return NO_PREVIEW;
+    }
+    if ways == 0 {
+        return NO_PREVIEW;
+    }
+    let v = victim(tags, first, ways);
+    let old = tags[v];
+    Preview {
+        way: (v - first) as u32,
+        evicted: evicted_line(old),
+        words: old.dirty,
+        ages: ages_after(tags, first, ways, v),
+    }
 }
 
 // ---- changes of records

@@ -15,7 +15,7 @@ use Rattle.rules.specs.declared.LoadEntry.{LoadEntry}
 use Rattle.rules.specs.Shape.{Queues, Hierarchy, World}
 use Rattle.rules.specs.Forward.{loadValue}
 use Rattle.rules.specs.Checkpoints.{numberOf, addCheckpoint, forgetUpTo, forgetFrom}
-use Rattle.rules.specs.Calls.{Call, Answer, Outcome, load, store, retry, commit, abort, idle, reply, flush, show, checkpoint, restore, isAccepted, callChecks, nextNumber, squash, loadRule, storeRule, answerLoad, retryWith, retryRule, commitRule, abortRule, checkpointRule, restoreRule, canDrain, canRequestLoad, canRequestStore, idleRule, replyRule, flushRule, showRule, rule}
+use Rattle.rules.specs.Calls.{Call, Answer, Outcome, load, store, retry, commit, abort, idle, reply, flush, show, checkpoint, restore, preview, isAccepted, callChecks, nextNumber, squash, loadRule, storeRule, answerLoad, retryWith, retryRule, commitRule, abortRule, checkpointRule, restoreRule, canDrain, canRequestLoad, canRequestStore, idleRule, replyRule, flushRule, showRule, rule, previewRule}
 use Rattle.rules.specs.Runs.{outcome, answer, next}
 use Rattle.rules.specs.Kept.{Formed}
 use Rattle.rules.specs.CheckpointClaims.{checkpointsOf, committedCheckpoints, lowered, changesCheckpoints, SetsExactly, ReturnsExactly, AbortsExactly, CommitsExactly, CheckpointsStay, CheckpointsRanked}
@@ -121,7 +121,7 @@ module _ (q : Queues) (b : Hierarchy) where
       (λ e. either Stay (canRequestStore q b) (λ e. refl) (λ e. refl)))
 
   rule-stays : (c : Call) → changesCheckpoints c ≡ false → Stay (rule c q b)
-  unfolding loadRule storeRule retryRule replyRule flushRule showRule
+  unfolding loadRule storeRule retryRule replyRule flushRule showRule previewRule
   rule-stays (load a w) n = refl
   rule-stays (store a w v) n = refl
   rule-stays (retry i) n = retry-stays i (tried i q) (loadValue i (tried i q .address) (tried i q .width) (q .stores) b)
@@ -133,6 +133,7 @@ module _ (q : Queues) (b : Hierarchy) where
   rule-stays (show a) n = refl
   rule-stays (checkpoint x) n = wrong refl n
   rule-stays (restore x) n = wrong refl n
+  rule-stays preview n = refl
 
 -- so every other call does
 pub marks-stay : (c : Call) (w : World) → CheckpointsStay c w

@@ -15,7 +15,7 @@ use Rattle.rules.specs.declared.Lookup.the-variants.{Hit, Pending, Miss}
 use Rattle.rules.specs.Shape.{Queues, Hierarchy, World, fits, noLoad, lineOf}
 use Rattle.rules.specs.Lines.{present, lookup}
 use Rattle.rules.specs.Forward.{loadValue}
-use Rattle.rules.specs.Calls.{Call, Answer, Outcome, Check, load, store, retry, commit, abort, idle, reply, flush, show, refused, waits, waitsRequested, isAccepted, unchanged, emptyPart, guarded, passes, earlyChecks, callChecks, rule, waitAnswer, loadAnswer, loadRule, storeRule, answerLoad, retryWith, retryRule, commitRule, abortRule, canDrain, canRequestLoad, canRequestStore, idleRule, replyRule, flushRule, showRule, waitingAt, nextNumber, checkpoint, restore, checkpointRule, restoreRule}
+use Rattle.rules.specs.Calls.{Call, Answer, Outcome, Check, load, store, retry, commit, abort, idle, reply, flush, show, refused, waits, waitsRequested, isAccepted, unchanged, emptyPart, guarded, passes, earlyChecks, callChecks, rule, waitAnswer, loadAnswer, loadRule, storeRule, answerLoad, retryWith, retryRule, commitRule, abortRule, canDrain, canRequestLoad, canRequestStore, idleRule, replyRule, flushRule, showRule, waitingAt, nextNumber, checkpoint, restore, preview, checkpointRule, restoreRule, previewRule}
 use Rattle.rules.specs.WellFormed.{wellFormed}
 use Rattle.rules.specs.Runs.{formedCheck, namesRefusal, refusal, outcome, answer, next}
 use Rattle.rules.specs.Kept.{Formed}
@@ -143,6 +143,7 @@ refusal-by P r h flush k = r flush k
 refusal-by P r h (show a) k = h a
 refusal-by P r h (checkpoint x) k = r (checkpoint x) k
 refusal-by P r h (restore x) k = r (restore x) k
+refusal-by P r h preview k = r preview k
 
 -- ---- a load that waits answers one of two words
 
@@ -174,7 +175,7 @@ module _ (q : Queues) (b : Hierarchy) where
       (λ e. either Accepts (canRequestStore q b) (λ e. refl) (λ e. refl)))
 
   pub rule-accepts : (c : Call) → isAccepted (rule c q b .answer) ≡ true
-  unfolding loadRule storeRule retryRule commitRule abortRule checkpointRule restoreRule replyRule flushRule showRule
+  unfolding loadRule storeRule retryRule commitRule abortRule checkpointRule restoreRule replyRule flushRule showRule previewRule
   rule-accepts (load a w) = load-accepts (nextNumber q) (lookup (q .request) b (lineOf a)) (loadValue (nextNumber q) a w (q .stores) b)
   rule-accepts (store a w v) = refl
   rule-accepts (retry i) =
@@ -189,6 +190,7 @@ module _ (q : Queues) (b : Hierarchy) where
       either (λ (r : Answer). isAccepted r ≡ true) (ltb a (b .size) && present b (lineOf a)) (λ e. refl) (λ e. refl)
   rule-accepts (checkpoint x) = refl
   rule-accepts (restore x) = refl
+  rule-accepts preview = refl
 
 -- ---- an accepted call
 

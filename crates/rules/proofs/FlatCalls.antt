@@ -22,7 +22,7 @@ use Rattle.rules.specs.Shape.{Queues, Hierarchy, World, world, noStore, 
 use Rattle.rules.specs.Lines.{fillLine}
 use Rattle.rules.specs.Forward.{loadValue}
 use Rattle.rules.specs.Checkpoints.{numberOf, forgetAbove, forgetFrom}
-use Rattle.rules.specs.Calls.{Call, Answer, Outcome, load, store, retry, commit, abort, idle, reply, flush, show, checkpoint, restore, isAccepted, passes, callChecks, waitingAt, nextNumber, loadRule, storeRule, answerLoad, retryWith, retryRule, usesLineBy, commitRule, squash, abortRule, checkpointRule, restoreRule, waitsBelow, oldestStore, storeReady, canDrain, drainOldest, canRequestLoad, canRequestStore, idleRule, replyRule, flushRule, showRule, rule}
+use Rattle.rules.specs.Calls.{Call, Answer, Outcome, load, store, retry, commit, abort, idle, reply, flush, show, checkpoint, restore, preview, isAccepted, passes, callChecks, waitingAt, nextNumber, loadRule, storeRule, answerLoad, retryWith, retryRule, usesLineBy, commitRule, squash, abortRule, checkpointRule, restoreRule, waitsBelow, oldestStore, storeReady, canDrain, drainOldest, canRequestLoad, canRequestStore, idleRule, replyRule, flushRule, showRule, rule, previewRule}
 use Rattle.rules.specs.WellFormed.{alone, wellFormed}
 use Rattle.rules.specs.Runs.{refusal, outcome, answer, next}
 use Rattle.rules.specs.Flat.{numberIn, flatOf, appliedAll, heldStore, below, upTo}
@@ -50,6 +50,7 @@ storesAfter flush r i ss = ss
 storesAfter (show a) r i ss = ss
 storesAfter (checkpoint x) r i ss = ss
 storesAfter (restore x) r i ss = filter (below (numberIn r + 1)) ss
+storesAfter preview r i ss = ss
 
 -- the load does not wait, or is younger than each of the stores
 abbrev pub clear : List StoreEntry → LoadEntry → Bool
@@ -173,7 +174,7 @@ module _ (q : Queues) (b : Hierarchy) (wf : wellFormed q b ≡ true) where
       go (Line l) h f = let t = request-absent q b wf l h in flat-fill b (p .fit) (p .lines) l (t .0) (t .1)
 
   pub rule-moved : (c : Call) → passes (callChecks c q b) ≡ true → Moved c q b (rule c q b)
-  unfolding loadRule retryRule commitRule flushRule showRule checkpointRule
+  unfolding loadRule retryRule commitRule flushRule showRule previewRule checkpointRule
   rule-moved (load a w) e = unmoved (load a w) _ refl refl
   rule-moved (store a w v) e = store-moved a w v e
   rule-moved (retry i) e =
@@ -187,6 +188,7 @@ module _ (q : Queues) (b : Hierarchy) (wf : wellFormed q b ≡ true) where
   rule-moved (show a) e = unmoved (show a) _ refl refl
   rule-moved (checkpoint x) e = unmoved (checkpoint x) _ refl refl
   rule-moved (restore x) e = restore-moved x e
+  rule-moved preview e = unmoved preview _ refl refl
 
 -- ---- flat memory with the held stores on top
 
@@ -244,3 +246,4 @@ flat-call flush w e = top-outcome (w .queues) (w .hierarchy) flush e
 flat-call (show a) w e = top-outcome (w .queues) (w .hierarchy) (show a) e
 flat-call (checkpoint x) w e = top-outcome (w .queues) (w .hierarchy) (checkpoint x) e
 flat-call (restore x) w e = restore-outcome (w .queues) (w .hierarchy) x e
+flat-call preview w e = top-outcome (w .queues) (w .hierarchy) preview e

@@ -31,7 +31,7 @@ use Rattle.rules.proofs.LineRules.{LinesKept, kept-refl, kept-then, kep
 -- ---- reading flat memory
 
 -- the byte of a valid line
-flat-here :
+pub flat-here :
     (b : Hierarchy) → Lines b → (k a : ℕ) → tagAt (b .tags) k .valid ≡ true → tagAt (b .tags) k .line ≡ lineOf a
     → flatByte b a ≡ getD (b .cache) (16 * k + a % 16) 0
 unfolding flatByte placeOf

@@ -20,7 +20,7 @@ use Rattle.rules.specs.declared.Lookup.{Lookup}
 use Rattle.rules.specs.Shape.{Queues, Hierarchy, World, world, noLoad, isFreeLoad, lineOf}
 use Rattle.rules.specs.Lines.{lookup}
 use Rattle.rules.specs.Forward.{loadValue, someUncovered, allForwarded}
-use Rattle.rules.specs.Calls.{Call, Outcome, load, store, retry, commit, abort, idle, reply, flush, show, checkpoint, restore, value, isAccepted, passes, callChecks, nextNumber, withLoads, isNone, loadAnswer, answered, answeredBy, usesLineBy, useEach, waitingAt, loadRule, commitRule, rule, storeRule, idleRule, replyRule, flushRule, retryWith, retryRule, showRule, answerLoad, checkpointRule, canDrain, canRequestLoad, canRequestStore}
+use Rattle.rules.specs.Calls.{Call, Outcome, load, store, retry, commit, abort, idle, reply, flush, show, checkpoint, restore, preview, value, isAccepted, passes, callChecks, nextNumber, withLoads, isNone, loadAnswer, answered, answeredBy, usesLineBy, useEach, waitingAt, loadRule, commitRule, rule, storeRule, idleRule, replyRule, flushRule, retryWith, retryRule, showRule, answerLoad, checkpointRule, canDrain, canRequestLoad, canRequestStore, previewRule}
 use Rattle.rules.specs.WellFormed.{waitsFor, forwardedAnsweredAt, wellFormed}
 use Rattle.rules.specs.Runs.{answer, next, outcome}
 use Rattle.rules.specs.Flat.{numberIn}
@@ -158,6 +158,7 @@ module _ (i : ℕ) (from : 0 < i) (q : Queues) (b : Hierarchy) (wf : wellFormed 
   joins (show a) r other = tt
   joins (checkpoint x) r other = tt
   joins (restore x) r other = tt
+  joins preview r other = tt
 
   -- what every load numbered i passes, also once it is answered, the one that is listed after the rule passes
   found-after :
@@ -196,7 +197,7 @@ module _ (q : Queues) (b : Hierarchy) where
   SameLoads o = o .queues .loads ≡ q .loads
 
   rule-keeps : (c : Call) → changesLoads c ≡ false → SameLoads (rule c q b)
-  unfolding storeRule idleRule replyRule flushRule showRule checkpointRule
+  unfolding storeRule idleRule replyRule flushRule showRule previewRule checkpointRule
   rule-keeps (load a n) e = wrong refl e
   rule-keeps (store a n v) e = refl
   rule-keeps (retry i) e = wrong refl e
@@ -210,6 +211,7 @@ module _ (q : Queues) (b : Hierarchy) where
   rule-keeps (show a) e = refl
   rule-keeps (checkpoint x) e = refl
   rule-keeps (restore x) e = wrong refl e
+  rule-keeps preview e = refl
 
 pub loads-stay : (c : Call) (w : World) → LoadsStay c w
 unfolding next

@@ -21,7 +21,7 @@ use Rattle.rules.specs.Shape.{Queues, Hierarchy, World, world, noLoad, i
 use Rattle.rules.specs.Lines.{lookup}
 use Rattle.rules.specs.Forward.{loadValue}
 use Rattle.rules.specs.Checkpoints.{numberOf}
-use Rattle.rules.specs.Calls.{Call, Answer, Outcome, load, store, retry, commit, abort, idle, reply, flush, show, checkpoint, restore, isAccepted, passes, callChecks, waitingAt, nextNumber, loadAnswer, answered, loadRule, storeRule, answerLoad, retryWith, retryRule, answeredBy, commitRule, squash, abortRule, checkpointRule, restoreRule, canDrain, canRequestLoad, canRequestStore, idleRule, replyRule, flushRule, showRule, rule}
+use Rattle.rules.specs.Calls.{Call, Answer, Outcome, load, store, retry, commit, abort, idle, reply, flush, show, checkpoint, restore, preview, isAccepted, passes, callChecks, waitingAt, nextNumber, loadAnswer, answered, loadRule, storeRule, answerLoad, retryWith, retryRule, answeredBy, commitRule, squash, abortRule, checkpointRule, restoreRule, canDrain, canRequestLoad, canRequestStore, idleRule, replyRule, flushRule, showRule, rule, previewRule}
 use Rattle.rules.specs.WellFormed.{wellFormed}
 use Rattle.rules.specs.Runs.{refusal, answer, next, answers, after, started}
 use Rattle.rules.specs.Numbers.{numberAfter}
@@ -85,6 +85,7 @@ module _ (q : Queues) (b : Hierarchy) where
   rule-stores h (show a) = refl
   rule-stores h (checkpoint x) = refl
   rule-stores h (restore x) = refl
+  rule-stores h preview = refl
 
   -- of the drained stores and the held ones, the held ones change
   stores-parted :
@@ -108,6 +109,7 @@ module _ (q : Queues) (b : Hierarchy) where
       let behind = stands-behind x n (world q b) (in-force x q b wf (restore-checked q b x e)) in
       filter-append (below (n - 1 + 1)) ss ts
       ∙ ap (λ (r : List StoreEntry). r ++ filter (below (n - 1 + 1)) ts) (filter-all (below (n - 1 + 1)) ss (up-below (q .committed) (n - 1 + 1) (omega (arith, behind)) ss s))
+  stores-parted wf preview e ss ts s = refl
 
   -- the last number
   stores-bounded :
@@ -127,6 +129,7 @@ module _ (q : Queues) (b : Hierarchy) where
   stores-bounded (checkpoint x) r m e ss s = up-weaken (q .last) m (omega arith) ss s
   stores-bounded (restore x) r m e ss s =
       every-filter (below (numberIn r + 1)) (upTo m) (λ y t. le-leb (y .number) m (omega (arith, ltb-true (y .number) (numberIn r + 1) t))) ss
+  stores-bounded preview r m e ss s = up-weaken (q .last) m (omega arith) ss s
 
   stores-ordered :
       (c : Call) (r : Answer) (ss : List StoreEntry) → every (upTo (q .last)) ss ≡ true → increasing (λ s. s .number) 0 ss ≡ true
@@ -142,6 +145,7 @@ module _ (q : Queues) (b : Hierarchy) where
   stores-ordered (show a) r ss s g = g
   stores-ordered (checkpoint x) r ss s g = g
   stores-ordered (restore x) r ss s g = increase-filter (λ s. s .number) (below (numberIn r + 1)) 0 ss g
+  stores-ordered preview r ss s g = g
 
   -- h does not fall, and is the history's
   record Marked (h : History) (c : Call) (o : Outcome) : Type 0 where
@@ -155,7 +159,7 @@ module _ (q : Queues) (b : Hierarchy) where
       either (Marked h (retry i)) (leb i (q .committed)) (λ t. record { rises = omega arith; marks = e }) (λ t. record { rises = omega arith; marks = e })
 
   rule-marked : (h : History) → h .committed ≡ q .committed → (c : Call) → passes (callChecks c q b) ≡ true → Marked h c (rule c q b)
-  unfolding added loadRule storeRule retryRule commitRule abortRule squash checkpointRule restoreRule idleRule replyRule flushRule showRule
+  unfolding added loadRule storeRule retryRule commitRule abortRule squash checkpointRule restoreRule idleRule replyRule flushRule showRule previewRule
   rule-marked h e (load a w) p = record { rises = omega arith; marks = e }
   rule-marked h e (store a w v) p = record { rises = omega arith; marks = e }
   rule-marked h e (retry i) p =
@@ -172,6 +176,7 @@ module _ (q : Queues) (b : Hierarchy) where
   rule-marked h e (show a) p = record { rises = omega arith; marks = e }
   rule-marked h e (checkpoint x) p = record { rises = omega arith; marks = e }
   rule-marked h e (restore x) p = record { rises = omega arith; marks = e }
+  rule-marked h e preview p = record { rises = omega arith; marks = e }
 
   -- ---- the loads
 
@@ -188,6 +193,7 @@ module _ (q : Queues) (b : Hierarchy) where
   Joins (show a) r = Unit {0}
   Joins (checkpoint x) r = Unit {0}
   Joins (restore x) r = Unit {0}
+  Joins preview r = Unit {0}
 
   -- a test that free places pass, and loads that are marked answered
   module _ (r : LoadEntry → Bool) (free : r noLoad ≡ true) (marks : (l : LoadEntry) → r l ≡ true → r (answered l) ≡ true) where
@@ -202,7 +208,7 @@ module _ (q : Queues) (b : Hierarchy) where
         (λ e. every-changed r r (waitingAt i) answered (λ x u t. marks x u) (λ x u t. u) (q .loads) g)
 
     pub rule-loads : (c : Call) → Joins c r → every r (q .loads) ≡ true → Passes (rule c q b)
-    unfolding loadRule storeRule retryRule commitRule abortRule squash checkpointRule restoreRule idleRule replyRule flushRule showRule
+    unfolding loadRule storeRule retryRule commitRule abortRule squash checkpointRule restoreRule idleRule replyRule flushRule showRule previewRule
     rule-loads (load a w) j g = every-placed r isFreeLoad _ (q .loads) (j _ _) g
     rule-loads (store a w v) j g = g
     rule-loads (retry i) j g =
@@ -219,6 +225,7 @@ module _ (q : Queues) (b : Hierarchy) where
     rule-loads (checkpoint x) j g = g
     rule-loads (restore x) j g =
         every-changed r r (λ l. leb (numberOf x (q .checkpoints)) (l .number)) (λ l. noLoad) (λ y u t. free) (λ y u t. u) (q .loads) g
+    rule-loads preview j g = g
 
   -- each new load is younger than the drained stores
   clear-joins : (c : Call) (ss : List StoreEntry) → every (below (nextNumber q)) ss ≡ true → Joins c (clear ss)
@@ -233,6 +240,7 @@ module _ (q : Queues) (b : Hierarchy) where
   clear-joins (show a) ss s = tt
   clear-joins (checkpoint x) ss s = tt
   clear-joins (restore x) ss s = tt
+  clear-joins preview ss s = tt
 
   module _ (h : History) where
     -- the number that a load's answer names is the load's
@@ -257,6 +265,7 @@ module _ (q : Queues) (b : Hierarchy) where
     new-joins (show a) = tt
     new-joins (checkpoint x) = tt
     new-joins (restore x) = tt
+    new-joins preview = tt
 
     -- and still has the others
     still-remembered : (c : Call) (l : LoadEntry) → l .number ≤ q .last → remembered h l ≡ true → remembered (added c (rule c q b .answer) h) l ≡ true
@@ -274,6 +283,7 @@ module _ (q : Queues) (b : Hierarchy) where
     still-remembered (show a) l low r = r
     still-remembered (checkpoint x) l low r = r
     still-remembered (restore x) l low r = r
+    still-remembered preview l low r = r
 
 -- ---- a call
 

@@ -21,7 +21,7 @@ use Rattle.rules.specs.Shape.{Queues, Hierarchy, World, noLoad, isFree, 
 use Rattle.rules.specs.Lines.{present, fillLine}
 use Rattle.rules.specs.Forward.{loadValue, someUncovered, allForwarded}
 use Rattle.rules.specs.Checkpoints.{numberOf, forgetAbove}
-use Rattle.rules.specs.Calls.{Call, Outcome, load, store, retry, commit, abort, idle, reply, flush, show, checkpoint, restore, refused, isAccepted, unchanged, passes, accessChecks, callChecks, isNone, nextNumber, withRequest, loadRule, storeRule, answerLoad, retryWith, retryRule, usesLineBy, useEach, commitRule, abortRule, checkpointRule, restoreRule, oldestStore, storeReady, canDrain, wantsLine, canRequestLoad, lowestWanting, canRequestStore, idleRule, replyRule, flushRule, showRule, rule}
+use Rattle.rules.specs.Calls.{Call, Outcome, load, store, retry, commit, abort, idle, reply, flush, show, checkpoint, restore, preview, refused, isAccepted, unchanged, passes, accessChecks, callChecks, isNone, nextNumber, withRequest, loadRule, storeRule, answerLoad, retryWith, retryRule, usesLineBy, useEach, commitRule, abortRule, checkpointRule, restoreRule, oldestStore, storeReady, canDrain, wantsLine, canRequestLoad, lowestWanting, canRequestStore, idleRule, replyRule, flushRule, showRule, rule, previewRule}
 use Rattle.rules.specs.WellFormed.{freeStoreZero, freeLoadZero, storePasses, loadPasses, committedWaitAt, waitingUncoveredAt, forwardedAnsweredAt, alone, requestAbsent, requestInside, requestWanted, waitsFor, wellFormed, freeCheckpointZero, placedAt, nameFits, namesDistinct, ranksFrom, checkpointsFormed}
 use Rattle.rules.specs.Runs.{refusal, outcome, answer, next, after, started, startAllowed, startAnswer, startWorld, ready, startRefused}
 use Rattle.rules.specs.Kept.{Formed, StartFormed, NextKept, RunKept, ownOutcome, Admitted, AdmittedAfterStart}
@@ -201,6 +201,7 @@ module _ (q : Queues) (b : Hierarchy) (wf : wellFormed q b ≡ true) where
   rule-formed (show a) e = unfold showRule in wf
   rule-formed (checkpoint x) e = checkpoint-formed x e
   rule-formed (restore x) e = restore-formed x e
+  rule-formed preview e = unfold previewRule in wf
 
 -- ---- a call, and a run
 
@@ -269,6 +270,7 @@ own-numbers flush q b = refl
 own-numbers (show a) q b = refl
 own-numbers (checkpoint x) q b = refl
 own-numbers (restore x) q b = refl
+own-numbers preview q b = refl
 
 pub admitted : (c : Call) (w : World) → Formed w → Admitted c w
 unfolding answer

@@ -2,6 +2,7 @@ pub mod ByComputing
 pub mod ByComputingCheckpoints
 pub mod ByComputingForwarding
 pub mod ByComputingLookup
+pub mod ByComputingPreview
 pub mod Checks
 pub mod Numbers
 pub mod Records
@@ -36,3 +37,4 @@ pub mod Values
 pub mod Flush
 pub mod Words
 pub mod ForwardingClaims
+pub mod PreviewClaims

@@ -26,6 +26,7 @@ pub use Rattle.rules.proofs.Records.{set-room}
 pub record Fits (b : Hierarchy) : Type 0 where
   pub some-set : 0 < b .figures .sets
   pub some-way : 0 < b .figures .ways
+  pub most-ways : b .figures .ways ≤ 4
   pub room : slots b ≤ 256
   pub by-lines : b .size % 16 ≡ 0
   pub memory-long : length (b .memory) ≡ b .size
@@ -88,6 +89,7 @@ fits-tells b e =
     record {
       some-set = sets .0;
       some-way = leb-true 1 (b .figures .ways) (and-left _ _ ways);
+      most-ways = leb-true (b .figures .ways) 4 (and-right (leb 1 (b .figures .ways)) _ ways);
       room = mul-le-mul (sets .1) (leb-true (b .figures .ways) 4 (and-right (leb 1 (b .figures .ways)) _ ways));
       by-lines = eqb-true (b .size % 16) 0 (and-left _ _ size);
       memory-long = eqb-true (length (b .memory)) (b .size) (and-left _ _ lengths);

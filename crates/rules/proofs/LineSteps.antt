@@ -246,7 +246,7 @@ module _ (b : Hierarchy) (fit : Fits b) (g : Good b) (v : ℕ) (s : StoreEntry) 
 -- ---- a line goes to memory
 
 module _ (t : Tag) (cache : List ℕ) (v a x : ℕ) where
-  saved-hit : dirtyAt t (a % 16) ≡ true → lineOf a ≡ t .line → writtenBackAt t cache v a x ≡ getD cache (16 * v + a % 16) 0
+  pub saved-hit : dirtyAt t (a % 16) ≡ true → lineOf a ≡ t .line → writtenBackAt t cache v a x ≡ getD cache (16 * v + a % 16) 0
   unfolding writtenBackAt
   saved-hit d e = rw (d, eq-eqb _ _ e)
 

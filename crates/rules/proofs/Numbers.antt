@@ -13,7 +13,7 @@ use Rattle.rules.specs.declared.Figures.{Figures}
 use Rattle.rules.specs.declared.LoadEntry.{LoadEntry}
 use Rattle.rules.specs.Shape.{Queues, Hierarchy, World, noLoad}
 use Rattle.rules.specs.Forward.{loadValue}
-use Rattle.rules.specs.Calls.{Call, Outcome, load, store, retry, commit, abort, idle, reply, flush, show, checkpoint, restore, isAccepted, passes, callChecks, rule, nextNumber, waitingAt, loadRule, storeRule, answerLoad, retryWith, retryRule, commitRule, squash, abortRule, checkpointRule, restoreRule, canDrain, canRequestLoad, canRequestStore, idleRule, replyRule, flushRule, showRule}
+use Rattle.rules.specs.Calls.{Call, Outcome, load, store, retry, commit, abort, idle, reply, flush, show, checkpoint, restore, preview, isAccepted, passes, callChecks, rule, nextNumber, waitingAt, loadRule, storeRule, answerLoad, retryWith, retryRule, commitRule, squash, abortRule, checkpointRule, restoreRule, canDrain, canRequestLoad, canRequestStore, idleRule, replyRule, flushRule, showRule, previewRule}
 use Rattle.rules.specs.Runs.{started, unstarted, startAllowed, startWorld, refusal, answer, next}
 use Rattle.rules.specs.Numbers.{numberAfter, FirstNumber, NextNumber}
 use Rattle.rules.proofs.Checks.{refusal-by, outcome-by}
@@ -33,7 +33,7 @@ module _ (q : Queues) (b : Hierarchy) where
   retry-same i l (some v) = either Same (leb i (q .committed)) (λ e. refl) (λ e. refl)
 
   pub rule-number : (c : Call) → passes (callChecks c q b) ≡ true → nextNumber (rule c q b .queues) ≡ numberAfter c (rule c q b .answer) (nextNumber q)
-  unfolding loadRule storeRule retryRule commitRule abortRule squash checkpointRule restoreRule idleRule replyRule flushRule showRule every
+  unfolding loadRule storeRule retryRule commitRule abortRule squash checkpointRule restoreRule idleRule replyRule flushRule showRule previewRule every
   rule-number (load a w) p = refl
   rule-number (store a w v) p = refl
   rule-number (retry i) p =
@@ -53,6 +53,7 @@ module _ (q : Queues) (b : Hierarchy) where
   rule-number (show a) p = refl
   rule-number (checkpoint x) p = refl
   rule-number (restore x) p = refl
+  rule-number preview p = refl
 
 -- the empty part is no refusal, and changes no number
 refusal-number : (c : Call) (k : ℕ) (q : Queues) → isAccepted (refusal c k) ≡ true → nextNumber q ≡ numberAfter c (refusal c k) (nextNumber q)

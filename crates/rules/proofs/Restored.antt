@@ -21,7 +21,7 @@ use Rattle.rules.specs.declared.Checkpoint.{Checkpoint}
 use Rattle.rules.specs.Shape.{Queues, Hierarchy, World, world, noLoad, noCheckpoint, isFreeCheckpoint}
 use Rattle.rules.specs.Forward.{loadValue}
 use Rattle.rules.specs.Checkpoints.{named, inUse, numberOf, rankAt, addCheckpoint, above, forgetAbove, atMost, forgetUpTo, forgetFrom}
-use Rattle.rules.specs.Calls.{Call, Answer, Outcome, load, store, retry, commit, abort, idle, reply, flush, show, checkpoint, restore, kept, checkpointed, isAccepted, nextNumber, waitingAt, loadRule, storeRule, answerLoad, retryWith, retryRule, commitRule, squash, abortRule, checkpointRule, restoreRule, canDrain, canRequestLoad, canRequestStore, idleRule, replyRule, flushRule, showRule, rule}
+use Rattle.rules.specs.Calls.{Call, Answer, Outcome, load, store, retry, commit, abort, idle, reply, flush, show, checkpoint, restore, preview, kept, checkpointed, isAccepted, nextNumber, waitingAt, loadRule, storeRule, answerLoad, retryWith, retryRule, commitRule, squash, abortRule, checkpointRule, restoreRule, canDrain, canRequestLoad, canRequestStore, idleRule, replyRule, flushRule, showRule, rule, previewRule}
 use Rattle.rules.specs.WellFormed.{wellFormed}
 use Rattle.rules.specs.Runs.{outcome, answer, next, after, startWorld}
 use Rattle.rules.specs.Numbers.{numberAfter}
@@ -56,7 +56,7 @@ module _ (x : ℕ) (r : Checkpoint → Bool) (others : (c : Checkpoint) → name
     other-name y i e = cases (eqb i 0) (λ f. rw f) (λ f. rw (f, e))
 
     rule-kept : (c : Call) → setsCheckpoint x c ≡ false → Kept (rule c q b)
-    unfolding loadRule storeRule retryRule commitRule forgetUpTo abortRule squash forgetAbove idleRule replyRule flushRule showRule checkpointRule addCheckpoint restoreRule forgetFrom
+    unfolding loadRule storeRule retryRule commitRule forgetUpTo abortRule squash forgetAbove idleRule replyRule flushRule showRule previewRule checkpointRule addCheckpoint restoreRule forgetFrom
     rule-kept (load a w) s = g
     rule-kept (store a w v) s = g
     rule-kept (retry i) s =
@@ -72,6 +72,7 @@ module _ (x : ℕ) (r : Checkpoint → Bool) (others : (c : Checkpoint) → name
     rule-kept (show a) s = g
     rule-kept (checkpoint y) s = every-each rankAt r r unranked 0 _ (every-placed r isFreeCheckpoint _ (q .checkpoints) (others _ (other-name y (nextNumber q) s)) g)
     rule-kept (restore y) s = every-cut (named y) noCheckpoint r hollow (q .checkpoints) g
+    rule-kept preview s = g
 
   next-keeps : (c : Call) (w : World) → (setsCheckpoint x c ≡ true → isAccepted (answer c w) ≡ false) → every r (w .queues .checkpoints) ≡ true → every r (next c w .queues .checkpoints) ≡ true
   unfolding next answer
@@ -112,6 +113,7 @@ lower-number n flush r i t = absurd (false≢true t)
 lower-number n (show a) r i t = absurd (false≢true t)
 lower-number n (checkpoint x) r i t = absurd (false≢true t)
 lower-number n (restore x) r i t = absurd (false≢true t)
+lower-number n preview r i t = absurd (false≢true t)
 
 module _ (x n : ℕ) where
   -- ---- one call, between two worlds where the mark is in force
@@ -181,6 +183,7 @@ module _ (x n : ℕ) where
         outcome-by (restore y) q b (λ o. inUse x (o .queues .checkpoints) ≡ true → n ≤ nextNumber (o .queues) → Hidden (forgetFrom x) n q b o)
         (λ k u l. record { same-queues = refl; same-hierarchy = refl })
         (λ fit wf p u l. return-hidden y (restore-checked q b y p) u l)
+    mark-hidden preview t = absurd (false≢true t)
 
   -- ---- the calls between the setting and the return
 

@@ -15,7 +15,7 @@ use Rattle.lists.proofs.Sweep.{Untouched, sweep-any, sweep-first, sweep-final, 
 use Rattle.rules.specs.declared.LoadEntry.{LoadEntry}
 use Rattle.rules.specs.Shape.{Queues, Hierarchy, noStore, noLoad, isFreeStore, isFreeLoad, isFree, writesThrough}
 use Rattle.rules.specs.Forward.{olderCovers, loadByte, loadValue}
-use Rattle.rules.specs.Calls.{Outcome, committedStore, waitingAt, answeredBy, usesLineBy, waitsBelow, wantsLine, youngStore, youngLoad, squash, answered, answerLoad, retryWith, retryRule, commitRule, oldestStore, storeReady, canDrain, storeNeedsLine, canRequestStore, idleRule, replyRule, flushRule, showRule}
+use Rattle.rules.specs.Calls.{Outcome, committedStore, waitingAt, answeredBy, usesLineBy, waitsBelow, wantsLine, youngStore, youngLoad, squash, answered, answerLoad, retryWith, retryRule, commitRule, oldestStore, storeReady, canDrain, storeNeedsLine, canRequestStore, idleRule, replyRule, flushRule, showRule, previewRule}
 use Rattle.rules.specs.declared.Checkpoint.{Checkpoint}
 use Rattle.rules.specs.Checkpoints.{forgetUpTo}
 
@@ -98,6 +98,11 @@ module _ (forget : List Checkpoint → List Checkpoint) (n : ℕ) (q : Queues) (
   pub show-squash : (a : ℕ) → showRule a (squash forget n q) b ≡ squashedOutcome forget n (showRule a q b)
   unfolding showRule
   show-squash a = refl
+
+  -- a preview looks at the register and the lines alone
+  pub preview-squash : previewRule (squash forget n q) b ≡ squashedOutcome forget n (previewRule q b)
+  unfolding previewRule squash
+  preview-squash = refl
 
   -- ---- inquiry
 

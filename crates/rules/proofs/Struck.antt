@@ -16,7 +16,7 @@ use Rattle.rules.specs.declared.LoadEntry.{LoadEntry}
 use Rattle.rules.specs.declared.Checkpoint.{Checkpoint}
 use Rattle.rules.specs.Shape.{Queues, Hierarchy, noStore, noLoad, isFreeStore, isFreeLoad, fits}
 use Rattle.rules.specs.Forward.{loadValue}
-use Rattle.rules.specs.Calls.{Call, Answer, Outcome, Check, load, store, retry, commit, abort, idle, reply, flush, show, isAccepted, unchanged, check, guarded, passes, earlyChecks, callChecks, waitingAt, youngStore, youngLoad, squash, answered, answerLoad, retryWith, retryRule, loadRule, storeRule, commitRule, abortRule, canDrain, canRequestLoad, canRequestStore, idleRule, replyRule, flushRule, showRule, rule, checkpoint, restore}
+use Rattle.rules.specs.Calls.{Call, Answer, Outcome, Check, load, store, retry, commit, abort, idle, reply, flush, show, isAccepted, unchanged, check, guarded, passes, earlyChecks, callChecks, waitingAt, youngStore, youngLoad, squash, answered, answerLoad, retryWith, retryRule, loadRule, storeRule, commitRule, abortRule, canDrain, canRequestLoad, canRequestStore, idleRule, replyRule, flushRule, showRule, rule, checkpoint, restore, preview, previewRule}
 use Rattle.rules.specs.WellFormed.{wellFormed}
 use Rattle.rules.specs.Runs.{refusal, outcome}
 use Rattle.rules.specs.Dropped.{struck, abortsBelow, isCheckpointCall}
@@ -24,7 +24,7 @@ use Rattle.rules.proofs.Checks.{guarded-same, guarded-map, shut, opened
 use Rattle.rules.proofs.QueueView.{parts, goodStore, goodLoad, free-store, free-load}
 use Rattle.rules.specs.Checkpoints.{forgetAbove}
 use Rattle.rules.proofs.Checkpoints.{Forgets}
-use Rattle.rules.proofs.Squash.{squashedOutcome, n-positive, flush-check, flush-squash, reply-squash, show-squash, retry-check, retry-squash, commit-check, commit-squash, abort-check, idle-squash}
+use Rattle.rules.proofs.Squash.{squashedOutcome, n-positive, flush-check, flush-squash, reply-squash, show-squash, retry-check, retry-squash, commit-check, commit-squash, abort-check, idle-squash, preview-squash}
 
 -- ---- a struck call is hidden
 
@@ -117,6 +117,7 @@ module _ (forget : List Checkpoint → List Checkpoint) (n : ℕ) (q : Queues) (
   rule-hidden (show a) s = absurd (false≢true s)
   rule-hidden (checkpoint x) s = absurd (false≢true s)
   rule-hidden (restore x) s = absurd (false≢true s)
+  rule-hidden preview s = absurd (false≢true s)
 
   pub outcome-hidden : (c : Call) → struck n c ≡ true → Hidden forget n q b (outcome c q b)
   outcome-hidden c s =
@@ -144,7 +145,7 @@ module _ (n : ℕ) (q : Queues) (b : Hierarchy) (low : n ≤ q .last + 1) where
 
   -- an accepted call that is no abort naming less than n, and no return
   rule-steady : (c : Call) → passes (callChecks c q b) ≡ true → isCheckpointCall c ≡ false → abortsBelow n c ≡ false → Steady n q (rule c q b)
-  unfolding loadRule storeRule retryRule commitRule abortRule squash idleRule replyRule flushRule showRule every
+  unfolding loadRule storeRule retryRule commitRule abortRule squash idleRule replyRule flushRule showRule previewRule every
   rule-steady (load a w) p quiet f = record { rises = omega arith; low = omega arith }
   rule-steady (store a w v) p quiet f = record { rises = omega arith; low = omega arith }
   rule-steady (retry i) p quiet f =
@@ -164,6 +165,7 @@ module _ (n : ℕ) (q : Queues) (b : Hierarchy) (low : n ≤ q .last + 1) where
   rule-steady (show a) p quiet f = same refl refl
   rule-steady (checkpoint x) p quiet f = absurd (true≢false quiet)
   rule-steady (restore x) p quiet f = absurd (true≢false quiet)
+  rule-steady preview p quiet f = same refl refl
 
   pub outcome-steady : (c : Call) → isCheckpointCall c ≡ false → Above n c (outcome c q b .answer) → Steady n q (outcome c q b)
   outcome-steady c quiet =
@@ -203,6 +205,7 @@ module _ (n : ℕ) (q : Queues) (b : Hierarchy) (low : n ≤ q .last + 1) where
     checks-squash (show a) s quiet f k = refl
     checks-squash (checkpoint x) s quiet f k = absurd (true≢false quiet)
     checks-squash (restore x) s quiet f k = absurd (true≢false quiet)
+    checks-squash preview s quiet f k = unfold squash in refl
 
     rule-squash :
         (c : Call) → struck n c ≡ false → isCheckpointCall c ≡ false → Above n c (decided c q b .answer) → decided c q b .queues .committed < n → passes (callChecks c q b) ≡ true
@@ -223,6 +226,7 @@ module _ (n : ℕ) (q : Queues) (b : Hierarchy) (low : n ≤ q .last + 1) where
     rule-squash (show a) s quiet f k p = show-squash forget n q b behind a
     rule-squash (checkpoint x) s quiet f k p = absurd (true≢false quiet)
     rule-squash (restore x) s quiet f k p = absurd (true≢false quiet)
+    rule-squash preview s quiet f k p = preview-squash forget n q b behind
 
     decided-squash :
         (c : Call) → struck n c ≡ false → isCheckpointCall c ≡ false → Above n c (decided c q b .answer) → decided c q b .queues .committed < n

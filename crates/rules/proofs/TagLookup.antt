@@ -45,7 +45,7 @@ module _ (b : Hierarchy) (l : ℕ) where
       let least : slotOf b l ≤ firstSlot b l + w = first-least test (b .figures .ways) (firstSlot b l) (firstSlot b l + w) (omega arith) (omega arith) here in
       omega arith
 
-  present-in : present b l ≡ true → PresentIn b l (wayOf b l)
+  pub present-in : present b l ≡ true → PresentIn b l (wayOf b l)
   present-in e =
       let p = present-tells b l e in
       let high : slotOf b l < firstSlot b l + b .figures .ways = p .high in

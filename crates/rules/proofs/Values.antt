@@ -19,7 +19,7 @@ use Rattle.rules.specs.declared.Lookup.{Lookup}
 use Rattle.rules.specs.Shape.{Queues, Hierarchy, World, world, noLoad, isFreeLoad, lineOf}
 use Rattle.rules.specs.Lines.{present, lookup}
 use Rattle.rules.specs.Forward.{lacking}
-use Rattle.rules.specs.Calls.{Call, Answer, Outcome, load, store, retry, commit, abort, idle, reply, flush, show, checkpoint, restore, refused, stored, value, waits, waitsRequested, committed, kept, drained, requested, idled, filled, flushed, shown, checkpointed, isAccepted, passes, callChecks, waitingAt, nextNumber, waitAnswer, storeRule, commitRule, abortRule, checkpointRule, restoreRule, canDrain, canRequestLoad, canRequestStore, idleRule, replyRule, flushRule, showRule, rule}
+use Rattle.rules.specs.Calls.{Call, Answer, Outcome, load, store, retry, commit, abort, idle, reply, flush, show, checkpoint, restore, preview, refused, stored, value, waits, waitsRequested, committed, kept, drained, requested, idled, filled, flushed, shown, checkpointed, previewed, isAccepted, passes, callChecks, waitingAt, nextNumber, waitAnswer, storeRule, commitRule, abortRule, checkpointRule, restoreRule, canDrain, canRequestLoad, canRequestStore, idleRule, replyRule, flushRule, showRule, rule, previewRule}
 use Rattle.rules.specs.WellFormed.{wellFormed}
 use Rattle.rules.specs.Runs.{refusal, answer, after, startWorld}
 use Rattle.rules.specs.Flat.{History, noHistory, below, added, noted, historyOf, loadOf, flatOf, appliedAll, heldStore, flatBefore}
@@ -72,6 +72,7 @@ reads (filled a) = false
 reads (flushed k) = false
 reads (shown p bs) = false
 reads (checkpointed n) = false
+reads (previewed p) = false
 
 refusal-reads : (c : Call) (k : ℕ) → reads (refusal c k) ≡ false
 refusal-reads = refusal-by (λ c r. reads r ≡ false) (λ c k. refl) (λ a. refl)
@@ -152,7 +153,7 @@ module _ (found : List ℕ) (h : History) (q : Queues) (b : Hierarchy) (k : Trac
         })
 
   rule-right : (c : Call) → passes (callChecks c q b) ≡ true → Right c (rule c q b .answer)
-  unfolding storeRule commitRule abortRule checkpointRule restoreRule idleRule replyRule flushRule showRule
+  unfolding storeRule commitRule abortRule checkpointRule restoreRule idleRule replyRule flushRule showRule previewRule
   rule-right (load a n) e = load-right a n e
   rule-right (store a n v) e = no-value (store a n v) _ refl
   rule-right (retry j) e = retry-right j e
@@ -168,6 +169,7 @@ module _ (found : List ℕ) (h : History) (q : Queues) (b : Hierarchy) (k : Trac
       either (Right (show a)) (ltb a (b .size) && present b (lineOf a)) (λ t. no-value (show a) _ refl) (λ t. no-value (show a) _ refl)
   rule-right (checkpoint x) e = no-value (checkpoint x) _ refl
   rule-right (restore x) e = no-value (restore x) _ refl
+  rule-right preview e = no-value preview _ refl
 
 -- ---- runs
 

@@ -23,7 +23,7 @@ use Rattle.rules.specs.declared.Lookup.the-variants.{Pending, Miss}
 use Rattle.rules.specs.Shape.{Queues, Hierarchy, World, names, noLoad, isFreeLoad, lineOf}
 use Rattle.rules.specs.Lines.{present, lookup}
 use Rattle.rules.specs.Forward.{olderCovers, loadValue, lacking}
-use Rattle.rules.specs.Calls.{Call, Answer, Outcome, load, store, retry, commit, abort, idle, reply, flush, show, checkpoint, restore, refused, stored, value, waits, waitsRequested, committed, kept, drained, requested, idled, filled, flushed, shown, checkpointed, isAccepted, rule, storeRule, commitRule, abortRule, canDrain, canRequestLoad, canRequestStore, idleRule, replyRule, flushRule, showRule, checkpointRule, restoreRule, passes, accessChecks, callChecks, nextNumber, waitingAt, isNone, waitAnswer, loadAnswer, loadRule, answerLoad, retryWith, retryRule}
+use Rattle.rules.specs.Calls.{Call, Answer, Outcome, load, store, retry, commit, abort, idle, reply, flush, show, checkpoint, restore, preview, refused, stored, value, waits, waitsRequested, committed, kept, drained, requested, idled, filled, flushed, shown, checkpointed, previewed, isAccepted, rule, storeRule, commitRule, abortRule, canDrain, canRequestLoad, canRequestStore, idleRule, replyRule, flushRule, showRule, checkpointRule, restoreRule, passes, accessChecks, callChecks, nextNumber, waitingAt, isNone, waitAnswer, loadAnswer, loadRule, answerLoad, retryWith, retryRule, previewRule}
 use Rattle.rules.specs.WellFormed.{wellFormed}
 use Rattle.rules.specs.Runs.{answer, next}
 use Rattle.rules.specs.Flat.{numberIn}
@@ -92,6 +92,7 @@ saysWait (filled a) = false
 saysWait (flushed k) = false
 saysWait (shown p bs) = false
 saysWait (checkpointed n) = false
+saysWait (previewed p) = false
 
 wait-says : (j : ℕ) (r : Answer) → isWait j r → saysWait r ≡ true
 wait-says j r = ⊎-elim (λ e. ap saysWait e) (λ e. ap saysWait e)
@@ -264,7 +265,7 @@ module _ (q : Queues) (b : Hierarchy) where
       (λ e. either Silent (canRequestLoad q b) (λ e. refl) (λ e. either Silent (canRequestStore q b) (λ e. refl) (λ e. refl)))
 
   rule-silent : (c : Call) → mayWait c ≡ false → Silent (rule c q b)
-  unfolding storeRule commitRule abortRule replyRule flushRule showRule checkpointRule restoreRule
+  unfolding storeRule commitRule abortRule replyRule flushRule showRule previewRule checkpointRule restoreRule
   rule-silent (load a n) e = wrong refl e
   rule-silent (store a n v) e = refl
   rule-silent (retry i) e = wrong refl e
@@ -277,6 +278,7 @@ module _ (q : Queues) (b : Hierarchy) where
       either (λ (r : Answer). saysWait r ≡ false) (ltb a (b .size) && present b (lineOf a)) (λ t. refl) (λ t. refl)
   rule-silent (checkpoint x) e = refl
   rule-silent (restore x) e = refl
+  rule-silent preview e = refl
 
 pub no-other-waits : (c : Call) (w : World) → NoOtherWaits c w
 unfolding answer

@@ -20,7 +20,7 @@ use Rattle.rules.specs.declared.Lookup.{Lookup}
 use Rattle.rules.specs.Shape.{Queues, Hierarchy, World, lineBytes, lineWords, noTag, requestedLine, lineOf, setOf, slots, tagAt, writesThrough}
 use Rattle.rules.specs.Lines.{slotOf, present, lookup, useSlot, useLine, wordOf, isDirtyWord, dirtyWord, marked, cleaned, putStore, writeStore, writeBackSlot, writeBackAll, victim, install, fillLine}
 use Rattle.rules.specs.Forward.{loadValue}
-use Rattle.rules.specs.Calls.{Call, Answer, Outcome, load, store, retry, commit, abort, idle, reply, flush, show, checkpoint, restore, refused, stored, value, waits, waitsRequested, committed, kept, drained, requested, idled, filled, flushed, shown, checkpointed, nextNumber, loadAnswer, loadRule, storeRule, answerLoad, retryWith, retryRule, usesLineBy, useEach, commitRule, abortRule, checkpointRule, restoreRule, oldestStore, storeReady, canDrain, canRequestLoad, canRequestStore, idleRule, replyRule, flushRule, showRule, rule}
+use Rattle.rules.specs.Calls.{Call, Answer, Outcome, load, store, retry, commit, abort, idle, reply, flush, show, checkpoint, restore, preview, refused, stored, value, waits, waitsRequested, committed, kept, drained, requested, idled, filled, flushed, shown, checkpointed, previewed, nextNumber, loadAnswer, loadRule, storeRule, answerLoad, retryWith, retryRule, usesLineBy, useEach, commitRule, abortRule, checkpointRule, restoreRule, oldestStore, storeReady, canDrain, canRequestLoad, canRequestStore, idleRule, replyRule, flushRule, showRule, rule, previewRule}
 use Rattle.rules.specs.WellFormed.{wellFormed}
 use Rattle.rules.specs.Runs.{outcome, answer, next}
 use Rattle.rules.specs.Words.{MarksExact, Unmarked, MarkedOnly}
@@ -146,6 +146,7 @@ Told b c (filled a) = tagAt (c .tags) (victim b (lineOf a)) .dirty ≡ 0
 Told b c (flushed k) = Unit
 Told b c (shown p bs) = Unit
 Told b c (checkpointed n) = Unit
+Told b c (previewed p) = Unit
 
 -- an outcome is no drain and marks no word, or it drains the oldest store
 data Marking (q : Queues) (b : Hierarchy) (o : Outcome) : Type 0 where
@@ -175,7 +176,7 @@ module _ (q : Queues) (b : Hierarchy) (wf : wellFormed q b ≡ true) where
       (λ e. either (Marking q b) (canRequestStore q b) (λ e. quiet tt (λ k n d. d)) (λ e. quiet tt (λ k n d. d))))
 
   rule-marking : (c : Call) → Marking q b (rule c q b)
-  unfolding loadRule storeRule retryRule commitRule abortRule replyRule flushRule showRule checkpointRule restoreRule
+  unfolding loadRule storeRule retryRule commitRule abortRule replyRule flushRule showRule previewRule checkpointRule restoreRule
   rule-marking (load a w) = quiet (load-quiet (nextNumber q) (lookup (q .request) b (lineOf a)) (loadValue (nextNumber q) a w (q .stores) b)) (λ k n d. d)
   rule-marking (store a w v) = quiet tt (λ k n d. d)
   rule-marking (retry i) = retry-marking i (tried i q) (loadValue i (tried i q .address) (tried i q .width) (q .stores) b)
@@ -188,6 +189,7 @@ module _ (q : Queues) (b : Hierarchy) (wf : wellFormed q b ≡ true) where
       quiet (either (Told b b) (ltb a (b .size) && present b (lineOf a)) (λ e. tt) (λ e. tt)) (λ k n d. d)
   rule-marking (checkpoint x) = quiet tt (λ k n d. d)
   rule-marking (restore x) = quiet tt (λ k n d. d)
+  rule-marking preview = quiet tt (λ k n d. d)
 
 -- 02, card 2: "Write-back draining marks the word written."
 pub marks-exact : (c : Call) (w : World) → MarksExact c w

@@ -14,7 +14,7 @@ use Rattle.rules.specs.declared.Request.the-variants.{Free, Line}
 use Rattle.rules.specs.declared.Lookup.{Lookup}
 use Rattle.rules.specs.declared.Lookup.the-variants.{Hit, Pending, Miss}
 use Rattle.rules.specs.Shape.{Queues, Hierarchy, lineBytes, topNumber, noStore, noLoad, isFreeStore, isFreeLoad, isFree, requestedLine, lineOf, writesThrough}
-use Rattle.rules.specs.Lines.{present, placeOf, lookup, useLine, writeStore, writeBackAll, dirtyWords, fillLine}
+use Rattle.rules.specs.Lines.{present, placeOf, lookup, useLine, writeStore, writeBackAll, dirtyWords, fillLine, Preview, previewOf}
 use Rattle.rules.specs.Forward.{loadValue, allForwarded}
 use Rattle.rules.specs.Checkpoints.{inUse, numberOf, nameAllowed, addCheckpoint, forgetAbove, forgetUpTo, forgetFrom}
 
@@ -39,6 +39,8 @@ pub data Call : Type 0 where
   -- 02, card 3: set a mark, return to it; its name
   checkpoint : ℕ → Call
   restore : ℕ → Call
+  -- 02, card 7: preview of a reply
+  preview : Call
 
 -- Each answer with 01's numbers.
 pub data Answer : Type 0 where
@@ -70,6 +72,8 @@ pub data Answer : Type 0 where
   shown : ℕ → List ℕ → Answer
   -- the number that the mark remembers
   checkpointed : ℕ → Answer
+  -- what the reply will do
+  previewed : Preview → Answer
 
 -- "A call is accepted when its answer is no refusal."
 abbrev pub isAccepted : Answer → Bool
@@ -87,6 +91,7 @@ isAccepted (filled a) = true
 isAccepted (flushed k) = true
 isAccepted (shown p bs) = true
 isAccepted (checkpointed n) = true
+isAccepted (previewed p) = true
 
 -- what a call leaves, with its answer
 pub record Outcome : Type 0 where
@@ -134,6 +139,10 @@ valueCheck w v = check 5 (leb (256 ^ w) v)
 abbrev pub numberCheck : Queues → Check
 numberCheck q = check 13 (eqb (q .last) topNumber)
 
+-- 17: "reply: register free"; 02, card 7: a preview too
+abbrev pub requestCheck : Queues → Check
+requestCheck q = check 17 (isFree (q .request))
+
 -- a held store numbered h or less
 unfoldable pub committedStore : ℕ → StoreEntry → Bool
 committedStore h s = not (isFreeStore s) && leb (s .number) h
@@ -155,6 +164,7 @@ earlyChecks flush b = []
 earlyChecks (show a) b = []
 earlyChecks (checkpoint x) b = []
 earlyChecks (restore x) b = []
+earlyChecks preview b = []
 
 -- the refusals of each call that follow 1 and 10, in order: 2, 3, 4, 5, 13, then 11 or 12; 19, 20, 21; the others alone
 abbrev pub callChecks : Call → Queues → Hierarchy → List Check
@@ -170,8 +180,7 @@ callChecks (commit k) q b = check 15 (ltb k (q .committed) || ltb (q .last) k) �
 -- 16: "abort: n is at most h or above last + 1"
 callChecks (abort n) q b = check 16 (leb n (q .committed) || ltb (q .last + 1) n) ∷ []
 callChecks idle q b = []
--- 17: "reply: register free"
-callChecks reply q b = check 17 (isFree (q .request)) ∷ []
+callChecks reply q b = requestCheck q ∷ []
 -- 18: "flush: a committed store is held"
 callChecks flush q b = check 18 (any (committedStore (q .committed)) (q .stores)) ∷ []
 callChecks (show a) q b = []
@@ -179,6 +188,8 @@ callChecks (show a) q b = []
 callChecks (checkpoint x) q b =
     check 19 (not (nameAllowed x)) ∷ check 20 (inUse x (q .checkpoints)) ∷ check 21 (eqb (q .last) topNumber) ∷ []
 callChecks (restore x) q b = check 19 (not (nameAllowed x)) ∷ check 21 (not (inUse x (q .checkpoints))) ∷ []
+-- 02, card 7: "refusals are the same" as a reply's
+callChecks preview q b = requestCheck q ∷ []
 
 -- ---- store
 
@@ -440,6 +451,12 @@ replyRule q b = record {
   hierarchy = fillLine (requestedLine (q .request)) b;
 }
 
+-- ---- preview of a reply
+
+-- 02, card 7: what a reply to the request will do; "the originals stay unchanged"
+unfoldable pub previewRule : Queues → Hierarchy → Outcome
+previewRule q b = unchanged (previewed (previewOf b (requestedLine (q .request)))) q b
+
 -- ---- flush
 
 -- "Flush writes every dirty line to memory, marks it clean .. Ages stay." 02, card 2: "Eviction and flush write
@@ -477,3 +494,4 @@ rule flush q b = flushRule q b
 rule (show a) q b = showRule a q b
 rule (checkpoint x) q b = checkpointRule x q b
 rule (restore x) q b = restoreRule x q b
+rule preview q b = previewRule q b

@@ -9,7 +9,7 @@ use Rattle.lists.specs.Padded.{first, filter}
 use Rattle.rules.specs.declared.Checkpoint.{Checkpoint}
 use Rattle.rules.specs.Shape.{World, world, noCheckpoint, isFreeCheckpoint}
 use Rattle.rules.specs.Checkpoints.{named, numberOf, ranked}
-use Rattle.rules.specs.Calls.{Call, load, store, retry, commit, abort, idle, reply, flush, show, checkpoint, restore, checkpointed, isAccepted, nextNumber}
+use Rattle.rules.specs.Calls.{Call, load, store, retry, commit, abort, idle, reply, flush, show, checkpoint, restore, preview, checkpointed, isAccepted, nextNumber}
 use Rattle.rules.specs.Runs.{answer, next}
 use Rattle.rules.specs.Kept.{Formed}
 
@@ -112,6 +112,7 @@ changesCheckpoints flush = false
 changesCheckpoints (show a) = false
 changesCheckpoints (checkpoint x) = true
 changesCheckpoints (restore x) = true
+changesCheckpoints preview = false
 
 -- no other call sets or forgets a mark
 abbrev pub CheckpointsStay : Call → World → Type 0

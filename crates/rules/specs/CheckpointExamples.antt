@@ -55,7 +55,7 @@ leftBy c = next c fourMarked .queues .checkpoints
 -- ---- stretches
 
 -- 02's: the setting of mark x, which answers n, the body, and the return to x
-abbrev returning : World → ℕ → ℕ → List Call → List Call → Stretch
+abbrev pub returning : World → ℕ → ℕ → List Call → List Call → Stretch
 returning w x n body later = record {
   from = w;
   before = [];

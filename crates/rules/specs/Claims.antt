@@ -15,6 +15,7 @@ use Rattle.rules.specs.Kept.{StartFormed, NextKept, RunKept, AdmittedAft
 use Rattle.rules.specs.Values.{AfterStart, FromState, ValuesRight, LoadWaits, RetryWaits, InquiriesRight, FlushCounts, FlushesRight, FlatCall, FlatAfter}
 use Rattle.rules.specs.TagLookup.{LookupExact, LoadStatus, RetryStatus, LoadWaitLeaves, RetryWaitLeaves, NoOtherWaits}
 use Rattle.rules.specs.ForwardingClaims.{LoadForwarded, ForwardedStays, LoadsStay, RetryReadsLine, CommitUsesExactly}
+use Rattle.rules.specs.PreviewClaims.{PreviewExact, NoOtherPreviews}
 use Rattle.rules.specs.Words.{MarksExact, Unmarked, MarkedOnly}
 
 -- a refused call changes nothing
@@ -101,6 +102,12 @@ pub record ForwardingIsExact : Type 0 where
   pub list-stays : (c : Call) (w : World) → LoadsStay c w
   pub by-inquiry : (i : ℕ) (w : World) → RetryReadsLine i w
   pub by-commit : (k : ℕ) (w : World) → CommitUsesExactly k w
+
+-- 02, card 7: a preview gives what the reply, made in its place, then does; it is refused as the reply is, and changes nothing. No other call
+-- gives one
+pub record PreviewIsExact : Type 0 where
+  pub by-preview : (w : World) → PreviewExact w
+  pub by-others : (c : Call) (w : World) → NoOtherPreviews c w
 
 -- demand 2: what an accepted flush counts, cleans and leaves in memory
 pub record FlushesAreExact : Type 0 where

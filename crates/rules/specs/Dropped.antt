@@ -8,7 +8,7 @@ use lib.ListN.{length, replicate}
 use Rattle.lists.specs.Padded.{every, select}
 use Rattle.rules.specs.declared.Figures.{Figures}
 use Rattle.rules.specs.Shape.{World}
-use Rattle.rules.specs.Calls.{Call, load, store, retry, commit, abort, idle, reply, flush, show, checkpoint, restore, checkpointed, isAccepted, nextNumber}
+use Rattle.rules.specs.Calls.{Call, load, store, retry, commit, abort, idle, reply, flush, show, checkpoint, restore, preview, checkpointed, isAccepted, nextNumber}
 use Rattle.rules.specs.Runs.{answer, next, answers, after, startWorld, startAnswer, ready}
 
 -- ---- a dropped stretch
@@ -26,6 +26,7 @@ abortsBelow n flush = false
 abortsBelow n (show a) = false
 abortsBelow n (checkpoint x) = false
 abortsBelow n (restore x) = false
+abortsBelow n preview = false
 
 -- no call that passes the test is accepted: of the calls, made from w on
 abbrev pub NoneAccepted : (Call → Bool) → List Call → World → Type 0
@@ -49,6 +50,7 @@ isCheckpointCall flush = false
 isCheckpointCall (show a) = false
 isCheckpointCall (checkpoint x) = true
 isCheckpointCall (restore x) = true
+isCheckpointCall preview = false
 
 -- the stretch, made from w on, is dropped for n
 pub record Dropped (n : ℕ) (stretch : List Call) (w : World) : Type 0 where
@@ -76,6 +78,7 @@ setsCheckpoint x flush = false
 setsCheckpoint x (show a) = false
 setsCheckpoint x (checkpoint y) = eqb y x
 setsCheckpoint x (restore y) = false
+setsCheckpoint x preview = false
 
 -- 02, card 3: "A stretch from setting a mark to the accepted return to it", made from w on; the mark has name x and remembers n
 pub record Restored (x n : ℕ) (stretch : List Call) (w : World) : Type 0 where
@@ -105,6 +108,8 @@ struck n (show a) = false
 -- (a plain stretch has none of them; in a mark stretch they are struck too, below)
 struck n (checkpoint x) = false
 struck n (restore x) = false
+-- 02, card 7: "A preview inside a dropped stretch counts among the remaining calls." (So it does in a mark stretch.)
+struck n preview = false
 
 -- 02, card 3: "when its set and return calls, refused ones included, are struck too"
 abbrev pub struckToo : ℕ → Call → Bool

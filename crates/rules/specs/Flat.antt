@@ -11,7 +11,7 @@ use Rattle.rules.specs.declared.StoreEntry.{StoreEntry}
 use Rattle.rules.specs.declared.LoadEntry.{LoadEntry}
 use Rattle.rules.specs.Shape.{Hierarchy, World, lineBytes, noLoad, isFreeStore, lineOf}
 use Rattle.rules.specs.Lines.{present, placeOf}
-use Rattle.rules.specs.Calls.{Call, Answer, load, store, retry, commit, abort, idle, reply, flush, show, checkpoint, restore, refused, stored, value, waits, waitsRequested, committed, kept, drained, requested, idled, filled, flushed, shown, checkpointed, isAccepted}
+use Rattle.rules.specs.Calls.{Call, Answer, load, store, retry, commit, abort, idle, reply, flush, show, checkpoint, restore, preview, refused, stored, value, waits, waitsRequested, committed, kept, drained, requested, idled, filled, flushed, shown, checkpointed, previewed, isAccepted}
 use Rattle.rules.specs.Runs.{answers}
 
 -- ---- flat memory of a given state
@@ -76,6 +76,7 @@ numberIn (filled a) = 0
 numberIn (flushed k) = 0
 numberIn (shown p bs) = 0
 numberIn (checkpointed n) = n
+numberIn (previewed p) = 0
 
 -- a store numbered below i; a store numbered h or less
 abbrev pub below : ℕ → StoreEntry → Bool
@@ -107,6 +108,7 @@ added (checkpoint x) r h = h
 -- 02, card 3: as an abort at the mark's number, which is one above the number kept
 added (restore x) r h =
     record { stores = filter (below (numberIn r + 1)) (h .stores); loads = h .loads; committed = h .committed }
+added preview r h = h
 
 unfoldable pub noted : Call → Answer → History → History
 noted c r h = cond (isAccepted r) (added c r h) h

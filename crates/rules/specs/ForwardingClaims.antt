@@ -9,7 +9,7 @@ use Rattle.rules.specs.declared.LoadEntry.{LoadEntry}
 use Rattle.rules.specs.Shape.{World, world, noLoad, isFreeLoad, lineOf}
 use Rattle.rules.specs.Lines.{present, useLine}
 use Rattle.rules.specs.Forward.{olderCovers}
-use Rattle.rules.specs.Calls.{Call, load, store, retry, commit, abort, idle, reply, flush, show, checkpoint, restore, value, isAccepted, nextNumber, withLoads, answeredBy, useEach}
+use Rattle.rules.specs.Calls.{Call, load, store, retry, commit, abort, idle, reply, flush, show, checkpoint, restore, preview, value, isAccepted, nextNumber, withLoads, answeredBy, useEach}
 use Rattle.rules.specs.Runs.{answer, next}
 use Rattle.rules.specs.Values.{waitingLoad}
 
@@ -61,6 +61,7 @@ Takes flush w i = ⊥
 Takes (show a) w i = ⊥
 Takes (checkpoint x) w i = ⊥
 Takes (restore x) w i = ⊥
+Takes preview w i = ⊥
 
 -- every other load that is listed after a call was listed before it, with the same bytes, and forwarded or not as it is now
 pub record AsBefore (i : ℕ) (w v : World) : Type 0 where
@@ -85,6 +86,7 @@ changesLoads flush = false
 changesLoads (show a) = false
 changesLoads (checkpoint x) = false
 changesLoads (restore x) = true
+changesLoads preview = false
 
 -- no other touches the list: a store that drains takes no load with it that it fed
 abbrev pub LoadsStay : Call → World → Type 0

@@ -13,6 +13,7 @@ pub mod Flat
 pub mod Values
 pub mod TagLookup
 pub mod ForwardingClaims
+pub mod PreviewClaims
 pub mod Words
 pub mod CheckpointClaims
 pub mod Computed
@@ -22,4 +23,5 @@ pub mod CheckpointExamples
 pub mod RefusalTable
 pub mod LookupExamples
 pub mod ForwardingExamples
+pub mod PreviewExamples
 pub mod Claims

@@ -1,4 +1,4 @@
--- Lines: where a line stands, the tag lookup, use, dirty words, a store written, write back, the victim and the fill.
+-- Lines: where a line stands, the tag lookup, use, dirty words, a store written, write back, the victim and the fill, and what a fill will do.
 -- Four steps on one slot or its set (use, put a store, write back, install), and memory written past the cache, make up every change of
 -- the hierarchy.
 use Prim.Native.Nat.{ℕ, _+_, _*_, _-_, _/_, _%_, _^_}
@@ -6,7 +6,7 @@ use mathlib.Core.Bool.{Bool, true, cond, not, _&&_}
 use mathlib.Core.List.{List}
 use mathlib.Core.Option.{Option, some, none}
 use lib.Dec.{ltb, leb, eqb}
-use lib.ListN.{getD, set}
+use lib.ListN.{getD, set, replicate}
 use Rattle.lists.specs.Padded.{total}
 use Rattle.lists.specs.Counted.{firstFrom, greatestFrom, stepsFrom, eachFrom}
 use Rattle.lists.specs.Bytes.{overlaid}
@@ -17,7 +17,7 @@ use Rattle.rules.specs.declared.Lookup.{Lookup}
 use Rattle.rules.specs.declared.Lookup.the-variants.{Hit, Pending, Miss}
 use Rattle.rules.specs.declared.WritePolicy.{WritePolicy}
 use Rattle.rules.specs.declared.WritePolicy.the-variants.{WriteBack, WriteThrough}
-use Rattle.rules.specs.Shape.{Hierarchy, holding, names, lineBytes, wordBytes, lineOf, setOf, setStart, slots, firstSlot, tagAt, withAge, withDirty, writesThrough}
+use Rattle.rules.specs.Shape.{Hierarchy, holding, names, lineBytes, wordBytes, mostWays, lineOf, setOf, setStart, slots, firstSlot, tagAt, withAge, withDirty, writesThrough}
 
 -- ---- where a line stands
 
@@ -195,3 +195,44 @@ install v l b =
 -- the record becomes valid and clean, is used"
 unfoldable pub fillLine : ℕ → Hierarchy → Hierarchy
 fillLine l b = let v = victim b l in useSlot (setOf b l) v (install v l (writeBackSlot v b))
+
+-- ---- what a fill will do (02, card 7)
+
+-- "the way": the victim's way of its set, from 0
+abbrev pub victimWay : Hierarchy → ℕ → ℕ
+victimWay b l = victim b l - firstSlot b l
+
+-- "the line evicted if any": the victim's, if the victim is valid
+unfoldable pub evictedLine : Hierarchy → ℕ → Option ℕ
+evictedLine b l = let t = tagAt (b .tags) (victim b l) in cond (t .valid) (some (t .line)) none
+
+-- "which of its four words are to be written back": the dirty ones, by the victim's marks. (In a well-formed state an invalid record has
+-- none.)
+abbrev pub wordsWrittenBack : Hierarchy → ℕ → ℕ
+wordsWrittenBack b l = tagAt (b .tags) (victim b l) .dirty
+
+-- the ages of set s, way by way; 0 for a way that the set has not
+unfoldable pub agesOf : Hierarchy → ℕ → List ℕ
+agesOf b s =
+    eachFrom (λ w x. cond (ltb w (b .figures .ways)) (tagAt (b .tags) (setStart b s + w) .age) x) 0 (replicate mostWays 0)
+
+-- what a preview gives
+pub record Preview : Type 0 where
+  -- from 0
+  pub way : ℕ
+  -- the line's number
+  pub evicted : Option ℕ
+  -- that of word n weighs 2 to the power n
+  pub words : ℕ
+  -- four, way by way
+  pub ages : List ℕ
+
+-- "The preview gives the way, the line evicted if any, which of its four words are to be written back and the ages of that set after it.":
+-- of the fill of line l
+unfoldable pub previewOf : Hierarchy → ℕ → Preview
+previewOf b l = record {
+  way = victimWay b l;
+  evicted = evictedLine b l;
+  words = wordsWrittenBack b l;
+  ages = agesOf (fillLine l b) (setOf b l);
+}

@@ -8,7 +8,7 @@ use Rattle.rules.specs.declared.Figures.{Figures}
 use Rattle.rules.specs.Shape.{World}
 use Rattle.rules.specs.Checkpoints.{numberOf}
 use Rattle.rules.specs.Flat.{numberIn}
-use Rattle.rules.specs.Calls.{Call, Answer, load, store, retry, commit, abort, idle, reply, flush, show, checkpoint, restore, isAccepted, nextNumber}
+use Rattle.rules.specs.Calls.{Call, Answer, load, store, retry, commit, abort, idle, reply, flush, show, checkpoint, restore, preview, isAccepted, nextNumber}
 use Rattle.rules.specs.Runs.{answer, next, startWorld}
 
 -- the next number after an accepted call that answered r, when it was i before
@@ -25,6 +25,7 @@ numberAfter (show a) r i = i
 numberAfter (checkpoint x) r i = i
 -- 02, card 3: "returning answers as the abort does", the last now in force (`ReturnNumber` says which number that makes the next)
 numberAfter (restore x) r i = numberIn r + 1
+numberAfter preview r i = i
 
 -- 02, card 3: after an accepted return it is the number that the mark remembers
 abbrev pub ReturnNumber : ℕ → World → Type 0

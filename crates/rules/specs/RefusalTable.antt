@@ -4,6 +4,7 @@
 use Prim.Native.Nat.{ℕ, _+_, _-_}
 use mathlib.Core.Path.{_≡_}
 use mathlib.Core.Bool.{true}
+use mathlib.Core.Option.{none}
 use mathlib.Core.List.{List, [], _∷_, _++_, map}
 use lib.ListN.{replicate}
 use Rattle.lists.specs.Counted.{eachFrom}
@@ -15,7 +16,7 @@ use Rattle.rules.specs.declared.Request.the-variants.{Free, Line}
 use Rattle.rules.specs.declared.WritePolicy.{WritePolicy}
 use Rattle.rules.specs.declared.WritePolicy.the-variants.{WriteBack, WriteThrough}
 use Rattle.rules.specs.Shape.{Queues, World, world, topNumber, geometry, noStore, noLoad, noCheckpoint, noTag}
-use Rattle.rules.specs.Calls.{Call, Answer, load, store, retry, commit, abort, idle, reply, flush, show, checkpoint, restore, refused, stored, waits, committed, kept, drained, idled, filled, flushed, shown, checkpointed, emptyPart}
+use Rattle.rules.specs.Calls.{Call, Answer, load, store, retry, commit, abort, idle, reply, flush, show, checkpoint, restore, preview, refused, stored, waits, committed, kept, drained, idled, filled, flushed, shown, checkpointed, previewed, emptyPart}
 use Rattle.rules.specs.Runs.{StartAnswer, ready, startRefused, emptyQueues, startAnswer, answer}
 use Rattle.rules.specs.Examples.{fresh}
 use Rattle.rules.specs.States.{tag, heldAt, waitingLoad, answeredLoad, checkpointOf, queuesWith, queues, richQueues, richLines, cleanLines, requestedByStore, broken}
@@ -203,6 +204,9 @@ stateRows =
     -- 17: "reply: register free"
     ∷ row (requesting Free) reply (refused 17)
     ∷ row (requesting (Line 0)) reply (filled 0)
+    -- 02, card 7: "refusals are the same"
+    ∷ row (requesting Free) preview (refused 17)
+    ∷ row (requesting (Line 0)) preview (previewed (record { way = 0; evicted = none; words = 0; ages = 0 ∷ 0 ∷ 0 ∷ 0 ∷ [] }))
     -- 18: "flush: a committed store is held": of one store, of two
     ∷ row (holdingStores 2 0 1) flush (flushed 0)
     ∷ row (holdingStores 2 1 1) flush (refused 18)
@@ -271,6 +275,7 @@ orderRows =
     ∷ row unfitting flush (refused 1)
     ∷ row unfitting (checkpoint 0) (refused 1)
     ∷ row unfitting (restore 0) (refused 1)
+    ∷ row unfitting preview (refused 1)
     -- "It gives an empty part when .. check 1 or 10 fails. It is the sole call that names no refusal."
     ∷ row unfitting (show 0) emptyPart
     -- 10 is next
@@ -284,6 +289,7 @@ orderRows =
     ∷ row unformed flush (refused 10)
     ∷ row unformed (checkpoint 0) (refused 10)
     ∷ row unformed (restore 0) (refused 10)
+    ∷ row unformed preview (refused 10)
     ∷ row unformed (show 0) emptyPart
     -- "the others follow 10"
     ∷ row sound (load 1 3) (refused 2)
@@ -296,6 +302,7 @@ orderRows =
     ∷ row sound flush (refused 18)
     ∷ row sound (checkpoint 0) (refused 19)
     ∷ row sound (restore 0) (refused 19)
+    ∷ row sound preview (refused 17)
     ∷ row sound (show 0) (shown 0 (replicate 16 0))
     -- "when the line is absent, the address is outside memory"
     ∷ row sound (show 15) (shown 0 (replicate 16 0))

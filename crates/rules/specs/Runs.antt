@@ -9,7 +9,7 @@ use Rattle.rules.specs.declared.Figures.{Figures}
 use Rattle.rules.specs.declared.Tag.{Tag}
 use Rattle.rules.specs.declared.Request.the-variants.{Free}
 use Rattle.rules.specs.Shape.{Queues, Hierarchy, World, world, lineBytes, tableSize, storePlaces, loadPlaces, checkpointPlaces, noStore, noLoad, noCheckpoint, noTag, withAge, noFigures, figuresAllowed, fits}
-use Rattle.rules.specs.Calls.{Call, Answer, Outcome, Check, load, store, retry, commit, abort, idle, reply, flush, show, checkpoint, restore, refused, check, guarded, earlyChecks, callChecks, unchanged, emptyPart, rule}
+use Rattle.rules.specs.Calls.{Call, Answer, Outcome, Check, load, store, retry, commit, abort, idle, reply, flush, show, checkpoint, restore, preview, refused, check, guarded, earlyChecks, callChecks, unchanged, emptyPart, rule}
 use Rattle.rules.specs.WellFormed.{wellFormed}
 
 -- ---- start
@@ -105,6 +105,7 @@ namesRefusal flush = true
 namesRefusal (show a) = false
 namesRefusal (checkpoint x) = true
 namesRefusal (restore x) = true
+namesRefusal preview = true
 
 -- what a refusal answers: show line "is the sole call that names no refusal"
 abbrev pub refusal : Call → ℕ → Answer

@@ -66,8 +66,11 @@ abbrev pub mostSets : ℕ
 mostSets = 64
 
 -- "Ways: 1 to 4."
+abbrev pub mostWays : ℕ
+mostWays = 4
+
 abbrev pub waysAllowed : ℕ → Bool
-waysAllowed n = leb 1 n && leb n 4
+waysAllowed n = leb 1 n && leb n mostWays
 
 -- "Memory: a multiple of 16 bytes, 16 to 65,536."
 abbrev pub memoryAllowed : ℕ → Bool

@@ -9,7 +9,7 @@ use Rattle.rules.specs.declared.Request.the-variants.{Line}
 use Rattle.rules.specs.declared.Lookup.the-variants.{Hit, Pending, Miss}
 use Rattle.rules.specs.Shape.{Hierarchy, World, lineOf, firstSlot, tagAt}
 use Rattle.rules.specs.Lines.{slotOf, lookup}
-use Rattle.rules.specs.Calls.{Call, Answer, load, store, retry, commit, abort, idle, reply, flush, show, checkpoint, restore, waits, waitsRequested, isAccepted, nextNumber}
+use Rattle.rules.specs.Calls.{Call, Answer, load, store, retry, commit, abort, idle, reply, flush, show, checkpoint, restore, preview, waits, waitsRequested, isAccepted, nextNumber}
 use Rattle.rules.specs.Runs.{answer, next}
 use Rattle.rules.specs.Values.{lacksByte, isWait, waitingLoad}
 
@@ -97,6 +97,7 @@ mayWait flush = false
 mayWait (show a) = false
 mayWait (checkpoint x) = false
 mayWait (restore x) = false
+mayWait preview = false
 
 abbrev pub NoOtherWaits : Call → World → Type 0
 NoOtherWaits c w = mayWait c ≡ false → (j : ℕ) → isWait j (answer c w) → ⊥

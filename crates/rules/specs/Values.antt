@@ -14,7 +14,7 @@ use Rattle.rules.specs.Shape.{Hierarchy, World, lineWords, noLoad, slots
 use Rattle.rules.specs.Lines.{dirtyWord, dirtyWords}
 use Rattle.rules.specs.Forward.{lacking}
 use Rattle.rules.specs.Checkpoints.{numberOf}
-use Rattle.rules.specs.Calls.{Call, Answer, load, store, retry, commit, abort, idle, reply, flush, show, checkpoint, restore, value, waits, waitsRequested, flushed, isAccepted, waitingAt, nextNumber}
+use Rattle.rules.specs.Calls.{Call, Answer, load, store, retry, commit, abort, idle, reply, flush, show, checkpoint, restore, preview, value, waits, waitsRequested, flushed, isAccepted, waitingAt, nextNumber}
 use Rattle.rules.specs.Runs.{answer, next, after, startWorld, startAnswer, ready}
 use Rattle.rules.specs.Kept.{Formed, EachCall}
 use Rattle.rules.specs.Flat.{History, noHistory, historyOf, loadOf, below, flatOf, applied, appliedAll, heldStores, flatWithHeld, flatBefore, flatCommitted}
@@ -53,6 +53,7 @@ AsksFor flush i l = ⊥
 AsksFor (show a) i l = ⊥
 AsksFor (checkpoint x) i l = ⊥
 AsksFor (restore x) i l = ⊥
+AsksFor preview i l = ⊥
 
 -- the value v that a call answers as operation i, when h is the history up to the call and with it
 pub record RightValue (found : List ℕ) (h : History) (c : Call) (i v : ℕ) : Type 0 where
@@ -158,6 +159,7 @@ FlatNext (restore x) w =
 -- and every other call leaves it as it was
 FlatNext idle w = flatWithHeld (next idle w) ≡ flatWithHeld w
 FlatNext reply w = flatWithHeld (next reply w) ≡ flatWithHeld w
+FlatNext preview w = flatWithHeld (next preview w) ≡ flatWithHeld w
 FlatNext flush w = flatWithHeld (next flush w) ≡ flatWithHeld w
 FlatNext (show a) w = flatWithHeld (next (show a) w) ≡ flatWithHeld w
 FlatNext (checkpoint x) w = flatWithHeld (next (checkpoint x) w) ≡ flatWithHeld w

@@ -3,7 +3,7 @@
 // claimed of the rules is promised here by functions that do nothing.
 ghost use mathlib.Core.Path.{_≡_};
 ghost use Rattle.rules.specs.Shape.{setsAllowed};
-ghost use Rattle.rules.specs.Claims.{RefusedCallsKeep, RefusalsExact, RefusalTableHolds, NumbersGiven, DroppedStretches, RestoredStretches, CheckpointsAreExact, KeptWellFormed, ValuesAreRight, WaitsAreExact, WaitStatusIsExact, LookupIsExact, ForwardingIsExact, FlushesAreExact, FlatMemoryIsKept, WordsAreExact};
+ghost use Rattle.rules.specs.Claims.{RefusedCallsKeep, RefusalsExact, RefusalTableHolds, NumbersGiven, DroppedStretches, RestoredStretches, CheckpointsAreExact, KeptWellFormed, ValuesAreRight, WaitsAreExact, WaitStatusIsExact, LookupIsExact, ForwardingIsExact, PreviewIsExact, FlushesAreExact, FlatMemoryIsKept, WordsAreExact};
 
 // The figures of a store that a start chooses. (02, card 1: "A start may choose this profile.")
 pub struct Figures {
@@ -294,6 +294,12 @@ pub fn lookup_exact()
 // commit leaves lines and ages as if forwarded loads were not listed, and uses the lines of the other answered loads as 01 says.
 pub fn forwarding_exact()
     ensures { λ r. ⌜ ForwardingIsExact ⌝ }
+{}
+
+// 02, card 7: a preview gives the way where the reply then puts its line, the line that is lost by it, the words of that line that it writes
+// back, and the ages of the set after it. It is refused as the reply is, and changes nothing; no other call gives one.
+pub fn preview_exact()
+    ensures { λ r. ⌜ PreviewIsExact ⌝ }
 {}
 
 // Demand 2: after an accepted flush memory holds exactly the committed stores, and its count is the number of dirty words before it.

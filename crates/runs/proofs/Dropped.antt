@@ -17,7 +17,7 @@ use Rattle.rules.proofs.Restored.{restored-stretch}
 use Rattle.rules.proofs.Kept.{start-leaves}
 use Rattle.model.specs.State.{callOf, answerOf}
 use Rattle.model.specs.declared.Call.{Call}
-use Rattle.model.specs.declared.Call.the-variants.{Load, Store, Retry, Commit, Abort, Idle, Reply, Flush, Show, Checkpoint, Restore}
+use Rattle.model.specs.declared.Call.the-variants.{Load, Store, Retry, Commit, Abort, Idle, Reply, Flush, Show, Checkpoint, Restore, Preview}
 use Rattle.model.specs.declared.Answer.{Answer}
 use Rattle.runs.specs.Machines.{Machine, Made, RunFrom, StartMade, AcceptedStart, worldAt, left, end, callMade, acceptedCall, callsOf, answersOf, startLeft, EachMade}
 use Rattle.runs.specs.Dropped.{DroppedFor, RestoredTo, remainingOf, gaveAll, NoTraceOf, LeavesNoTrace, DroppedOfCode, RestoredOfCode}
@@ -47,6 +47,7 @@ abort-below n Flush t = absurd t
 abort-below n (Show a) t = absurd t
 abort-below n (Checkpoint x) t = absurd t
 abort-below n (Restore x) t = absurd t
+abort-below n Preview t = absurd t
 
 -- no call of a stretch that passes the test is accepted
 none-accepted :
@@ -74,6 +75,7 @@ silent Flush h = refl
 silent (Show a) h = refl
 silent (Checkpoint x) h = absurd (h x .0 refl)
 silent (Restore x) h = absurd (h x .1 refl)
+silent Preview h = refl
 
 all-silent :
     (stretch : List Made) → EachMade stretch (λ before c. (x : ℕ) → (c .call ≡ Checkpoint x → ⊥) × (c .call ≡ Restore x → ⊥))
@@ -115,6 +117,7 @@ set-again x Flush t = absurd t
 set-again x (Show a) t = absurd t
 set-again x (Checkpoint y) t = ap Checkpoint (eqb-true y x (truth _ t))
 set-again x (Restore y) t = absurd t
+set-again x Preview t = absurd t
 
 module _ (x n : ℕ) (m : Machine) (stretch : List Made) (r : RunFrom m stretch) (d : RestoredTo x n m stretch) where
   set-is : callMade (d .first) ≡ rules.checkpoint x

@@ -3,20 +3,26 @@
 use Prim.Native.Nat.{ℕ, _+_}
 use mathlib.Core.Path.{_≡_, refl, sym, _∙_, ap, ap₂, subst}
 use mathlib.Core.List.{List, [], _∷_, _++_}
+use mathlib.Core.Option.{Option, some, none}
 use lib.ListN.{length, replicate, getD, length-replicate}
 use Rattle.lists.proofs.Counting.{each-length}
 use Rattle.rules.specs.declared.Figures.{Figures}
 use Rattle.rules.specs.Shape.{World, world}
 use Rattle.rules.specs.Calls.{Call, Answer, Outcome}
+use Rattle.rules.specs.Lines.{Preview}
 use Rattle.rules.specs.Calls as rules
 use Rattle.rules.specs.Runs.{outcome, answer, next, answers, after, ready, startAnswer}
 use Rattle.rules.specs.Flat.{History, noHistory, history, historyOf, flatOf}
 use Rattle.rules.specs.Values.{historyAt, Claim, AfterStart, FromState}
+use Rattle.records.specs.Records.{evictionGiven, previewGiven}
+use Rattle.records.specs.declared.Eviction.{Eviction}
+use Rattle.records.specs.declared.Eviction.the-variants.{Nothing, Line}
+use Rattle.records.specs.declared.Preview as previews
 use Rattle.model.specs.State.{bytesFrom, outcomeOf, answerOf, callOf}
 use Rattle.model.specs.Starts.{startAnswerOf}
 use Rattle.model.specs.declared.Call as code
 use Rattle.model.specs.declared.Answer as codes
-use Rattle.model.specs.declared.Answer.the-variants.{Refused, Stored, Value, Waits, WaitsRequested, Committed, Kept, Drained, Requested, Idled, Filled, Flushed, Shown, Checkpointed}
+use Rattle.model.specs.declared.Answer.the-variants.{Refused, Stored, Value, Waits, WaitsRequested, Committed, Kept, Drained, Requested, Idled, Filled, Flushed, Shown, Checkpointed, Previewed}
 use Rattle.runs.specs.Machines.{Machine, Made, StartMade, AcceptedStart, worldAt, left, AsPromised, callMade, answerGiven, RunFrom, end, callsOf, answersOf, historyBy, EachMade, EveryCall, startLeft, RunClaim, RunsAfterStart, RunsFromState}
 
 -- ---- a machine and its world
@@ -45,6 +51,26 @@ machine-of m d e = ap machineAt e
 
 -- ---- an answer
 
+-- the code's preview of a paper's preview
+abbrev evictionAs : Option ℕ → Eviction
+evictionAs none = Nothing
+evictionAs (some l) = Line l
+
+abbrev previewAs : Preview → previews.Preview
+previewAs p = record {
+  way = p .way;
+  evicted = evictionAs (p .evicted);
+  words = p .words;
+  ages = record { way0 = getD (p .ages) 0 0; way1 = getD (p .ages) 1 0; way2 = getD (p .ages) 2 0; way3 = getD (p .ages) 3 0 };
+}
+
+eviction-back : (e : Eviction) → e ≡ evictionAs (evictionGiven e)
+eviction-back Nothing = refl
+eviction-back (Line l) = refl
+
+preview-back : (p : previews.Preview) → p ≡ previewAs (previewGiven p)
+preview-back p = λ i. record { way = p .way; evicted = eviction-back (p .evicted) i; words = p .words; ages = p .ages }
+
 -- the code's answer of a paper's answer
 abbrev pub answerAs : Answer → codes.Answer
 answerAs (rules.refused k) = Refused k
@@ -61,6 +87,7 @@ answerAs (rules.filled a) = Filled a
 answerAs (rules.flushed k) = Flushed k
 answerAs (rules.shown p bs) = Shown p (length bs)
 answerAs (rules.checkpointed n) = Checkpointed n
+answerAs (rules.previewed p) = Previewed (previewAs p)
 
 length-bytes : (p n : ℕ) (cache : List ℕ) → length (bytesFrom p n cache) ≡ n
 unfolding bytesFrom
@@ -82,6 +109,7 @@ answer-back (Filled a) cache = refl
 answer-back (Flushed k) cache = refl
 answer-back (Shown p n) cache = ap (Shown p) (sym (length-bytes p n cache))
 answer-back (Checkpointed n) cache = refl
+answer-back (Previewed p) cache = ap Previewed (preview-back p)
 
 -- ---- one call
 

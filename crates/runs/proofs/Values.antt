@@ -20,7 +20,7 @@ use Rattle.rules.proofs.Flush.{flush-counts, flushes-after-start, flushes-from-
 use Rattle.rules.proofs.FlatCalls.{flat-call}
 use Rattle.model.specs.State.{answerOf, callOf}
 use Rattle.model.specs.declared.Call.{Call}
-use Rattle.model.specs.declared.Call.the-variants.{Load, Store, Retry, Commit, Abort, Idle, Reply, Flush, Show, Checkpoint, Restore}
+use Rattle.model.specs.declared.Call.the-variants.{Load, Store, Retry, Commit, Abort, Idle, Reply, Flush, Show, Checkpoint, Restore, Preview}
 use Rattle.model.specs.declared.Answer as code
 use Rattle.model.specs.declared.Answer.the-variants.{Waits, WaitsRequested}
 use Rattle.runs.specs.Machines.{Machine, Made, worldAt, left, callMade, callsOf}
@@ -185,6 +185,7 @@ flat-moves Flush m d e f = ap flatWithHeld e ∙ f
 flat-moves (Show a) m d e f = ap flatWithHeld e ∙ f
 flat-moves (Checkpoint x) m d e f = ap flatWithHeld e ∙ f
 flat-moves (Restore x) m d e f = (ap (λ (w : World). flatOf (w .hierarchy)) e ∙ f .0, ap heldStores e ∙ f .1)
+flat-moves Preview m d e f = ap flatWithHeld e ∙ f
 
 flat-given : (m : Machine) (c : Made) → Follows (callMade c) m c → FlatMoved m c
 flat-given m c f t =

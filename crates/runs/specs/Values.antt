@@ -13,7 +13,7 @@ use Rattle.rules.specs.Flat.{below, flatOf, applied, appliedAll, heldStores, fl
 use Rattle.rules.specs.Values.{RightValue, lacksByte, waitingLoad, InquiryAbout, dirtyInUse}
 use Rattle.rules.specs.TagLookup.{LineRequested, mayWait}
 use Rattle.model.specs.declared.Call.{Call}
-use Rattle.model.specs.declared.Call.the-variants.{Load, Store, Retry, Commit, Abort, Idle, Reply, Flush, Show, Checkpoint, Restore}
+use Rattle.model.specs.declared.Call.the-variants.{Load, Store, Retry, Commit, Abort, Idle, Reply, Flush, Show, Checkpoint, Restore, Preview}
 use Rattle.model.specs.declared.Answer.the-variants.{Value, Waits, WaitsRequested, Flushed}
 use Rattle.runs.specs.Machines.{Machine, Made, worldAt, numberAt, left, end, callMade, acceptedCall, historyBy, EachMade, EveryCall, RunClaim, RunsAfterStart, RunsFromState}
 
@@ -147,6 +147,7 @@ FlatMoves (Restore x) m d = DropsFrom (numberOf x (worldAt m .queues .checkpoint
 -- and every other call leaves it as it was
 FlatMoves Idle m d = flatAt d ≡ flatAt m
 FlatMoves Reply m d = flatAt d ≡ flatAt m
+FlatMoves Preview m d = flatAt d ≡ flatAt m
 FlatMoves Flush m d = flatAt d ≡ flatAt m
 FlatMoves (Show a) m d = flatAt d ≡ flatAt m
 FlatMoves (Checkpoint x) m d = flatAt d ≡ flatAt m

@@ -3,7 +3,7 @@ use Prim.Native.Nat.{ℕ, zero, suc, _+_, _/_, _%_}
 use mathlib.Core.Bool.{cond}
 use mathlib.Core.List.{List, [], _∷_, _++_}
 use lib.Dec.{ltb}
-use Rattle.rules.specs.Calls.{Answer, stored, value, waits, waitsRequested, committed, kept, drained, requested, idled, filled, flushed, shown, checkpointed, refused}
+use Rattle.rules.specs.Calls.{Answer, stored, value, waits, waitsRequested, committed, kept, drained, requested, idled, filled, flushed, shown, checkpointed, previewed, refused}
 use Rattle.script.specs.Text.{bytesOf}
 use Rattle.script.specs.Commands.{lineFeed, space, firstDigit}
 
@@ -69,7 +69,7 @@ said word (n ∷ ns) = said (word ++ (space ∷ printed n)) ns
 
 -- "Numbers printed: operation number; for value, number then value; kept and committed, the last and h now in force; request and
 -- filled, the line's first address; flushed, lines written." (02, card 2: words.) ".. Case (d) of idle prints idle. Others: refused and the number."
--- No line of a script shows a cache line or sets a mark.
+-- No line of a script shows a cache line, sets a mark or previews a reply.
 unfoldable pub answerLine : Answer → List ℕ
 answerLine (stored i) = said storedWord (i ∷ [])
 answerLine (value i v) = said valueWord (i ∷ v ∷ [])
@@ -84,6 +84,7 @@ answerLine (filled a) = said filledWord (a ∷ [])
 answerLine (flushed k) = said flushedWord (k ∷ [])
 answerLine (shown p bs) = []
 answerLine (checkpointed n) = []
+answerLine (previewed p) = []
 answerLine (refused k) = said refusedWord (k ∷ [])
 
 abbrev pub readyLine : List ℕ

@@ -10,7 +10,7 @@ use Rattle.lists.proofs.Cond.{either}
 use Rattle.rules.specs.Shape.{Queues, Hierarchy, slots, lineOf, noLoad}
 use Rattle.rules.specs.Lines.{present, useSlot, useLine, putStore, writeStore, writeBackSlot, writeBackAll, install, fillLine}
 use Rattle.rules.specs.Forward.{loadValue}
-use Rattle.rules.specs.Calls.{Call, Outcome, load, store, retry, commit, abort, idle, reply, flush, show, checkpoint, restore, loadRule, storeRule, waitingAt, usesLineBy, answerLoad, retryWith, retryRule, useEach, commitRule, abortRule, checkpointRule, restoreRule, oldestStore, canDrain, canRequestLoad, canRequestStore, idleRule, replyRule, flushRule, showRule, rule}
+use Rattle.rules.specs.Calls.{Call, Outcome, load, store, retry, commit, abort, idle, reply, flush, show, checkpoint, restore, preview, loadRule, storeRule, waitingAt, usesLineBy, answerLoad, retryWith, retryRule, useEach, commitRule, abortRule, checkpointRule, restoreRule, oldestStore, canDrain, canRequestLoad, canRequestStore, idleRule, replyRule, flushRule, showRule, previewRule, rule}
 use Rattle.rules.specs.Runs.{outcome}
 use Rattle.rules.specs.declared.LoadEntry.{LoadEntry}
 use Rattle.rules.specs.declared.StoreEntry.{StoreEntry}
@@ -55,7 +55,7 @@ module _ (q : Queues) (b : Hierarchy) where
   retried i l (some v) = either Keeps (leb i (q .committed)) (λ _. use-line (lineOf (l .address)) b) (λ _. same b)
 
   ruled : (c : Call) → Keeps (rule c q b)
-  unfolding loadRule storeRule retryRule commitRule abortRule checkpointRule restoreRule idleRule replyRule flushRule showRule useSlot fillLine install writeBackSlot writeBackAll
+  unfolding loadRule storeRule retryRule commitRule abortRule checkpointRule restoreRule idleRule replyRule flushRule showRule previewRule useSlot fillLine install writeBackSlot writeBackAll
   ruled (load a w) = same b
   ruled (store a w v) = same b
   ruled (retry i) =
@@ -71,6 +71,7 @@ module _ (q : Queues) (b : Hierarchy) where
   ruled (show a) = same b
   ruled (checkpoint x) = same b
   ruled (restore x) = same b
+  ruled preview = same b
 
   pub figures-kept : (c : Call) → SameFigures b (outcome c q b .hierarchy)
   figures-kept c = outcome-by c q b Keeps (λ k. same b) (λ _ _ _. ruled c)

@@ -14,7 +14,7 @@ use Rattle.lists.specs.Padded.{position}
 use Rattle.lists.proofs.Cond.{cases, either, and-left, and-right}
 use Rattle.lists.proofs.Loops.{position-high}
 use Rattle.rules.specs.Shape.{World}
-use Rattle.rules.specs.Calls.{Answer, stored, value, waits, waitsRequested, committed, kept, drained, requested, idled, filled, flushed, shown, checkpointed, refused}
+use Rattle.rules.specs.Calls.{Answer, stored, value, waits, waitsRequested, committed, kept, drained, requested, idled, filled, flushed, shown, checkpointed, previewed, refused}
 use Rattle.rules.specs.Runs.{StartAnswer, ready, startRefused, startAnswer, startWorld, answer}
 use Rattle.model.specs.declared.State.{State}
 use Rattle.script.specs.Commands.{Command, start, make, lineFeed, space, heldBytes, commandOf}
@@ -242,6 +242,7 @@ answer-short (filled a) = said-one _ a (omega arith)
 answer-short (flushed k) = said-one _ k (omega arith)
 answer-short (shown p bs) = omega arith
 answer-short (checkpointed n) = omega arith
+answer-short (previewed p) = omega arith
 answer-short (refused k) = said-one _ k (omega arith)
 
 effect-short : (c : Option Command) (run : Option World) → length (effect c run .says) ≤ lineRoom

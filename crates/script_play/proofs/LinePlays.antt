@@ -22,7 +22,7 @@ use Rattle.model.specs.declared.State.{State}
 use Rattle.model.specs.declared.Step.{Step}
 use Rattle.model.specs.declared.Call.{Call}
 use Rattle.model.specs.declared.Answer.{Answer}
-use Rattle.model.specs.declared.Answer.the-variants.{Refused, Stored, Value, Waits, WaitsRequested, Committed, Kept, Drained, Requested, Idled, Filled, Flushed, Shown, Checkpointed}
+use Rattle.model.specs.declared.Answer.the-variants.{Refused, Stored, Value, Waits, WaitsRequested, Committed, Kept, Drained, Requested, Idled, Filled, Flushed, Shown, Checkpointed, Previewed}
 use Rattle.script.specs.Words.{answerLine, readyLine, refusedLine}
 use Rattle.script.specs.Commands.{Command, start, make}
 use Rattle.script.specs.Play.{effect, refusedEffect, malformedLine, zeros, zeroCache}
@@ -149,6 +149,7 @@ line-same (Filled a) c d = refl
 line-same (Flushed k) c d = refl
 line-same (Shown p n) c d = refl
 line-same (Checkpointed n) c d = refl
+line-same (Previewed p) c d = refl
 
 in-room : {at r : ℕ} {out bytes o : List ℕ} → at + lineRoom ≤ length out → Wrote at (inRoom at out bytes) out o r → Wrote at bytes out o r
 unfolding inRoom

@@ -103,6 +103,7 @@ fn say(out: &mut [u8], at: usize, a: Answer) -> usize
         Answer::Flushed(n) => say_one(out, at, b"flushed", n),
         Answer::Shown(_, _) => at,
         Answer::Checkpointed(_) => at,
+        Answer::Previewed(_) => at,
     }
 }
 

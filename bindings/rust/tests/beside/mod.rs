@@ -10,8 +10,8 @@ use compare::counts::{Counts, Needed};
 use compare::model::{Machine, Right};
 use compare::random::{self, Rng, Run};
 use compare::types::{
-    Answer, Call, Checkpoint, Figures, LoadEntry, Part, Request, Setup, State, StoreEntry, Tag,
-    WritePolicy,
+    Answer, Call, Checkpoint, Figures, LoadEntry, Part, Preview, Request, Setup, State, StoreEntry,
+    Tag, WritePolicy,
 };
 use layout::{
     CHECKPOINTS_AT, COMMITTED, ENTRY, FORWARDED, LAST, LOADS_AT, PROFILE, REQUESTED,
@@ -203,6 +203,7 @@ pub fn call_of(call: Call) -> Option<nicoisetarn::Call> {
         Call::ShowLine { address } => Ours::ShowLine(address),
         Call::Checkpoint { name } => Ours::Checkpoint(name),
         Call::Restore { name } => Ours::Restore(name),
+        Call::Preview => Ours::Preview,
     })
 }
 
@@ -230,7 +231,14 @@ pub fn answer_of(told: Result<nicoisetarn::Answer, Refusal>) -> Answer {
         }
         Ours::Ready => Answer::Ready,
         Ours::Checkpointed(number) => Answer::Checkpointed(number),
+        Ours::Previewed(preview) => Answer::Previewed(preview_of(preview)),
     }
+}
+
+/// What the library previewed as a preview of the model.
+pub fn preview_of(preview: nicoisetarn::Preview) -> Preview {
+    let nicoisetarn::Preview { way, evicted, words, ages } = preview;
+    Preview { way, evicted, words, ages }
 }
 
 /// One call of the library.
@@ -451,6 +459,18 @@ pub fn with_marks(run: Run, rng: &mut Rng) -> Run {
     Run { calls, ..run }
 }
 
+/// A run with previews put between its calls: before replies often, elsewhere now and then.
+pub fn with_previews(run: Run, rng: &mut Rng) -> Run {
+    let mut calls = Vec::new();
+    for &call in &run.calls {
+        if rng.one_in(if call == Call::Reply { 2 } else { 16 }) {
+            calls.push(Call::Preview);
+        }
+        calls.push(call);
+    }
+    Run { calls, ..run }
+}
+
 /// A number that is likely to matter somewhere.
 pub fn odd_number(rng: &mut Rng) -> u32 {
     let any = rng.word() as u32;
@@ -487,7 +507,7 @@ fn near_address(image: &Image, rng: &mut Rng) -> u32 {
 }
 
 /// One call of each kind, mostly with operands about those of an image.
-pub fn each_call(image: &Image, rng: &mut Rng) -> [Call; 12] {
+pub fn each_call(image: &Image, rng: &mut Rng) -> [Call; 13] {
     let odd_ones = rng.one_in(4);
     let operand = |near: fn(&Image, &mut Rng) -> u32| {
         move |rng: &mut Rng| match odd_ones {
@@ -510,6 +530,7 @@ pub fn each_call(image: &Image, rng: &mut Rng) -> [Call; 12] {
         Call::Commit { number: number(rng) },
         Call::Abort { number: number(rng) },
         Call::Idle,
+        Call::Preview,
         Call::Reply,
         Call::Flush,
         Call::Checkpoint { name: name(rng) },

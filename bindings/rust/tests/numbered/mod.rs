@@ -3,33 +3,29 @@
 //! at, and all that a refused study gives.
 #![allow(dead_code)]
 
-use compare::types::{Answer, Call};
+use compare::types::{Answer, Call, Preview};
 use nicoisetarn::{Image, STUDY_WAYS};
-
-/// An answer of the library: its kind and two numbers.
-#[derive(Clone, Copy, Debug, PartialEq, Eq)]
-#[repr(C)]
-pub struct Numbers {
-    pub kind: u32,
-    pub first: u32,
-    pub second: u32,
-}
-
-/// No call, or no profile of a start, has that number.
-pub const NO_SUCH_CALL: Numbers = Numbers { kind: 255, first: 0, second: 0 };
-/// How many calls have a number, from 0 on.
-pub const CALLS: u32 = 11;
-/// Numbers that no call has.
-pub const NO_CALLS: [u32; 8] = [CALLS, 12, 13, 254, 255, 256, 257, u32::MAX];
-/// Numbers that no profile has.
-pub const NO_PROFILES: [u32; 8] = [2, 3, 4, 255, 256, 257, 1 << 31 | 1, u32::MAX];
-/// A batch was run.
-pub const RAN: Numbers = Numbers { kind: 254, first: 0, second: 0 };
 
 /// The numbers of a call, or of an answer, in the lists of a batch.
 pub type Listed = [u32; 6];
+
+/// An answer of the library: its kind and five numbers, as in the lists of a batch.
+#[derive(Clone, Copy, Debug, PartialEq, Eq)]
+#[repr(C)]
+pub struct Numbers(pub Listed);
+
 /// What a batch answers to a call that there is not.
 pub const UNKNOWN: Listed = [255, 0, 0, 0, 0, 0];
+/// No call, or no profile of a start, has that number.
+pub const NO_SUCH_CALL: Numbers = Numbers(UNKNOWN);
+/// How many calls have a number, from 0 on.
+pub const CALLS: u32 = 12;
+/// Numbers that no call has.
+pub const NO_CALLS: [u32; 8] = [CALLS, 13, 14, 254, 255, 256, 257, u32::MAX];
+/// Numbers that no profile has.
+pub const NO_PROFILES: [u32; 8] = [2, 3, 4, 255, 256, 257, 1 << 31 | 1, u32::MAX];
+/// A batch was run.
+pub const RAN: Numbers = Numbers([254, 0, 0, 0, 0, 0]);
 /// A number that is in no answer, to see what is written.
 pub const UNTOUCHED: u32 = 0xA5A5_A5A5;
 
@@ -47,7 +43,7 @@ pub const STUDY_REFUSED: StudyNumbers =
     StudyNumbers { refusal: 22, hits: [0; STUDY_WAYS], rates: [0; STUDY_WAYS] };
 
 extern "C" {
-    fn nicoisetarn_start_2048_in(
+    fn nicoisetarn_start_2048_24_in(
         image: *mut Image,
         sets: u32,
         ways: u32,
@@ -58,7 +54,7 @@ extern "C" {
         memory_length: usize,
     ) -> Numbers;
 
-    fn nicoisetarn_step_in(
+    fn nicoisetarn_step_24_in(
         image: *mut Image,
         call: u32,
         x: u32,
@@ -70,7 +66,7 @@ extern "C" {
         memory_length: usize,
     ) -> Numbers;
 
-    fn nicoisetarn_run_in(
+    fn nicoisetarn_run_24_in(
         image: *mut Image,
         calls: *const u32,
         calls_length: usize,
@@ -102,7 +98,9 @@ pub fn start(
     let (cache, memory) = (cache.as_mut_ptr(), memory.as_ptr());
     // SAFETY: three references, all but the memory exclusive, each slice with its own
     // length; the library keeps no pointer, and any bytes are an image.
-    unsafe { nicoisetarn_start_2048_in(image, sets, ways, profile, cache, cached, memory, stored) }
+    unsafe {
+        nicoisetarn_start_2048_24_in(image, sets, ways, profile, cache, cached, memory, stored)
+    }
 }
 
 /// A call by its number.
@@ -118,7 +116,9 @@ pub fn step(
     let (cache, memory) = (cache.as_mut_ptr(), memory.as_mut_ptr());
     // SAFETY: three exclusive references, each slice with its own length; the
     // library keeps no pointer, and any bytes are an image.
-    unsafe { nicoisetarn_step_in(image, call, x, y, z, cache, cache_length, memory, memory_length) }
+    unsafe {
+        nicoisetarn_step_24_in(image, call, x, y, z, cache, cache_length, memory, memory_length)
+    }
 }
 
 /// A batch of any lengths.
@@ -136,7 +136,7 @@ pub fn run(
     // SAFETY: five references, all but the calls exclusive, each slice with its own
     // length; the library keeps no pointer, and any bytes are an image.
     unsafe {
-        nicoisetarn_run_in(
+        nicoisetarn_run_24_in(
             image, to_calls, called, to_answers, answered, to_cache, cached, to_memory, stored,
         )
     }
@@ -170,6 +170,7 @@ pub fn call_of(call: Call) -> Option<Listed> {
         Call::ShowLine { address } => (8, [address, 0, 0]),
         Call::Checkpoint { name } => (9, [name, 0, 0]),
         Call::Restore { name } => (10, [name, 0, 0]),
+        Call::Preview => (11, [0; 3]),
     };
     Some([number, x, y, z, 0, 0])
 }
@@ -192,8 +193,16 @@ pub fn answer_of(answer: Answer) -> Listed {
         Answer::Ready => (12, 0, 0),
         Answer::Checkpointed(number) => (13, number, 0),
         Answer::WaitsRequested(number) => (14, number, 0),
+        Answer::Previewed(preview) => return preview_of(preview),
     };
     [kind, first, second, 0, 0, 0]
+}
+
+/// A preview of the model in a batch, the age of way w in byte w of the last number.
+fn preview_of(preview: Preview) -> Listed {
+    let Preview { way, evicted, words, ages } = preview;
+    let ages = ages.into_iter().rev().fold(0, |packed, age| packed << 8 | age);
+    [15, way, evicted.is_some().into(), evicted.unwrap_or(0), words.into(), ages]
 }
 
 /// A ways study.

@@ -8,7 +8,7 @@ use types.Run.{OneOf, miss}
 use denote.Enum.Declared.{tagOf}
 use Rattle.model.specs.State.{readsOnly}
 use Rattle.model.specs.declared.Call.{Call}
-use Rattle.model.specs.declared.Call.the-variants.{Load, Store, Retry, Commit, Abort, Idle, Reply, Flush, Show, Checkpoint, Restore}
+use Rattle.model.specs.declared.Call.the-variants.{Load, Store, Retry, Commit, Abort, Idle, Reply, Flush, Show, Checkpoint, Restore, Preview}
 use Rattle.model.proofs.Call as call
 use Rattle.model.proofs.Facts.{shaped-self}
 use Rattle.model.proofs.State.read_formed.Statement.{statement}
@@ -30,6 +30,7 @@ none-reads Flush h e = false≢true e
 none-reads (Show a) h e = absurd (miss writing 8 tt h)
 none-reads (Checkpoint x) h e = false≢true e
 none-reads (Restore x) h e = false≢true e
+none-reads Preview h e = absurd (miss writing 11 tt h)
 
 enum-known-call : tie.Need-enum-known-call
 enum-known-call c = search needs
@@ -105,10 +106,21 @@ returns-6 c =
     let call6 = c .before .before .call6 in
     λ reads memory formed. rw (call6 .given .1) (c .show-formed .ensures _ memory formed)
 
+enum-told : tie.Need-enum-told
+enum-told c = search needs
+
+preview-formed-requires : tie.Need-preview-formed-requires
+preview-formed-requires c κs = search needs
+
 returns-7 : tie.Need-returns-7
 returns-7 c =
+    let enum-told = c .before .enum-told in
+    λ reads memory formed. rw (enum-told .given .1) (c .preview-formed .ensures _ memory formed)
+
+returns-8 : tie.Need-returns-8
+returns-8 c =
     let args = c .before .before .args in
-    λ reads. absurd (none-reads (args .call) (c .match .keys7) reads)
+    λ reads. absurd (none-reads (args .call) (c .match .keys8) reads)
 
 pub read-formed-spec : {M : Type 1} → statement M
 read-formed-spec =
@@ -132,4 +144,7 @@ read-formed-spec =
     enum-known-call-6
     show-formed-requires
     returns-6
-    returns-7)
+    enum-told
+    preview-formed-requires
+    returns-7
+    returns-8)

@@ -10,14 +10,14 @@ use Rattle.rules.specs.Runs.{refusal}
 use Rattle.lists.specs.Counted.{eachFrom}
 use Rattle.model.specs.State.{callOf, queuesOf, hierarchyOf, bytesFrom}
 use Rattle.model.specs.declared.Call.{Call}
-use Rattle.model.specs.declared.Call.the-variants.{Load, Store, Retry, Commit, Abort, Idle, Reply, Flush, Show, Checkpoint, Restore}
+use Rattle.model.specs.declared.Call.the-variants.{Load, Store, Retry, Commit, Abort, Idle, Reply, Flush, Show, Checkpoint, Restore, Preview}
 use Rattle.model.proofs.Call as call
 use Rattle.model.proofs.State.refused_call.Statement.{statement}
 use Rattle.model.proofs.State.refused_call.Tie as tie
 
 -- the variants beside show line
 abbrev others : List ℕ
-others = 0 ∷ 1 ∷ 2 ∷ 3 ∷ 4 ∷ 5 ∷ 6 ∷ 7 ∷ 9 ∷ 10 ∷ []
+others = 0 ∷ 1 ∷ 2 ∷ 3 ∷ 4 ∷ 5 ∷ 6 ∷ 7 ∷ 9 ∷ 10 ∷ 11 ∷ []
 
 named : (k : ℕ) (c : Call) → OneOf others (tagOf call.the-type c) → refused k ≡ refusal (callOf c) k
 named k (Load a w) h = refl
@@ -31,6 +31,7 @@ named k Flush h = refl
 named k (Show a) h = absurd (miss others 8 tt h)
 named k (Checkpoint x) h = refl
 named k (Restore x) h = refl
+named k Preview h = refl
 
 enum-told : tie.Need-enum-told
 enum-told c = search needs

@@ -9,7 +9,7 @@ use types.Run.{OneOf, miss}
 use denote.Enum.Declared.{tagOf}
 use Rattle.model.specs.State.{readsOnly}
 use Rattle.model.specs.declared.Call.{Call}
-use Rattle.model.specs.declared.Call.the-variants.{Load, Store, Retry, Commit, Abort, Idle, Reply, Flush, Show, Checkpoint, Restore}
+use Rattle.model.specs.declared.Call.the-variants.{Load, Store, Retry, Commit, Abort, Idle, Reply, Flush, Show, Checkpoint, Restore, Preview}
 use Rattle.model.proofs.Call as call
 use Rattle.model.proofs.Facts.{formed-sound}
 use Rattle.model.proofs.State.step_formed.Statement.{statement}
@@ -17,7 +17,7 @@ use Rattle.model.proofs.State.step_formed.Tie as tie
 
 -- the variants of the calls that only read
 abbrev reading : List ℕ
-reading = 0 ∷ 1 ∷ 2 ∷ 3 ∷ 4 ∷ 8 ∷ []
+reading = 0 ∷ 1 ∷ 2 ∷ 3 ∷ 4 ∷ 8 ∷ 11 ∷ []
 
 all-read : (c : Call) → OneOf reading (tagOf call.the-type c) → readsOnly c ≡ true
 all-read (Load a w) h = refl
@@ -31,6 +31,7 @@ all-read Flush h = absurd (miss reading 7 tt h)
 all-read (Show a) h = refl
 all-read (Checkpoint x) h = absurd (miss reading 9 tt h)
 all-read (Restore x) h = absurd (miss reading 10 tt h)
+all-read Preview h = refl
 
 enum-told : tie.Need-enum-told
 enum-told c = search needs

@@ -101,6 +101,12 @@ enum-known-a-13 c = search needs
 coded-requires-14 : tie.Need-coded-requires-14
 coded-requires-14 c κs = search needs
 
+enum-known-a-14 : tie.Need-enum-known-a-14
+enum-known-a-14 c = search needs
+
+coded-preview-requires : tie.Need-coded-preview-requires
+coded-preview-requires c κs = search needs
+
 returns : tie.Need-returns
 returns c =
     let a = c .before .before .a in
@@ -171,6 +177,11 @@ returns-14 c =
     let a13 = c .before .before .a13 in
     rw (a13 .given .1) (c .coded14 .ensures)
 
+returns-15 : tie.Need-returns-15
+returns-15 c =
+    let a14 = c .before .before .a14 in
+    rw (a14 .given .1) (c .coded-preview .ensures)
+
 pub answer-image-spec : {M : Type 1} → statement M
 answer-image-spec =
     tie.close
@@ -205,6 +216,8 @@ answer-image-spec =
     coded-requires-13
     enum-known-a-13
     coded-requires-14
+    enum-known-a-14
+    coded-preview-requires
     returns
     returns-2
     returns-3
@@ -218,4 +231,5 @@ answer-image-spec =
     returns-11
     returns-12
     returns-13
-    returns-14)
+    returns-14
+    returns-15)

@@ -50,12 +50,16 @@ unfolding callNumbered
 returns-11 c = rw (c .match .keys11)
 
 returns-12 : tie.Need-returns-12
-returns-12 c =
+unfolding callNumbered
+returns-12 c = rw (c .match .keys12)
+
+returns-13 : tie.Need-returns-13
+returns-13 c =
     let rest = c .match .rest in
-    let seven = rest .0 .0 .0 .0 in
-    let three = seven .0 .0 .0 .0 in
+    let eight = rest .0 .0 .0 .0 in
+    let four = eight .0 .0 .0 .0 in
     sym
-    (none-of-theirs _ _ _ _ (three .0 .0 .1) (three .0 .1) (three .1) (seven .0 .0 .0 .1) (seven .0 .0 .1) (seven .0 .1) (seven .1) (rest .0 .0 .0 .1) (rest .0 .0 .1) (rest .0 .1) (rest .1))
+    (none-of-theirs _ _ _ _ (four .0 .0 .0 .1) (four .0 .0 .1) (four .0 .1) (four .1) (eight .0 .0 .0 .1) (eight .0 .0 .1) (eight .0 .1) (eight .1) (rest .0 .0 .0 .1) (rest .0 .0 .1) (rest .0 .1) (rest .1))
 
 pub call-numbered-spec : {M : Type 1} → statement M
 call-numbered-spec =
@@ -72,4 +76,5 @@ call-numbered-spec =
     returns-9
     returns-10
     returns-11
-    returns-12)
+    returns-12
+    returns-13)

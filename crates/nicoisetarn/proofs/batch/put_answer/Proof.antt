@@ -61,7 +61,7 @@ same-length : tie.Need-same-length
 same-length c = simp length-set
 
 returns : tie.Need-returns
-returns c = put-six (c .args .answers .now) (c .args .at) (c .args .a .kind) (c .args .a .first) (c .args .a .second) 0 0 0
+returns c = put-six (c .args .answers .now) (c .args .at) (c .args .a .kind) (c .args .a .first) (c .args .a .second) (c .args .a .third) (c .args .a .fourth) (c .args .a .fifth)
 
 pub put-answer-spec : {M : Type 1} → statement M
 put-answer-spec =

@@ -8,7 +8,7 @@ use denote.Enum.Declared.{tagOf}
 use Rattle.rules.specs.Runs.{refusal}
 use Rattle.model.specs.State.{callOf}
 use Rattle.model.specs.declared.Call.{Call}
-use Rattle.model.specs.declared.Call.the-variants.{Load, Store, Retry, Commit, Abort, Idle, Reply, Flush, Show, Checkpoint, Restore}
+use Rattle.model.specs.declared.Call.the-variants.{Load, Store, Retry, Commit, Abort, Idle, Reply, Flush, Show, Checkpoint, Restore, Preview}
 use Rattle.model.proofs.Call as call
 use Rattle.nicoisetarn.specs.Answers.{coded, imagedAnswer}
 use Rattle.nicoisetarn.proofs.steps.refused_with.Statement.{statement}
@@ -16,7 +16,7 @@ use Rattle.nicoisetarn.proofs.steps.refused_with.Tie as tie
 
 -- the variants beside show line
 abbrev others : List ℕ
-others = 0 ∷ 1 ∷ 2 ∷ 3 ∷ 4 ∷ 5 ∷ 6 ∷ 7 ∷ 9 ∷ 10 ∷ []
+others = 0 ∷ 1 ∷ 2 ∷ 3 ∷ 4 ∷ 5 ∷ 6 ∷ 7 ∷ 9 ∷ 10 ∷ 11 ∷ []
 
 named : (k : ℕ) (c : Call) → OneOf others (tagOf call.the-type c) → coded 0 k 0 ≡ imagedAnswer (refusal (callOf c) k)
 named k (Load a w) h = refl
@@ -30,6 +30,7 @@ named k Flush h = refl
 named k (Show a) h = absurd (miss others 8 tt h)
 named k (Checkpoint x) h = refl
 named k (Restore x) h = refl
+named k Preview h = refl
 
 enum-told : tie.Need-enum-told
 enum-told c = search needs

@@ -116,6 +116,9 @@ enum-told-2 c = search needs
 enum-told-3 : tie.Need-enum-told-3
 enum-told-3 c = search needs
 
+enum-told-4 : tie.Need-enum-told-4
+enum-told-4 c = search needs
+
 same-length : tie.Need-same-length
 same-length c = search needs
 
@@ -244,6 +247,10 @@ returns-14 : tie.Need-returns-14
 unfolding answerLine
 returns-14 c = rw (c .enum-told3 .given .1) (wrote-none _ _)
 
+returns-15 : tie.Need-returns-15
+unfolding answerLine
+returns-15 c = rw (c .enum-told4 .given .1) (wrote-none _ _)
+
 pub say-spec : {M : Type 1} → statement M
 say-spec =
     tie.close
@@ -285,6 +292,7 @@ say-spec =
     say-one-requires-10
     enum-told-2
     enum-told-3
+    enum-told-4
     same-length
     returns
     same-length-2
@@ -310,4 +318,5 @@ say-spec =
     same-length-12
     returns-12
     returns-13
-    returns-14)
+    returns-14
+    returns-15)

@@ -1,4 +1,4 @@
--- `nicoisetarn::nicoisetarn_show_line_in` meets its contract: a walk of its code, written by tools/lent_call. The struct is looked into and copied out, the borrow
+-- `nicoisetarn::nicoisetarn_show_line_24_in` meets its contract: a walk of its code, written by tools/lent_call. The struct is looked into and copied out, the borrow
 -- is shut again, and the copy is passed to `steps::show_image`, whose answer is returned.
 use mathlib.Core.Path.{_≡_, refl, ap, subst}
 use Prim.Native.Nat.{ℕ, _<_, _^_}
@@ -49,10 +49,10 @@ use Rattle.nicoisetarn.proofs.steps.show_image as g
 use Rattle.nicoisetarn.proofs.steps.show_image.Symbol as g-def
 use Rattle.nicoisetarn.proofs.steps.show_image.Symbol.{name as #callee}
 use Rattle.nicoisetarn.proofs.steps.show_image.Met as g-thm
-use Rattle.nicoisetarn.proofs.nicoisetarn_show_line_in.Key.{name as #own}
-use Rattle.nicoisetarn.proofs.nicoisetarn_show_line_in as f
-use Rattle.nicoisetarn.proofs.nicoisetarn_show_line_in.Statement as stated
-use Rattle.nicoisetarn.proofs.nicoisetarn_show_line_in.Code as code
+use Rattle.nicoisetarn.proofs.nicoisetarn_show_line_24_in.Key.{name as #own}
+use Rattle.nicoisetarn.proofs.nicoisetarn_show_line_24_in as f
+use Rattle.nicoisetarn.proofs.nicoisetarn_show_line_24_in.Statement as stated
+use Rattle.nicoisetarn.proofs.nicoisetarn_show_line_24_in.Code as code
 
 abbrev stayed : Stays (f.ended .signature .params) (f.ended .kept)
 stayed = (stay-none-ref (0 ∷ []) tt (plain (λ _. T.the-row)) yes, (stay-none (λ _. u32) yes, (stay-none-slice (1 ∷ []) tt (plain (λ _. u8)) yes, (stay-none-slice (2 ∷ []) tt (plain (λ _. u8)) yes, tt))))
@@ -146,9 +146,9 @@ meets : {M : Type 1} (𝓤 : URA M) (H : Heap 𝓤) (A : Atoms 𝓤) → Given �
 meets 𝓤 H A W at-mem run 𝓣 known = walk-meets 𝓤 H A f.ended stayed W (goes 𝓤 H A W at-mem run) (f.clauses 𝓤 H A at-mem run) (WpFn 𝓤 H (𝓣 .C) (𝓣 .Λ) code.function) (WpFn-mono 𝓤 H (W .laws) 𝓣 code.function)
     (walks 𝓤 H A W at-mem run (𝓣 .C) (𝓣 .Λ) (fmOf 𝓤 H (W .laws) 𝓣) known)
 
-pub nicoisetarn-show-line-in-spec : {M : Type 1} → stated.statement M
+pub nicoisetarn-show-line-24-in-spec : {M : Type 1} → stated.statement M
 unfolding code.routine tablesOf
-nicoisetarn-show-line-in-spec 𝓤 H 𝓜 𝓖 𝓡 =
+nicoisetarn-show-line-24-in-spec 𝓤 H 𝓜 𝓖 𝓡 =
     entered 𝓤 H (tripleOf 𝓤 H (𝓖 .A) f.signature (f.spec 𝓤 H (𝓖 .A) (𝓜 .mem) (𝓡 .run)))
     (tables 𝓤 H 𝓜 𝓡 code.env .C) (tables 𝓤 H 𝓜 𝓡 code.env .Λ) #own code.function (code.unfolded 𝓤 H 𝓜 𝓡)
     (meets 𝓤 H (𝓖 .A) (givenOf 𝓤 H 𝓜 𝓖) (𝓜 .mem) (𝓡 .run) (tablesOf 𝓤 H 𝓜 (tables 𝓤 H 𝓜 𝓡 code.env))
