@@ -359,10 +359,13 @@ pub trait Machine {
 
     /// Use: age 0 for the record, 1 more for each smaller age of its set.
     fn use_record(state: &mut State, record: usize) {
-        let (set, used) = (set_around(state, record), state.tags[record].age);
+        let (set, old) = (set_around(state, record), state.tags[record].age);
         for tag in &mut state.tags[set] {
-            tag.age = aged(tag.age, used);
+            if tag.age < old {
+                tag.age += 1;
+            }
         }
+        state.tags[record].age = 0;
     }
 
     /// Uses a line if it is present.

@@ -7,7 +7,7 @@
 mod beside;
 mod numbered;
 
-use beside::{in_each_profile, times, with_marks, with_previews, Bench, Beside};
+use beside::{in_each_profile, previews_between, times, with_marks, Bench, Beside};
 use compare::random::{self, Mix, Rng, Run};
 use compare::types::{Answer, Setup};
 use nicoisetarn::{Answer as Ours, Batch, Call as Made, Figures, Image, Refusal, Unit};
@@ -60,7 +60,7 @@ fn long_runs_in_lists() {
     let mut rng = Rng::new(0x10_BA7C);
     for setup in in_each_profile(&setups.repeat(times() as usize)) {
         let run = random::script_run(&mut rng, setup, 6_500, Mix::Accepted);
-        let run = with_previews(with_marks(run, &mut rng), &mut rng);
+        let run = previews_between(with_marks(run, &mut rng), &mut rng);
         if let Err(what) = check_run(&run, &mut rng, 1_000) {
             panic!("{setup:?}, {what}");
         }

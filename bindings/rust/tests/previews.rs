@@ -10,7 +10,7 @@ mod numbered;
 mod told;
 
 use beside::refused::answers;
-use beside::{in_each_profile, judge, layout, played, tags, times, with_byte, with_previews};
+use beside::{in_each_profile, judge, layout, played, previews_between, tags, times, with_byte};
 use beside::{Bench, POLICIES};
 use compare::counts::{refused, Counts};
 use compare::random::{self, Rng};
@@ -381,7 +381,7 @@ fn previews_leave_no_trace() {
     let mut counts = Counts::default();
     for seed in 0..400 * times() {
         let mut rng = Rng::new(seed ^ 0x93E2_0000);
-        let run = with_previews(random::run(seed ^ 0x93E2_4000), &mut rng);
+        let run = previews_between(random::run(seed ^ 0x93E2_4000), &mut rng);
         let begun = Bench::begin(&run);
         let (answers, left) = played(&begun, &run.calls);
         counts.calls += run.calls.len() as u64;

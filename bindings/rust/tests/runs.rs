@@ -6,7 +6,7 @@
 
 mod beside;
 
-use beside::{in_each_profile, in_force, judge, tags, times, with_marks, with_previews};
+use beside::{in_each_profile, in_force, judge, previews_between, tags, times, with_marks};
 use beside::{Bench, Beside};
 use compare::counts::{Counts, Needed};
 use compare::met;
@@ -287,7 +287,7 @@ fn long_runs() {
         let mut rng = Rng::new(turn ^ 0x1046_0000);
         for setup in in_each_profile(&SETUPS) {
             let run = random::script_run(&mut rng, setup, 20_000, Mix::Accepted);
-            let run = with_previews(with_marks(run, &mut rng), &mut rng);
+            let run = previews_between(with_marks(run, &mut rng), &mut rng);
             if let Err(what) = play(&run, &mut counts) {
                 panic!("turn {turn}, {setup:?}, {what}");
             }

@@ -460,7 +460,7 @@ pub fn with_marks(run: Run, rng: &mut Rng) -> Run {
 }
 
 /// A run with previews put between its calls: before replies often, elsewhere now and then.
-pub fn with_previews(run: Run, rng: &mut Rng) -> Run {
+pub fn previews_between(run: Run, rng: &mut Rng) -> Run {
     let mut calls = Vec::new();
     for &call in &run.calls {
         if rng.one_in(if call == Call::Reply { 2 } else { 16 }) {
