@@ -1,17 +1,19 @@
 // The access checks, 01's 2 to 5: a checked access, and whether a stored value fits its width.
+#![tactic(auto)]
+
 ghost use Rattle.std.specs.Prelude.{◌≡◌, ◌&&◌, ◌%◌, ◌^◌, ltb, eqb};
 ghost use Rattle.rules.specs.Calls.{width_allowed, passes, access_checks};
 ghost use Rattle.access.specs.AccessChecks.{sized, checked_access, failure_of};
 
 // An access that passed checks 2, 3 and 4.
-#[derive(Drop)]
+#[derive(Clone, Copy)]
 pub struct Access {
     pub address: u32,
     pub width: u32,
 }
 
 // The checked access, or the number of its refusal.
-#[derive(Drop)]
+#[derive(Clone, Copy)]
 pub enum Checked {
     Passed(Access),
     Failed(u32),

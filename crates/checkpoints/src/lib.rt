@@ -1,5 +1,7 @@
 // The checkpoints (02, card 3: the branch marks in force), by value.
 // A public function takes any list, well formed or not, and its answer is a definition of the rules.
+#![tactic(auto)]
+
 ghost use Rattle.std.specs.Prelude.{◌≡◌, cond, ◌<◌, ◌≤◌, drop};
 ghost use Rattle.lists.specs.Padded.{any, every, position, placed, without};
 ghost use Rattle.rules.specs.Shape.{checkpoint_places, no_checkpoint, is_free_checkpoint};
@@ -243,7 +245,7 @@ fn forget_from(
 // ---- all changes
 
 // What a call does to the checkpoints. (One function makes them all: the calls, which stand in one large function, then stay small.)
-#[derive(Drop)]
+#[derive(Clone, Copy)]
 pub enum Change {
     // a mark of that name is set at that number
     Add(u32, u32),

@@ -1,4 +1,6 @@
 // A run of the model on 2 sets of 2 ways and 256 bytes of memory. Each check writes a line: its name, then `ok` or `wrong`.
+#![tactic(auto)]
+
 use model::{Call, StartAnswer, Started, State};
 use rules::{Figures, Tag, WritePolicy};
 

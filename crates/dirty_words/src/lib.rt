@@ -1,5 +1,7 @@
 // The dirty marks of a record, one for each aligned 4-byte word of its line: that of word n weighs 2 to the power n.
 // A public function takes any marks and any numbers.
+#![tactic(auto)]
+
 ghost use Rattle.std.specs.Prelude.{◌≡◌, ◌&&◌, ◌^◌, ◌<◌, ◌≤◌, ltb};
 ghost use Rattle.rules.specs.Lines.{word_of, is_dirty_word, with_mark, mark_count};
 

@@ -1,5 +1,7 @@
 // Images of the state: numbers in place of its truth values, its write policy and its miss register, so that any bytes are an image. A state is
 // opened from its image, and an image made of a state; which images stand for a state.
+#![tactic(auto)]
+
 ghost use Rattle.std.specs.Prelude.{◌≡◌};
 ghost use Rattle.images.specs.Images.{opened_profile, profile_of, is_profile, figures_with, used_records, opened_first, imaged_with, imaged_of, stands_first};
 ghost use Rattle.images.specs.Claims.{ImagesStandForStates};
@@ -22,7 +24,7 @@ pub const PROFILE_WRITE_THROUGH: u32 = 1;
 
 // An entry of the store queue. No struct here has padding.
 #[repr(C)]
-#[derive(Drop)]
+#[derive(Clone, Copy)]
 pub struct StoreImage {
     pub number: u32,
     pub address: u32,
@@ -32,7 +34,7 @@ pub struct StoreImage {
 
 // An entry of the load queue.
 #[repr(C)]
-#[derive(Drop)]
+#[derive(Clone, Copy)]
 pub struct LoadImage {
     pub number: u32,
     pub address: u32,
@@ -45,7 +47,7 @@ pub struct LoadImage {
 
 // A tag record.
 #[repr(C)]
-#[derive(Drop)]
+#[derive(Clone, Copy)]
 pub struct TagImage {
     // 0 or 1
     pub valid: u8,
@@ -59,7 +61,7 @@ pub struct TagImage {
 
 // The image of a state.
 #[repr(C)]
-#[derive(Drop)]
+#[derive(Clone, Copy)]
 pub struct Image {
     // the figures, one after the other
     pub sets: u32,

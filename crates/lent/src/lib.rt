@@ -1,5 +1,7 @@
 // A start and a call on a lent state: "the lent state is updated where the bench stores it". Each calls the function by value, stores
 // what that handed back where the state stood, and answers what it answered.
+#![tactic(auto)]
+
 ghost use Rattle.std.specs.Prelude.{◌≡◌};
 ghost use Rattle.model.specs.State.{world_of, call_of, Does};
 ghost use Rattle.lent.specs.Starts.{StartsIn, ran_of, start_then};
@@ -38,7 +40,7 @@ pub fn step_in(state: &mut State, call: Call, cache: &mut [u8], memory: &mut [u8
 }
 
 // The answers of a start and of a call after it.
-#[derive(Drop)]
+#[derive(Clone, Copy)]
 pub struct StartAndStep {
     pub started: StartAnswer,
     pub answer: Answer,

@@ -3,6 +3,8 @@
 // A public function takes any record, any numbers and bytes of any length. Where the places do not lie in the bytes it changes
 // nothing, or reads nothing.
 // A line of the cache is named by its slot, s × ways + w for way w of set s.
+#![tactic(auto)]
+
 ghost use Rattle.std.specs.Prelude.{◌≡◌, true, ◌+◌, ◌*◌, ◌<◌, ◌≤◌, length};
 ghost use Rattle.lists.specs.Bytes.{gather};
 ghost use Rattle.lists.specs.Counted.{each_from};
@@ -20,14 +22,14 @@ use store_queue::Byte;
 const MAX_WIDTH: u32 = 4;
 
 // What a load reads: a value that is whole, with whether each of its bytes came from a held store (02, card 6), or some byte is lacking.
-#[derive(Drop)]
+#[derive(Clone, Copy)]
 pub enum Read {
     Whole(u32, bool),
     Lacking,
 }
 
 // A byte of a load: from a held store, from its line, or from neither.
-#[derive(Drop)]
+#[derive(Clone, Copy)]
 enum LoadByte {
     Forwarded(u8),
     Cached(u8),

@@ -1,6 +1,8 @@
 // Whether the lines of a state are well formed: the figures and the lent lengths, then each record with its bytes.
 // A public function takes any figures, records and buffers, and its answer is a definition of the rules.
 // A record is named by its slot, s × ways + w for way w of set s.
+#![tactic(auto)]
+
 ghost use Rattle.std.specs.Prelude.{◌≡◌, true, not, ◌||◌, [], ◌+◌, ◌*◌, ◌%◌, ◌<◌, ◌≤◌, length, drop};
 ghost use Rattle.lists.specs.Bytes.{value_at};
 ghost use Rattle.lists.specs.Padded.{every};

@@ -1,4 +1,6 @@
 // Lists with free places, loops that count, and bytes of numbers: definitions (specs/) and laws (proofs/). Its code makes bytes and numbers zero.
+#![tactic(auto)]
+
 ghost use Rattle.std.specs.Prelude.{◌≡◌, length, replicate};
 
 // Makes every byte zero.

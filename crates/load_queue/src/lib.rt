@@ -1,5 +1,7 @@
 // The load queue (01: the list of loads), by value.
 // A public function takes any queue, well formed or not, and its answer is a definition of the rules.
+#![tactic(auto)]
+
 ghost use Rattle.std.specs.Prelude.{◌≡◌, cond};
 ghost use Rattle.lists.specs.Padded.{any, first, position, without, placed, changed};
 ghost use Rattle.rules.specs.Shape.{no_load, is_free_load};

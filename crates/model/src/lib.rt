@@ -1,6 +1,8 @@
 // The load/store unit: its state by value, and its calls as methods.
 // Each call takes any state, buffers of any length and numbers of any size, refuses what is bad by the paper's number and then
 // changes nothing. `answer_of` in specs/State.antt gives the paper's number and values for each answer.
+#![tactic(auto)]
+
 use records::Preview;
 use rules::{
     CHECKPOINT_PLACES, Checkpoint, Figures, LOAD_PLACES, LoadEntry, Request, STORE_PLACES,
@@ -25,7 +27,7 @@ mod steps;
 mod store;
 
 // The state. A free place of a list and an unused record are all zero.
-#[derive(Drop)]
+#[derive(Clone, Copy)]
 pub struct State {
     // sets and ways
     pub figures: Figures,
@@ -47,21 +49,21 @@ pub struct State {
 }
 
 // What a start answers: ready, or the refusal's number.
-#[derive(Drop)]
+#[derive(Clone, Copy)]
 pub enum StartAnswer {
     Ready,
     NotAllowed(u32),
 }
 
 // What a start hands back. The state of a refused start is all zero.
-#[derive(Drop)]
+#[derive(Clone, Copy)]
 pub struct Started {
     pub answer: StartAnswer,
     pub state: State,
 }
 
 // What a call answers, with the paper's numbers.
-#[derive(Drop)]
+#[derive(Clone, Copy)]
 pub enum Answer {
     // the refusal's number (`rules` has a name for each)
     Refused(u32),
@@ -96,14 +98,14 @@ pub enum Answer {
 }
 
 // What a call hands back: its answer and the next state.
-#[derive(Drop)]
+#[derive(Clone, Copy)]
 pub struct Step {
     pub answer: Answer,
     pub next: State,
 }
 
 // The calls of a run.
-#[derive(Drop)]
+#[derive(Clone, Copy)]
 pub enum Call {
     // address, width
     Load(u32, u32),

@@ -8,7 +8,7 @@ use line_bytes::Read;
 use rules::{LINE_BYTES, LINE_LENGTH, Lookup};
 
 // What the lookup says of a load's line, and what the load reads.
-#[derive(Drop)]
+#[derive(Clone, Copy)]
 pub struct Reading {
     pub found: Lookup,
     pub read: Read,

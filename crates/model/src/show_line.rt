@@ -8,7 +8,7 @@ use crate::{Answer, State, Step};
 use rules::{LINE_BYTES, LINE_LENGTH, Lookup, Request};
 
 // A part of the cache: where it begins, and its length, 16 or 0.
-#[derive(Drop)]
+#[derive(Clone, Copy)]
 pub struct Part {
     pub start: usize,
     pub length: usize,

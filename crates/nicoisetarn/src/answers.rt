@@ -16,7 +16,7 @@ use model::{Answer, Call};
 use records::{Eviction, Preview};
 
 // The call of a number, if there is one.
-#[derive(Drop)]
+#[derive(Clone, Copy)]
 pub(crate) enum Numbered {
     Known(Call),
     Unknown,

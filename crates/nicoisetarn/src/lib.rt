@@ -1,6 +1,8 @@
 // The boundary for C and Rust: functions that start an image of the state where the caller stores it, step it by one call or by a list of
 // calls, and look at it; and the ways study, which has no image.
 // An image that stands for no state is refused and never repaired. Calls and answers go by numbers.
+#![tactic(auto)]
+
 ghost use Rattle.std.specs.Prelude.{◌≡◌, length};
 ghost use Rattle.study.specs.Study.{studied, scratch_after};
 ghost use Rattle.nicoisetarn.specs.Steps.{left_of, started, stepped, line_shown};
@@ -46,7 +48,7 @@ pub const CALL_PREVIEW: u32 = 11;
 
 // An answer: its kind and the papers' numbers, the others 0.
 #[repr(C)]
-#[derive(Drop)]
+#[derive(Clone, Copy)]
 pub struct AnswerImage {
     pub kind: u32,
     pub first: u32,
@@ -102,7 +104,7 @@ pub const CALL_STRIDE: usize = 6;
 pub const ANSWER_STRIDE: usize = 6;
 
 // What a call hands back by value: its answer and the next image.
-#[derive(Drop)]
+#[derive(Clone, Copy)]
 pub struct ImageStep {
     pub answer: AnswerImage,
     pub next: Image,

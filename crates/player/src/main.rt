@@ -1,4 +1,6 @@
 // Plays a script: standard input to standard output. All that a script means is in `script_play`; this reads and writes.
+#![tactic(auto)]
+
 ghost use Rattle.std.specs.Prelude.{◌≤◌, length};
 
 use libc::STDOUT_FILENO;
@@ -8,7 +10,7 @@ use script_play::Player;
 const CHUNK_BYTES: usize = 2048;
 
 // What a read gave: whether there may be more, and the player after it.
-#[derive(Drop)]
+#[derive(Clone, Copy)]
 struct Reading {
     more: bool,
     player: Player,

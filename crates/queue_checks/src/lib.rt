@@ -1,5 +1,7 @@
 // Tests of the two queues together: whether the oldest store may drain, whether a requested line is wanted, and whether every
 // entry is well formed. A public function takes any queues, and its answer is a definition of the rules.
+#![tactic(auto)]
+
 ghost use Rattle.std.specs.Prelude.{◌≡◌, true, ◌&&◌, ◌+◌, ◌<◌, ◌≤◌, ltb, eqb, drop};
 ghost use Rattle.lists.specs.Padded.{any, every, free_last};
 ghost use Rattle.rules.specs.Forward.{older_covers, some_uncovered};

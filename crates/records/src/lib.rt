@@ -2,6 +2,8 @@
 // A record is named by its slot, s × ways + w for way w of set s; a set's records stand from its first slot on.
 // A public function takes any table and any places. Where the places it is given do not lie in the table, it answers slot 0, a miss or an empty preview, or
 // leaves the records as they are; else its answer is a definition of the rules, or one of specs/Records that says the same of a set's slots.
+#![tactic(auto)]
+
 ghost use Rattle.std.specs.Prelude.{◌≡◌, cond, not, true, ◌&&◌, ◌+◌, ◌*◌, ◌%◌, ◌<◌, ◌≤◌, ltb, leb, set, replicate};
 ghost use Rattle.std.proofs.Math.Option.{some, none};
 ghost use Rattle.lists.specs.Padded.{first, filter, total};
@@ -274,14 +276,14 @@ pub fn victim(tags: [Tag; TAG_RECORDS], first: usize, ways: usize) -> usize
 // ---- what a fill will do (02, card 7)
 
 // "the line evicted if any", by its number.
-#[derive(Drop)]
+#[derive(Clone, Copy)]
 pub enum Eviction {
     Nothing,
     Line(u16),
 }
 
 // The ages of a set, way by way; 0 for a way that the set has not.
-#[derive(Drop)]
+#[derive(Clone, Copy)]
 pub struct Ages {
     pub way0: u8,
     pub way1: u8,
@@ -290,7 +292,7 @@ pub struct Ages {
 }
 
 // "the way, the line evicted if any, which of its four words are to be written back and the ages of that set after it"
-#[derive(Drop)]
+#[derive(Clone, Copy)]
 pub struct Preview {
     // from 0
     pub way: u32,

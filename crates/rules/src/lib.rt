@@ -1,12 +1,14 @@
 // The declared types of the load/store model: figures, a tag record, an entry of each queue, a checkpoint, the miss register, and what
 // the tag lookup answers; the numbers that every crate names, and the test of a set count. The rules over them stand in specs/, and what is
 // claimed of the rules is promised here by functions that do nothing.
+#![tactic(auto)]
+
 ghost use Rattle.std.specs.Prelude.{◌≡◌};
 ghost use Rattle.rules.specs.Shape.{sets_allowed};
 ghost use Rattle.rules.specs.Claims.{RefusedCallsKeep, RefusalsExact, RefusalTableHolds, NumbersGiven, DroppedStretches, RestoredStretches, CheckpointsAreExact, KeptWellFormed, ValuesAreRight, WaitsAreExact, WaitStatusIsExact, LookupIsExact, ForwardingIsExact, PreviewIsExact, FlushesAreExact, FlatMemoryIsKept, WordsAreExact};
 
 // The figures of a store that a start chooses. (02, card 1: "A start may choose this profile.")
-#[derive(Drop)]
+#[derive(Clone, Copy)]
 pub struct Figures {
     pub sets: u32,
     pub ways: u32,
@@ -14,14 +16,14 @@ pub struct Figures {
 }
 
 // The write policy (02, card 1: the write profile): write-back with write-allocate, or write-through without it.
-#[derive(Drop)]
+#[derive(Clone, Copy)]
 pub enum WritePolicy {
     WriteBack,
     WriteThrough,
 }
 
 // A tag record: one way of one set. (Memory has at most 4,096 lines, and an age is at most 3.)
-#[derive(Drop)]
+#[derive(Clone, Copy)]
 pub struct Tag {
     pub valid: bool,
     // the dirty marks of the line's four words (02, card 2): that of word n weighs 2 to the power n
@@ -31,7 +33,7 @@ pub struct Tag {
 }
 
 // An entry of the store queue (01: a held store). A free place is all zero.
-#[derive(Drop)]
+#[derive(Clone, Copy)]
 pub struct StoreEntry {
     pub number: u32,
     pub address: u32,
@@ -40,7 +42,7 @@ pub struct StoreEntry {
 }
 
 // An entry of the load queue (01: a listed load). A free place is all zero.
-#[derive(Drop)]
+#[derive(Clone, Copy)]
 pub struct LoadEntry {
     pub number: u32,
     pub address: u32,
@@ -53,7 +55,7 @@ pub struct LoadEntry {
 // A checkpoint (02, card 3: a branch mark): its name, the next operation number when it was set, and its rank by order of setting, from 1.
 // A free place is all zero. (It is laid out as in C, without padding: the image of a state has it as it is.)
 #[repr(C)]
-#[derive(Drop)]
+#[derive(Clone, Copy)]
 pub struct Checkpoint {
     pub name: u32,
     pub number: u32,
@@ -61,14 +63,14 @@ pub struct Checkpoint {
 }
 
 // The miss register (01: the request register): free, or the line that it names.
-#[derive(Drop)]
+#[derive(Clone, Copy)]
 pub enum Request {
     Free,
     Line(u32),
 }
 
 // What the tag lookup answers of a line (02, card 4: "present with its way, requested, or absent").
-#[derive(Drop)]
+#[derive(Clone, Copy)]
 pub enum Lookup {
     // present: the way of its set that has it, from 0
     Hit(usize),

@@ -1,6 +1,8 @@
 // What is claimed of runs of the code: every demand, said of what `State::start` and `State::step` answered, handed back and left in the
 // lent bytes. Each claim is the contract of a function that does nothing; the first two functions make the calls, and promise of them what
 // the claims take them to promise.
+#![tactic(auto)]
+
 ghost use Rattle.runs.specs.Machines.{AsPromised, StartPromised};
 ghost use Rattle.runs.specs.Values.{ValuesOfCode, WaitsOfCode, WaitStatusOfCode, FlushesOfCode, FlatMemoryOfCode};
 ghost use Rattle.runs.specs.Kept.{KeptOfCode, AdmittedOfCode};

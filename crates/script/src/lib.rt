@@ -1,4 +1,6 @@
 // The script language: what is claimed of its definitions, promised by functions that do nothing.
+#![tactic(auto)]
+
 ghost use Rattle.script.specs.Claims.{CutsDoNotMatter, LinesHeldShort, ExamplesPlayed};
 
 // Where an input is cut into chunks does not matter.

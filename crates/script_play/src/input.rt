@@ -27,7 +27,7 @@ fn line_end(input: &[u8], from: usize) -> usize
 }
 
 // What is held of a line.
-#[derive(Drop)]
+#[derive(Clone, Copy)]
 pub struct Held {
     line: [u8; HELD_BYTES],
     length: usize,
@@ -84,7 +84,7 @@ fn line_command(
 
 // The run behind the lines that end in an input, how much of the line before them is still held, the place there, and where the output
 // ends.
-#[derive(Drop)]
+#[derive(Clone, Copy)]
 pub struct Ran {
     started: bool,
     state: State,

@@ -1,4 +1,6 @@
 // Scripts played on the load/store unit: the player between two chunks of its input, and what a chunk does.
+#![tactic(auto)]
+
 ghost use Rattle.script_play.specs.Player.{ChunksPlayed};
 
 use model::State;
@@ -8,7 +10,7 @@ mod input;
 mod line;
 
 // A player: its run, once a start was accepted, and the line so far.
-#[derive(Drop)]
+#[derive(Clone, Copy)]
 pub struct Player {
     pub started: bool,
     pub state: State,
@@ -18,7 +20,7 @@ pub struct Player {
 }
 
 // What playing a chunk of the input hands back.
-#[derive(Drop)]
+#[derive(Clone, Copy)]
 pub struct Played {
     pub player: Player,
     // how many bytes were played: all, or none where a buffer is too short

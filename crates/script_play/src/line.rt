@@ -12,7 +12,7 @@ use rules::{Figures, LINE_LENGTH, MAX_MEMORY, MAX_SETS, MAX_WAYS};
 use script_text::writer;
 
 // The run after a start, and where the output ends.
-#[derive(Drop)]
+#[derive(Clone, Copy)]
 pub struct AfterLine {
     pub started: bool,
     pub state: State,

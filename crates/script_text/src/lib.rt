@@ -1,5 +1,7 @@
 // A line of a script read, and the line that answers written.
 // Every public function takes any bytes and numbers, and none stops at bad ones.
+#![tactic(auto)]
+
 use model::Call;
 use rules::Figures;
 
@@ -18,7 +20,7 @@ pub const HELD_BYTES: usize = 65;
 pub const LINE_ROOM: usize = 32;
 
 // What a line asks for.
-#[derive(Drop)]
+#[derive(Clone, Copy)]
 pub enum Command {
     // refused with 6
     Malformed,

@@ -18,7 +18,7 @@ const LAST_DIGIT: u8 = b'9';
 const MOST_NUMBERS: u32 = 3;
 
 // The numbers of a line so far.
-#[derive(Drop)]
+#[derive(Clone, Copy)]
 pub struct Scan {
     // nothing malformed was met
     good: bool,

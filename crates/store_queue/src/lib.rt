@@ -1,5 +1,7 @@
 // The store queue (01: the held stores), by value, and what it forwards to a load.
 // A public function takes any queue, well formed or not, and its answer is a definition of the rules.
+#![tactic(auto)]
+
 ghost use Rattle.std.specs.Prelude.{◌≡◌, cond};
 ghost use Rattle.lists.specs.Bytes.{byte_of};
 ghost use Rattle.lists.specs.Padded.{any, position, final, shifted, placed, changed};
@@ -11,7 +13,7 @@ ghost use Rattle.store_queue.specs.Forwarded.{forwarded};
 use rules::{NO_STORE, STORE_PLACES, StoreEntry};
 
 // What the held stores give for one byte of a load.
-#[derive(Drop)]
+#[derive(Clone, Copy)]
 pub enum Byte {
     Known(u8),
     Unknown,

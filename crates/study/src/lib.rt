@@ -1,6 +1,8 @@
 // Choosing the ways (02, card 5): the hits of a list of line numbers in tags of 1, 2, 3 and 4 ways, found in one pass.
 // The scratch keeps for each set its last four lines in order of use, the latest first: line + 1, or 0 where there is none.
 // An item hits exactly with the ways above the place of its line there, its stack distance.
+#![tactic(auto)]
+
 ghost use Rattle.std.specs.Prelude.{◌≡◌, true, ◌+◌, ◌<◌, ◌≤◌, length, replicate};
 ghost use Rattle.study.specs.Study.{most_ways, most_items, items_allowed, study_allowed, rate_of, rates_of, counted, studied, scratch_after};
 ghost use Rattle.study.specs.Scratch.{TouchedAt, OneMoreFits, CountGiven, CountLeft, RatesFit, one_more, added_hits};
@@ -23,7 +25,7 @@ pub const SCRATCH_SIZE: usize = 640;
 // What a study gives: the number of the refusal, 0 where it is accepted; the hits and the rates per thousand with 1, 2, 3 and 4 ways,
 // zeros where it is refused.
 #[repr(C)]
-#[derive(Drop)]
+#[derive(Clone, Copy)]
 pub struct StudyResult {
     pub refusal: u32,
     pub hits: [u32; STUDY_WAYS],

@@ -1,16 +1,13 @@
 -- `refusal_table` promises what ByComputing computes.
-use Rattle.rules.proofs.refusal_table.Statement.{statement}
-use Rattle.rules.proofs.refusal_table.Tie as tie
 use Rattle.rules.proofs.ByComputing.{start-refusals, input-refusals, state-refusals, clause-refusals, refusals-in-order}
+use Rattle.rules.proofs.refusal_table.Goals as goal
 
-returns : tie.Need-returns
-returns c = record {
+pub returns : goal.returns
+returns c =
+    record {
   starts = start-refusals;
   input = input-refusals;
   state = state-refusals;
   clauses = clause-refusals;
   order = refusals-in-order;
 }
-
-pub refusal-table-spec : {M : Type 1} → statement M
-refusal-table-spec = tie.close (tie.spec returns)

@@ -1,0 +1,21 @@
+-- `zero_numbers` meets its contract. The first i numbers are zero.
+use mathlib.Core.Path.{◌≡◌, refl}
+use Prim.Native.Nat.{◌≤◌, ◌-◌}
+use native.Mathlib.Omega.{arith}
+use lib.ListN.{length, length-set}
+use borrow.Author.Rules.{rules}
+use Rattle.lists.proofs.CountedLoops.{FilledTo, filled_more, filled-all}
+use Rattle.lists.proofs.zero_numbers.Goals as goal
+
+pub loop-i-init : goal.loop-i-init
+loop-i-init c = (search rules, refl, λ k h. let no : ⊥ = omega arith in absurd no)
+
+pub loop-i-preserved : goal.loop-i-preserved
+loop-i-preserved c =
+    let loop = c.loop-i in
+    (omega arith, simp length-set loop.invariant.1, filled_more 0 loop.numbers _ c.loop-i-test.true loop.invariant.2)
+
+pub returns : goal.returns
+returns c =
+    let loop = c.loop-i in
+    filled-all 0 _ _ loop.invariant.1 (λ k h. loop.invariant.2 k (omega arith))
