@@ -6,7 +6,7 @@ use Rattle.script.specs.Text.{bytes_of}
 -- ---- 01's example
 
 abbrev pub example_input : List ℕ
-example_input = bytes_of "G 1 1 32\n_s 4 1 7\n_l 4 1\n_l 5 1\n_x 3\n_c 2\n_i\n_r\n_i\n_f\n_l 5 1\n"
+example_input = bytes_of "G 1 1 32\nS 4 1 7\nL 4 1\nL 5 1\nX 3\nC 2\nI\nR\nI\nF\nL 5 1\n"
 
 abbrev pub example_output : List ℕ
 example_output =
@@ -16,7 +16,7 @@ example_output =
 -- the requested one, says so at once
 
 abbrev pub waits_input : List ℕ
-waits_input = bytes_of "G 1 1 32\n_l 0 1\n_l 4 1\n_c 1\n_i\n_a 2\n_l 16 1\n_l 8 1\n_r\n_a 2\n"
+waits_input = bytes_of "G 1 1 32\nL 0 1\nL 4 1\nC 1\nI\nA 2\nL 16 1\nL 8 1\nR\nA 2\n"
 
 abbrev pub waits_output : List ℕ
 waits_output = bytes_of "ready\nwaits 1\nwaits 2\ncommitted 1\nrequest 0\nwaits-requested 2\nwaits 3\nwaits-requested 4\nfilled 0\nvalue 2 0\n"
@@ -24,7 +24,7 @@ waits_output = bytes_of "ready\nwaits 1\nwaits 2\ncommitted 1\nrequest 0\nwaits-
 -- ---- a call before an accepted G, a refused G in a run, a last line without LF
 
 abbrev pub edge_input : List ℕ
-edge_input = bytes_of "I\n_g 1 1 32\n_s 4 1 7\n_g 3 1 32\n_l 4 1\n_i"
+edge_input = bytes_of "I\nG 1 1 32\nS 4 1 7\nG 3 1 32\nL 4 1\nI"
 
 abbrev pub edge_output : List ℕ
 edge_output = bytes_of "refused 6\nready\nstored 1\nrefused 1\nvalue 2 7\nrefused 6\n"

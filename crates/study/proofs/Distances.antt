@@ -1,7 +1,7 @@
 -- Through all items the records of each set are its stack, so an item hits exactly with the ways above the stack distance of its line; so what
 -- hits with some ways hits with more.
 use Prim.Native.Nat.{ℕ, zero, suc, ◌≤◌}
-use mathlib.Core.Path.{◌≡◌, refl}
+use mathlib.Core.Path.{◌≡◌, refl, subst}
 use mathlib.Core.Bool.{true, false}
 use mathlib.Core.List.{List, [], ◌∷◌, map}
 use native.Mathlib.Nat.{mul-le-mul}
@@ -27,7 +27,8 @@ hits-distances :
 unfolding hits_from distances_from
 hits-distances f [] K b e g = refl
 hits-distances f (l ∷ items) K b e g =
-    rw (item-present K b g l, ← e, hits-distances b.figures items _ _ (item-figures l b) (item-stacked K b g l))
+    let P : Figures → Type 0 = λ v. hits_from (l ∷ items) b ≡ map (λ d. ltb d v.ways) (distances_from v.sets (l ∷ items) K) in
+    subst P e (rw (item-present K b g l, hits-distances b.figures items _ _ (item-figures l b) (item-stacked K b g l)))
 
 -- ---- from a start
 

@@ -1,0 +1,16 @@
+-- `checkpoints::rank_all` meets its contract. The loop: the places that are left to rank give the whole.
+use Prim.Native.Nat.{◌-◌, ◌≤◌}
+use mathlib.Core.Path.{◌≡◌, refl, sym, ◌∙◌}
+use lib.ListN.{length}
+use borrow.Author.Rules.{rules}
+use Rattle.lists.specs.Counted.{steps_from}
+use Rattle.lists.proofs.CountedLoops.{change, steps-end, changes-next, changes-all}
+use Rattle.rules.specs.Shape.{checkpoint_places, no_checkpoint}
+use Rattle.rules.specs.Checkpoints.{rank_at}
+use Rattle.checkpoints.proofs.rank_all.Given as goal
+
+abbrev pub invariant-loop-i : goal.invariant-loop-i
+invariant-loop-i l = (l.i ≤ checkpoint_places) × (steps_from (change rank_at no_checkpoint) 0 checkpoint_places l.initial.next ≡ steps_from (change rank_at no_checkpoint) l.i (checkpoint_places - l.i) l.next)
+
+abbrev pub decreases-loop-i : goal.decreases-loop-i
+decreases-loop-i l = checkpoint_places - l.i

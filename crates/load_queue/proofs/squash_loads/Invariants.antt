@@ -1,0 +1,16 @@
+-- `load_queue::squash_loads` meets its contract. The loop: the first i entries are done.
+use Prim.Native.Nat.{◌-◌, ◌≤◌}
+use mathlib.Core.Path.{◌≡◌, ◌∙◌}
+use native.Mathlib.Omega.{arith}
+use lib.ListN.{length}
+use borrow.Author.Rules.{rules}
+use Rattle.lists.proofs.Loops.{done, done_none, done-step, done_all}
+use Rattle.rules.specs.Shape.{load_places, no_load}
+use Rattle.rules.specs.Calls.{young_load}
+use Rattle.load_queue.proofs.squash_loads.Given as goal
+
+abbrev pub invariant-loop-i : goal.invariant-loop-i
+invariant-loop-i l = (l.i ≤ load_places) × (l.next ≡ done (young_load l.n) (λ l. no_load) l.i l.initial.next)
+
+abbrev pub decreases-loop-i : goal.decreases-loop-i
+decreases-loop-i l = load_places - l.i

@@ -1,0 +1,31 @@
+-- `store_queue::free_store` meets its contract. The loop: the first free place is as far behind i as in the rest.
+use Prim.Native.Nat.{◌+◌, ◌-◌, ◌≤◌}
+use mathlib.Core.Path.{◌≡◌, sym, ◌∙◌}
+use native.Mathlib.Omega.{arith}
+use lib.ListN.{length, drop}
+use borrow.Author.Rules.{rules}
+use borrow.Author.Tests.{eq-eqb, ne_eqb}
+use Rattle.lists.specs.Padded.{position}
+use Rattle.lists.proofs.Loops.{position-hit, position-miss, position-end}
+use Rattle.rules.specs.Shape.{store_places, no_store, is_free_store}
+use Rattle.store_queue.proofs.free_store.Goals as goal
+
+pub loop-i-init : goal.loop-i-init
+loop-i-init c = (search rules, omega arith)
+
+pub returns-then-s-eq0 : goal.returns-then-s-eq0
+returns-then-s-eq0 c =
+    let h : length c.args.stores ≡ store_places = search rules in
+    sym (c.loop-i.invariant.1 ∙ position-hit _ no_store c.args.stores c.loop-i.i (omega arith) (eq-eqb _ 0 c.if-s-eq0.true))
+
+pub loop-i-preserved : goal.loop-i-preserved
+loop-i-preserved c =
+    let h : length c.args.stores ≡ store_places = search rules in (
+      search rules,
+      c.loop-i.invariant.1 ∙ position-miss _ no_store c.args.stores c.loop-i.i (omega arith) (ne_eqb _ 0 c.if-s-eq0.false),
+    )
+
+pub returns : goal.returns
+returns c =
+    let h : length c.args.stores ≡ store_places = search rules in
+    sym (c.loop-i.invariant.1 ∙ position-end _ no_store c.args.stores c.loop-i.i (omega arith))
