@@ -8,8 +8,6 @@ use native.Mathlib.Nat.{mod-eq_of_lt}
 use native.Mathlib.Omega.{arith}
 use lib.Dec.{ltb}
 use lib.ListN.{set}
-use types.Run.{OneOf, miss}
-use denote.Enum.Declared.{tag_of}
 use borrow.Author.Tests.{ltb-true, lt-ltb}
 use Rattle.lists.specs.Padded.{filter}
 use Rattle.lists.specs.Counted.{first_from, each_from}
@@ -24,7 +22,6 @@ use Rattle.rules.specs.declared.Lookup.TheVariants.{Hit, Pending, Miss}
 use Rattle.rules.specs.Shape.{Hierarchy, names, holding, line_of, tag_at, set_of, first_slot}
 use Rattle.rules.specs.Lines.{slot_of, present, way_of, lookup, aged_at, use_slot, use_line}
 use Rattle.rules.specs.Calls.{uses_line_by, use_each}
-use Rattle.rules.specs.contracts.Lookup as answer
 use Rattle.rules.proofs.TagLookup.{hit-tells}
 use Rattle.records.specs.Records.{has_room, in_table, in_set, is_hit, lookup_in, tabled, used_tags, victim_in, ages_in, preview_in, no_preview, installed_in}
 use Rattle.records.proofs.Places.{room-bounds, slots-room, table-bound, in-table, in-set}
@@ -36,12 +33,9 @@ tags-of false x y = refl
 
 -- ---- first_slot and lookup, one after the other
 
--- the variants beside a hit
-abbrev others : List ℕ
-others = 1 ∷ 2 ∷ []
-
-pub no_hit : (f : Lookup) → OneOf others (tag_of answer.the_type f) → is_hit f ≡ false
-no_hit (Hit w) h = absurd (miss others 0 tt h)
+-- what is no hit in any way is none
+pub no_hit : (f : Lookup) → ((w : ℕ) → f ≡ Hit w → ⊥) → is_hit f ≡ false
+no_hit (Hit w) h = absurd (h w refl)
 no_hit Pending h = refl
 no_hit Miss h = refl
 

@@ -1,0 +1,19 @@
+-- `write_words` meets its contract. The bytes that are left to write give the whole line.
+use mathlib.Core.Path.{◌≡◌, refl, sym, ap, ◌∙◌}
+use mathlib.Core.Logic.{⊎_elim}
+use Prim.Native.Nat.{◌≤◌, ◌-◌, ◌+◌, ◌*◌}
+use native.Mathlib.Omega.{arith}
+use lib.ListN.{length, length-set}
+use borrow.Author.Rules.{rules}
+use Rattle.lists.specs.Counted.{steps_from}
+use Rattle.lists.proofs.CountedLoops.{change, steps-off}
+use Rattle.rules.specs.Lines.{written_back_at}
+use Rattle.line_bytes.specs.Writes.{marked_line}
+use Rattle.line_bytes.proofs.Writing.{words-each, turn-dirty, turn-clean}
+use Rattle.line_bytes.proofs.write_words.Given as goal
+
+abbrev pub invariant-loop-i : goal.invariant-loop-i
+invariant-loop-i l = (l.i ≤ 16) × (length l.memory ≡ length l.initial.memory) × (steps_from (change (written_back_at (marked_line l.marks l.line) l.cache l.v) 0) (16 * l.line) 16 l.initial.memory ≡ steps_from (change (written_back_at (marked_line l.marks l.line) l.cache l.v) 0) (16 * l.line + l.i) (16 - l.i) l.memory)
+
+abbrev pub decreases-loop-i : goal.decreases-loop-i
+decreases-loop-i l = 16 - l.i

@@ -1,0 +1,24 @@
+-- `use_answered` meets its contract: the rest of the loads have still to use their lines.
+use borrow.Author.Rules.{rules}
+use mathlib.Core.Path.{◌≡◌, refl, sym, ◌∙◌}
+use mathlib.Core.Bool.{true}
+use native.Mathlib.Omega.{arith}
+use Prim.Native.Nat.{◌+◌, ◌-◌, ◌≤◌}
+use lib.ListN.{length, drop}
+use Rattle.lists.specs.Padded.{filter}
+use Rattle.lists.proofs.Cond.{cond-then, cond-else}
+use Rattle.lists.proofs.Loops.{rest-cons, rest-none}
+use Rattle.rules.specs.Shape.{no_load, line_of}
+use Rattle.rules.specs.Calls.{uses_line_by, use_each}
+use Rattle.records.specs.Records.{has_room, tabled}
+use Rattle.records.proofs.Places.{test-failed, test-passed}
+use Rattle.records.proofs.Answers.{answered-step, other_step}
+use mathlib.Core.Path.{ap}
+use mathlib.Core.Bool.{not}
+use Rattle.records.proofs.use_answered.Given as goal
+
+abbrev pub invariant-loop-j : goal.invariant-loop-j
+invariant-loop-j l = (l.j ≤ 8) × (has_room l.figures ≡ true) × ((use_each (filter (uses_line_by l.k) l.loads) (tabled l.figures l.initial.out)).tags ≡ (use_each (filter (uses_line_by l.k) (drop l.j l.loads)) (tabled l.figures l.out)).tags)
+
+abbrev pub decreases-loop-j : goal.decreases-loop-j
+decreases-loop-j l = 8 - l.j
