@@ -17,4 +17,6 @@ pub returns-then-width-eq2 : goal.returns-then-width-eq2
 returns-then-width-eq2 c = value-limit _ 2 _ c.if-width-eq2.true
 
 pub returns : goal.returns
-returns c = value-limit _ 3 c.args.width (omega arith)
+returns c =
+    let width = c.args.width in
+    value-limit _ 3 width (omega arith)

@@ -7,7 +7,11 @@ use Rattle.dirty_words.proofs.is_dirty.Goals as goal
 
 pub returns-then-n-lt-LINE_WORDS : goal.returns-then-n-lt-LINE_WORDS
 unfolding is_dirty_word
-returns-then-n-lt-LINE_WORDS c = rw (lt-ltb c.args.n 4 (omega arith))
+returns-then-n-lt-LINE_WORDS c =
+    let h = c.if-n-lt-LINE_WORDS.true in
+    rw (lt-ltb c.args.n 4 (omega arith))
 
 pub returns : goal.returns
-returns c = rw (le-ltb c.args.n 4 (omega arith))
+returns c =
+    let h = c.if-n-lt-LINE_WORDS.false in
+    rw (le-ltb c.args.n 4 (omega arith))

@@ -17,11 +17,11 @@ loop-i-init c =
 
 pub loop-i-preserved : goal.loop-i-preserved
 loop-i-preserved c =
-    (
+    let t = c.loop-i-test.true in (
       omega arith,
       c.loop-i.invariant.1,
       simp length-set c.loop-i.invariant.2,
-      c.loop-i.invariant.3 ∙ (steps_on _ (16 * c.args.v) c.loop-i.i 16 _ c.loop-i-test.true ∙ rw (fill-at c.args.v c.loop-i.i c.args.src.now _ c.loop-i-test.true)),
+      c.loop-i.invariant.3 ∙ (steps_on _ (16 * c.args.v) c.loop-i.i 16 _ t ∙ rw (fill-at c.args.v c.loop-i.i c.args.src.now _ t)),
     )
 
 pub returns-after-loop-i : goal.returns-after-loop-i
@@ -30,7 +30,9 @@ returns-after-loop-i c =
     ∙ (sym c.loop-i.invariant.3 ∙ (fill-each c.args.v c.args.src.now c.args.cache.now ∙ sym (filled-inside _ _ _ c.if-src-eq-LINE_LENGTH.true c.loop-i.invariant.1)))
 
 pub returns-else-v-cache : goal.returns-else-v-cache
-returns-else-v-cache c = filled-outside _ _ _ (omega arith)
+returns-else-v-cache c =
+    let h = c.if-v-cache.false in
+    filled-outside _ _ _ (omega arith)
 
 pub returns-else-src-eq-LINE_LENGTH : goal.returns-else-src-eq-LINE_LENGTH
 returns-else-src-eq-LINE_LENGTH c = filled-short _ _ _ c.if-src-eq-LINE_LENGTH.false

@@ -22,12 +22,16 @@ byte_at-b-requires c = λ h. omega (arith, c.requires.3 h)
 pub loop-k-preserved : goal.loop-k-preserved
 unfolding all_forwarded all_from
 loop-k-preserved c =
-    let e₁ : c.args.a + c.loop-k.k ≡ suc (c.args.a + (c.loop-k.k - 1)) = omega arith in
-    let e₂ : c.args.width - (c.loop-k.k - 1) ≡ suc (c.args.width - c.loop-k.k) = omega arith in
-    let e₃ : c.args.p + (c.loop-k.k - 1) ≡ c.args.p + (c.args.a + (c.loop-k.k - 1) - c.args.a) = omega arith in
+    let g = c.loop-k.invariant in
+    let k = c.loop-k.k in
+    let a = c.args.a in
+    let w = c.args.width in
+    let e₁ : a + k ≡ suc (a + (k - 1)) = omega arith in
+    let e₂ : w - (k - 1) ≡ suc (w - k) = omega arith in
+    let e₃ : c.args.p + (k - 1) ≡ c.args.p + (a + (k - 1) - a) = omega arith in
     let b = rw e₃ at c.byte_at-b.ensures in
-    let small = from-small c.args.i c.args.a c.args.stores c.args.cache.now c.args.p c.args.here (λ j. omega (arith, c.shared_slice_known-1.given j)) in
-    (omega arith, c.joined-r.ensures ∙ rw (b, byte-from c.args.i c.args.a c.args.stores c.args.cache.now c.args.p c.args.here (c.args.a + (c.loop-k.k - 1)), c.loop-k.invariant.1, e₁, e₂) (joined-gather _ small _ _ (c.args.width - c.loop-k.k) (c.args.a + (c.loop-k.k - 1)) (omega arith)))
+    let small = from-small c.args.i a c.args.stores c.args.cache.now c.args.p c.args.here (λ j. omega (arith, c.shared_slice_known-1.given j)) in
+    (omega arith, c.joined-r.ensures ∙ rw (b, byte-from c.args.i a c.args.stores c.args.cache.now c.args.p c.args.here (a + (k - 1)), g.1, e₁, e₂) (joined-gather _ small _ _ (w - k) (a + (k - 1)) (omega arith)))
 
 pub returns : goal.returns
 returns c =

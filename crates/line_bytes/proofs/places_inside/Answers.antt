@@ -7,7 +7,9 @@ pub returns-then-width-gt-MAX_WIDTH : goal.returns-then-width-gt-MAX_WIDTH
 returns-then-width-gt-MAX_WIDTH c = wide-outside _ _ _ c.if-width-gt-MAX_WIDTH.true
 
 pub returns-then-length-n : goal.returns-then-length-n
-returns-then-length-n c = far-outside _ _ _ (omega arith)
+returns-then-length-n c =
+    let h = c.if-length-n.true in
+    far-outside _ _ _ (omega arith)
 
 pub returns : goal.returns
 returns c = rest-inside _ _ _ c.if-width-gt-MAX_WIDTH.false c.if-length-n.false

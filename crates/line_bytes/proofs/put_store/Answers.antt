@@ -20,13 +20,13 @@ loop-i-init c =
 
 pub loop-i-preserved : goal.loop-i-preserved
 loop-i-preserved c =
-    (
+    let t = c.loop-i-test.true in (
       omega arith,
       c.loop-i.invariant.1,
       c.loop-i.invariant.2,
       simp length-set c.loop-i.invariant.3,
       ap (λ (n : ℕ). n / 256) c.loop-i.invariant.4 ∙ next-byte c.args.value c.loop-i.i,
-      c.loop-i.invariant.5 ∙ (steps_on _ c.args.at c.loop-i.i c.args.width _ c.loop-i-test.true ∙ rw (put-at c.args.at c.args.width c.args.value c.loop-i.i _ c.loop-i-test.true, c.loop-i.invariant.4)),
+      c.loop-i.invariant.5 ∙ (steps_on _ c.args.at c.loop-i.i c.args.width _ t ∙ rw (put-at c.args.at c.args.width c.args.value c.loop-i.i _ t, c.loop-i.invariant.4)),
     )
 
 pub returns-after-loop-i : goal.returns-after-loop-i

@@ -16,10 +16,11 @@ loop-k-init c =
 
 pub loop-k-preserved : goal.loop-k-preserved
 loop-k-preserved c =
+    let e = c.write_back.ensures in
     let rest = steps_from (slot_written c.args.tags c.args.cache.now) (c.loop-k.k + 1) (c.args.count - (c.loop-k.k + 1)) in (
       omega arith,
-      ap length c.write_back.ensures ∙ (written-length _ _ _ _ ∙ c.loop-k.invariant.1),
-      c.loop-k.invariant.2 ∙ (steps_next _ _ _ _ c.loop-k-test.true ∙ ap rest (sym c.write_back.ensures)),
+      ap length e ∙ (written-length _ _ _ _ ∙ c.loop-k.invariant.1),
+      c.loop-k.invariant.2 ∙ (steps_next _ _ _ _ c.loop-k-test.true ∙ ap rest (sym e)),
     )
 
 pub returns-after-loop-k : goal.returns-after-loop-k

@@ -11,11 +11,7 @@ pub loop-i-init : goal.loop-i-init
 loop-i-init c = (search rules, refl, λ k h. let no : ⊥ = omega arith in absurd no)
 
 pub loop-i-preserved : goal.loop-i-preserved
-loop-i-preserved c =
-    let loop = c.loop-i in
-    (omega arith, simp length-set loop.invariant.1, filled_more 0 loop.numbers _ c.loop-i-test.true loop.invariant.2)
+loop-i-preserved c = (omega arith, simp length-set c.loop-i.invariant.1, filled_more 0 c.loop-i.numbers _ c.loop-i-test.true c.loop-i.invariant.2)
 
 pub returns : goal.returns
-returns c =
-    let loop = c.loop-i in
-    filled-all 0 _ _ loop.invariant.1 (λ k h. loop.invariant.2 k (omega arith))
+returns c = filled-all 0 _ _ c.loop-i.invariant.1 (λ k h. c.loop-i.invariant.2 k (omega arith))

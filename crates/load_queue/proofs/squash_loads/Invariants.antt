@@ -10,7 +10,7 @@ use Rattle.rules.specs.Calls.{young_load}
 use Rattle.load_queue.proofs.squash_loads.Given as goal
 
 abbrev pub invariant-loop-i : goal.invariant-loop-i
-invariant-loop-i l = (l.i ≤ load_places) × (l.next ≡ done (young_load l.n) (λ l. no_load) l.i l.initial.next)
+invariant-loop-i v = (v.i ≤ load_places) × (v.next ≡ done (young_load v.n) (λ l. no_load) v.i v.initial.next)
 
 abbrev pub decreases-loop-i : goal.decreases-loop-i
 decreases-loop-i l = load_places - l.i

@@ -15,10 +15,11 @@ loop-k-init c = (search rules, search rules, omega arith)
 
 pub loop-k-preserved : goal.loop-k-preserved
 loop-k-preserved c =
-    let h : c.loop-k.k < length c.args.tags = omega arith in (
+    let tags = c.args.tags in
+    let h : c.loop-k.k < length tags = omega arith in (
       omega arith,
       omega arith,
-      omega (arith, c.loop-k.invariant.2, c.count-n.ensures.0, total-next words_of c.args.tags c.loop-k.k no_tag h),
+      omega (arith, c.loop-k.invariant.2, c.count-n.ensures.0, total-next words_of tags c.loop-k.k no_tag h),
     )
 
 pub returns : goal.returns

@@ -11,7 +11,9 @@ use Rattle.records.proofs.first_invalid.Goals as goal
 
 pub loop-k-init : goal.loop-k-init
 loop-k-init c =
-    let e : c.args.first + c.args.ways - c.args.first ≡ c.args.ways = omega arith in
+    let f = c.args.first in
+    let w = c.args.ways in
+    let e : f + w - f ≡ w = omega arith in
     (omega arith, omega arith, rw e)
 
 pub loop-k-preserved : goal.loop-k-preserved

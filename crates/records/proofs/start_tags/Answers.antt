@@ -33,7 +33,9 @@ pub overflow_cast-out : goal.overflow_cast-out
 overflow_cast-out c = age-fits _ _ _ c.loop-k-test.true c.loop-k.invariant.1
 
 pub loop-k-preserved : goal.loop-k-preserved
-loop-k-preserved c = (omega arith, c.loop-k.invariant.1, c.loop-k.invariant.2, c.loop-k.invariant.3 ∙ (steps_next _ _ _ _ c.loop-k-test.true ∙ rw (start-at _ _ c.loop-k.k _ c.loop-k-test.true)))
+loop-k-preserved c =
+    let t = c.loop-k-test.true in
+    (omega arith, c.loop-k.invariant.1, c.loop-k.invariant.2, c.loop-k.invariant.3 ∙ (steps_next _ _ _ _ t ∙ rw (start-at _ _ c.loop-k.k _ t)))
 
 pub returns : goal.returns
 returns c =

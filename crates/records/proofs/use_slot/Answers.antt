@@ -32,7 +32,9 @@ overflow_add-end c = omega (arith, (set-bounds _ _ _ (test-passed c.in_set.ensur
 
 pub loop-k-init : goal.loop-k-init
 loop-k-init c =
-    let e : c.args.first + c.args.ways - c.args.first ≡ c.args.ways = omega arith in
+    let f = c.args.first in
+    let w = c.args.ways in
+    let e : f + w - f ≡ w = omega arith in
     (omega arith, omega arith, (set-bounds _ _ _ (test-passed c.in_set.ensures (ap not c.if-not-in_set.false))).0, rw e)
 
 pub loop-k-preserved : goal.loop-k-preserved

@@ -13,10 +13,14 @@ pub nonzero_rem-first : goal.nonzero_rem-first
 nonzero_rem-first c = (some-sets _ _ _ c.requires).0
 
 pub overflow_cast-first : goal.overflow_cast-first
-overflow_cast-first c = omega (arith, set-small _ _ _ c.requires (get_or c.args.items.now c.loop-i.i 0))
+overflow_cast-first c =
+    let i = c.loop-i.i in
+    omega (arith, set-small _ _ _ c.requires (get_or c.args.items.now i 0))
 
 pub overflow_mul-first : goal.overflow_mul-first
-overflow_mul-first c = omega (arith, set-small _ _ _ c.requires (get_or c.args.items.now c.loop-i.i 0))
+overflow_mul-first c =
+    let i = c.loop-i.i in
+    omega (arith, set-small _ _ _ c.requires (get_or c.args.items.now i 0))
 
 pub overflow_add-l : goal.overflow_add-l
 overflow_add-l c = omega (arith, line_small _ _ _ c.requires c.loop-i.i)

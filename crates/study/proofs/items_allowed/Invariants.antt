@@ -12,7 +12,7 @@ use Rattle.study.specs.Study.{line_limit, items_allowed}
 use Rattle.study.proofs.items_allowed.Given as goal
 
 abbrev pub invariant-loop-i : goal.invariant-loop-i
-invariant-loop-i l = (l.i ≤ length l.items) × (every (λ l. ltb l line_limit) l.items ≡ every (λ l. ltb l line_limit) (drop l.i l.items))
+invariant-loop-i v = (v.i ≤ length v.items) × (every (λ l. ltb l line_limit) v.items ≡ every (λ l. ltb l line_limit) (drop v.i v.items))
 
 abbrev pub decreases-loop-i : goal.decreases-loop-i
 decreases-loop-i l = length l.items - l.i

@@ -23,8 +23,8 @@ rates-parts-requires c = allowed-rated _ _ _ (allowed-tells _ _ _ c.requires) _ 
 pub returns : goal.returns
 returns c =
     let n = length c.args.scratch.now in
-    (
-      allowed-counted _ _ _ (allowed-tells _ _ _ c.requires) _ _ c.count_hits-hits.ensures.tallied c.rates-parts.ensures,
+    let hits = c.count_hits-hits.ensures in (
+      allowed-counted _ _ _ (allowed-tells _ _ _ c.requires) _ _ hits.tallied c.rates-parts.ensures,
       c.zero_numbers-2.ensures
-          ∙ ap (λ (n : ℕ). replicate n 0) (c.count_hits-hits.ensures.long ∙ (ap length c.zero_numbers.ensures ∙ length-replicate {A = ℕ} n 0)),
+          ∙ ap (λ (n : ℕ). replicate n 0) (hits.long ∙ (ap length c.zero_numbers.ensures ∙ length-replicate {A = ℕ} n 0)),
     )

@@ -1,0 +1,8 @@
+-- `State::checkpoint_accepted` meets its contract.
+use borrow.Author.Rules.{rules}
+use Rattle.rules.specs.Calls.{checkpoint_rule}
+use Rattle.model.proofs.State.checkpoint_accepted.Goals as goal
+
+pub returns : goal.returns
+unfolding checkpoint_rule
+returns c cache memory = rw c.changed-with_mark.ensures

@@ -1,0 +1,18 @@
+-- `State::flush_formed` meets its contract.
+use borrow.Author.Rules.{rules}
+use mathlib.Core.Path.{refl, sym, ◌∙◌}
+use Rattle.model.proofs.Calls.{formed-opens, one-refuses, one-does}
+use Rattle.model.proofs.Facts.{formed-flushable}
+use Rattle.model.proofs.Accepted.{flushed-state}
+use Rattle.model.proofs.State.flush_formed.Goals as goal
+
+pub returns-then-has_committed_store : goal.returns-then-has_committed_store
+returns-then-has_committed_store c = rw c.refused.ensures (sym (one-refuses _ _ _ (formed-opens _ _ _ c.requires tt) _ _ refl (sym c.has_committed_store.ensures ∙ c.if-has_committed_store.true)))
+
+pub flush_lines-clean-requires : goal.flush_lines-clean-requires
+flush_lines-clean-requires c = formed-flushable c.args.self c.args.cache.now c.args.memory.now c.requires
+
+pub returns : goal.returns
+returns c =
+    flushed-state c.args.self c.args.cache.now c.args.memory.now _ _ _ c.dirty_count-written.ensures c.flush_lines-clean.ensures
+    ∙ sym (one-does _ _ _ (formed-opens _ _ _ c.requires tt) _ _ refl (sym c.has_committed_store.ensures ∙ c.if-has_committed_store.false))

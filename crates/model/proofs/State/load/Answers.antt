@@ -1,0 +1,7 @@
+-- `State::load` meets its contract.
+use borrow.Author.Rules.{rules}
+use mathlib.Core.Path.{refl}
+use Rattle.model.proofs.State.load.Goals as goal
+
+pub returns : goal.returns
+returns c = c.read_checked.ensures refl

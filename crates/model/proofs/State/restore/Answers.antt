@@ -1,0 +1,11 @@
+-- `State::restore` meets its contract: checks 1 and 10, then the call on a well-formed state.
+use borrow.Author.Rules.{rules}
+use mathlib.Core.Path.{sym}
+use Rattle.model.proofs.Calls.{state-refuses, state-formed}
+use Rattle.model.proofs.State.restore.Goals as goal
+
+pub returns-then-k-ne0 : goal.returns-then-k-ne0
+returns-then-k-ne0 c = rw c.refused.ensures (sym (state-refuses _ _ _ _ c.state_refusal-k.ensures c.if-k-ne0.true tt))
+
+pub returns : goal.returns
+returns c = c.restore_formed.ensures _ _ (state-formed _ _ _ c.state_refusal-k.ensures c.if-k-ne0.false)

@@ -1,0 +1,7 @@
+-- `State::squash` meets its contract.
+use borrow.Author.Rules.{rules}
+use Rattle.model.proofs.Accepted.{squashed-state}
+use Rattle.model.proofs.State.squash.Goals as goal
+
+pub returns : goal.returns
+returns c = squashed-state _ _ _ _ _ c.squash_stores-held.ensures c.squash_loads-listed.ensures

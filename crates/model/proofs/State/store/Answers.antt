@@ -1,0 +1,7 @@
+-- `State::store` meets its contract.
+use borrow.Author.Rules.{rules}
+use mathlib.Core.Path.{refl}
+use Rattle.model.proofs.State.store.Goals as goal
+
+pub returns : goal.returns
+returns c = c.read_checked.ensures refl

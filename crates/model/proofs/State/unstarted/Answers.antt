@@ -1,0 +1,6 @@
+-- `State::unstarted` meets its contract.
+use borrow.Author.Rules.{rules}
+use Rattle.model.proofs.State.unstarted.Goals as goal
+
+pub returns : goal.returns
+returns c = c.empty_state.ensures
