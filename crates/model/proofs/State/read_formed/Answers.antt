@@ -1,35 +1,30 @@
 -- `State::read_formed` meets its contract: each call by its own.
 use borrow.Author.Rules.{rules}
 use Prim.Native.Nat.{ℕ}
-use mathlib.Core.Path.{◌≡◌}
+use mathlib.Core.Path.{◌≡◌, refl}
 use mathlib.Core.Bool.{true, false≢true}
-use mathlib.Core.List.{List, [], ◌∷◌}
-use types.Run.{OneOf, miss}
-use denote.Enum.Declared.{tag_of}
 use Rattle.model.specs.State.{reads_only}
 use Rattle.model.specs.declared.Call.{Call}
 use Rattle.model.specs.declared.Call.TheVariants.{Load, Store, Retry, Commit, Abort, Idle, Reply, Flush, Show, Checkpoint, Restore, Preview}
-use Rattle.model.specs.contracts.Call as call
 use Rattle.model.proofs.Facts.{shaped-self}
 use Rattle.model.proofs.State.read_formed.Goals as goal
 
--- the variants of the others: idle, reply, flush, a setting and a return
-abbrev writing : List ℕ
-writing = 5 ∷ 6 ∷ 7 ∷ 9 ∷ 10 ∷ []
-
-none_reads : (c : Call) → OneOf writing (tag_of call.the_type c) → reads_only c ≡ true → ⊥
-none_reads (Load a w) h e = absurd (miss writing 0 tt h)
-none_reads (Store a w v) h e = absurd (miss writing 1 tt h)
-none_reads (Retry i) h e = absurd (miss writing 2 tt h)
-none_reads (Commit k) h e = absurd (miss writing 3 tt h)
-none_reads (Abort n) h e = absurd (miss writing 4 tt h)
-none_reads Idle h e = false≢true e
-none_reads Reply h e = false≢true e
-none_reads Flush h e = false≢true e
-none_reads (Show a) h e = absurd (miss writing 8 tt h)
-none_reads (Checkpoint x) h e = false≢true e
-none_reads (Restore x) h e = false≢true e
-none_reads Preview h e = absurd (miss writing 11 tt h)
+-- none of the other calls only reads
+none_reads :
+    (c : Call) → ((x x' : ℕ) → c ≡ Load x x' → ⊥) → ((x x' x'' : ℕ) → c ≡ Store x x' x'' → ⊥) → ((x : ℕ) → c ≡ Retry x → ⊥)
+    → ((x : ℕ) → c ≡ Commit x → ⊥) → ((x : ℕ) → c ≡ Abort x → ⊥) → ((x : ℕ) → c ≡ Show x → ⊥) → (c ≡ Preview → ⊥) → reads_only c ≡ true → ⊥
+none_reads (Load a w) l s r k n h p e = absurd (l a w refl)
+none_reads (Store a w v) l s r k n h p e = absurd (s a w v refl)
+none_reads (Retry i) l s r k n h p e = absurd (r i refl)
+none_reads (Commit i) l s r k n h p e = absurd (k i refl)
+none_reads (Abort i) l s r k n h p e = absurd (n i refl)
+none_reads Idle l s r k n h p e = false≢true e
+none_reads Reply l s r k n h p e = false≢true e
+none_reads Flush l s r k n h p e = false≢true e
+none_reads (Show a) l s r k n h p e = absurd (h a refl)
+none_reads (Checkpoint x) l s r k n h p e = false≢true e
+none_reads (Restore x) l s r k n h p e = false≢true e
+none_reads Preview l s r k n h p e = absurd (p refl)
 
 pub load_formed-requires : goal.load_formed-requires
 load_formed-requires c = c.requires
@@ -65,4 +60,6 @@ pub returns-in-Preview : goal.returns-in-Preview
 returns-in-Preview c = λ reads memory formed. rw c.in-Preview.is (c.preview_formed.ensures _ memory formed)
 
 pub returns : goal.returns
-returns c = λ reads. absurd (none_reads c.args.call c.in_default.in_default-own.keys8 reads)
+returns c =
+    let d = c.in_default in
+    λ reads. absurd (none_reads c.args.call d.not-Load d.not-Store d.not-Retry d.not-Commit d.not-Abort d.not-Show d.not-Preview reads)

@@ -3,33 +3,26 @@ use borrow.Author.Rules.{rules}
 use Prim.Native.Nat.{ℕ}
 use mathlib.Core.Path.{◌≡◌, refl}
 use mathlib.Core.Bool.{true}
-use mathlib.Core.List.{List, [], ◌∷◌}
-use types.Run.{OneOf, miss}
-use denote.Enum.Declared.{tag_of}
 use Rattle.model.specs.State.{reads_only}
 use Rattle.model.specs.declared.Call.{Call}
 use Rattle.model.specs.declared.Call.TheVariants.{Load, Store, Retry, Commit, Abort, Idle, Reply, Flush, Show, Checkpoint, Restore, Preview}
-use Rattle.model.specs.contracts.Call as call
 use Rattle.model.proofs.Facts.{formed-sound}
 use Rattle.model.proofs.State.step_formed.Goals as goal
 
--- the variants of the calls that only read
-abbrev reading : List ℕ
-reading = 0 ∷ 1 ∷ 2 ∷ 3 ∷ 4 ∷ 8 ∷ 11 ∷ []
-
-all_read : (c : Call) → OneOf reading (tag_of call.the_type c) → reads_only c ≡ true
-all_read (Load a w) h = refl
-all_read (Store a w v) h = refl
-all_read (Retry i) h = refl
-all_read (Commit k) h = refl
-all_read (Abort n) h = refl
-all_read Idle h = absurd (miss reading 5 tt h)
-all_read Reply h = absurd (miss reading 6 tt h)
-all_read Flush h = absurd (miss reading 7 tt h)
-all_read (Show a) h = refl
-all_read (Checkpoint x) h = absurd (miss reading 9 tt h)
-all_read (Restore x) h = absurd (miss reading 10 tt h)
-all_read Preview h = refl
+-- the calls beside the five that write only read
+all_read : (c : Call) → (c ≡ Idle → ⊥) → (c ≡ Reply → ⊥) → (c ≡ Flush → ⊥) → ((x : ℕ) → c ≡ Checkpoint x → ⊥) → ((x : ℕ) → c ≡ Restore x → ⊥) → reads_only c ≡ true
+all_read (Load a w) i r f s t = refl
+all_read (Store a w v) i r f s t = refl
+all_read (Retry n) i r f s t = refl
+all_read (Commit k) i r f s t = refl
+all_read (Abort n) i r f s t = refl
+all_read Idle i r f s t = absurd (i refl)
+all_read Reply i r f s t = absurd (r refl)
+all_read Flush i r f s t = absurd (f refl)
+all_read (Show a) i r f s t = refl
+all_read (Checkpoint x) i r f s t = absurd (s x refl)
+all_read (Restore x) i r f s t = absurd (t x refl)
+all_read Preview i r f s t = refl
 
 pub returns-in-Idle : goal.returns-in-Idle
 returns-in-Idle c = rw c.in-Idle.is c.idle_formed.ensures
@@ -50,4 +43,6 @@ pub read_formed-requires : goal.read_formed-requires
 read_formed-requires c = formed-sound c.args.self c.args.cache.now c.args.memory.now c.requires
 
 pub returns : goal.returns
-returns c = c.read_formed.ensures (all_read c.args.call c.in_default.in_default-own.keys6) _ c.requires
+returns c = c.read_formed.ensures 
+    (all_read c.args.call c.in_default.not-Idle c.in_default.not-Reply c.in_default.not-Flush c.in_default.not-Checkpoint c.in_default.not-Restore)
+    _ c.requires
