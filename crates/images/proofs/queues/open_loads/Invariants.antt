@@ -1,0 +1,16 @@
+-- `queues::open_loads` meets its contract. The loop: the first i entries are made.
+use Prim.Native.Nat.{◌-◌, ◌≤◌}
+use mathlib.Core.Path.{◌≡◌, refl}
+use lib.ListN.{length}
+use borrow.Author.Rules.{rules}
+use Rattle.images.specs.Images.{opened_load}
+use Rattle.images.proofs.Standing.{no_load_image}
+use Rattle.rules.specs.Shape.{no_load}
+use Rattle.images.proofs.Mapped.{made, made-step, made_all}
+use Rattle.images.proofs.queues.open_loads.Given as goal
+
+abbrev pub invariant-loop-i : goal.invariant-loop-i
+invariant-loop-i l = (l.i ≤ 8) × (l.out ≡ made opened_load no_load l.i (8 - l.i) l.loads)
+
+abbrev pub decreases-loop-i : goal.decreases-loop-i
+decreases-loop-i l = 8 - l.i

@@ -1,0 +1,16 @@
+-- `tags::image_tags` meets its contract. The loop: the first i entries are made.
+use Prim.Native.Nat.{◌-◌, ◌≤◌}
+use mathlib.Core.Path.{◌≡◌, refl}
+use lib.ListN.{length}
+use borrow.Author.Rules.{rules}
+use Rattle.images.specs.Images.{imaged_tag}
+use Rattle.images.proofs.Standing.{no_tag_image}
+use Rattle.rules.specs.Shape.{no_tag}
+use Rattle.images.proofs.Mapped.{made, made-step, made_all}
+use Rattle.images.proofs.tags.image_tags.Given as goal
+
+abbrev pub invariant-loop-i : goal.invariant-loop-i
+invariant-loop-i l = (l.i ≤ 256) × (l.out ≡ made imaged_tag no_tag_image l.i (256 - l.i) l.tags)
+
+abbrev pub decreases-loop-i : goal.decreases-loop-i
+decreases-loop-i l = 256 - l.i

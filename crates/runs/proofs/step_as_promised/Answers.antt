@@ -1,0 +1,6 @@
+-- `step_as_promised` promises what `step` does.
+use borrow.Author.Rules.{rules}
+use Rattle.runs.proofs.step_as_promised.Goals as goal
+
+pub returns : goal.returns
+returns c = c.step.ensures
