@@ -1,0 +1,7 @@
+-- `new` meets its contract.
+use borrow.Author.Rules.{rules}
+use mathlib.Core.Path.{refl}
+use Rattle.script_play.proofs.Player.new.Goals as goal
+
+pub returns : goal.returns
+returns c = λ cache memory. refl
