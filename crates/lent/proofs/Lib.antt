@@ -1,3 +1,2 @@
 -- Why a start and a call on a lent state leave what they should.
-pub mod Lending
 pub mod Starting
