@@ -65,7 +65,7 @@ pub(crate) fn is_filled(r: Step, address: u32) -> bool {
     }
 }
 
-pub(crate) fn IsValue(r: Step, i: u32, v: u32) -> bool {
+pub(crate) fn is_value(r: Step, i: u32, v: u32) -> bool {
     let a = r.answer;
     match a {
         Answer::Value(n, x) => n == i && x == v,

@@ -3,6 +3,8 @@ use crate::report;
 use lent::StartAndStep;
 use model::{Answer, Call, StartAnswer};
 use rules::{Figures, WritePolicy};
+use std::io;
+use std::io::Print;
 
 // So many sets of two ways, write-back.
 fn two_ways(sets: u32) -> Figures {
@@ -41,13 +43,14 @@ fn is_stored(r: StartAndStep, i: u32) -> bool {
 }
 
 // After an accepted start the first store has number 1; after a refused one every call is refused with 1.
-pub(crate) fn lent_part() {
+pub(crate) fn lent_part(rt: &impl Print) -> io::Result<()> {
     let mut cache = [7u8; 64];
     let mut memory = [0u8; 256];
     let r = lent::start_then_step(two_ways(2), Call::Store(0, 1, 9), &mut cache, &mut memory);
-    report(b"a lent state is started", is_started(r));
-    report(b"and stepped", is_stored(r, 1));
+    report(rt, b"a lent state is started", is_started(r))?;
+    report(rt, b"and stepped", is_stored(r, 1))?;
     let refused = lent::start_then_step(two_ways(3), Call::Store(0, 1, 9), &mut cache, &mut memory);
-    report(b"3 sets are refused", !is_started(refused));
-    report(b"and so is the call", is_refused(refused, 1));
+    report(rt, b"3 sets are refused", !is_started(refused))?;
+    report(rt, b"and so is the call", is_refused(refused, 1))?;
+    Ok(())
 }

@@ -3,6 +3,8 @@
 
 use model::{Call, StartAnswer, Started, State};
 use rules::{Figures, Tag, WritePolicy};
+use std::io;
+use std::io::Print;
 
 mod answers;
 mod lent_run;
@@ -18,12 +20,12 @@ const OLDER: u32 = 65;
 const YOUNGER: u32 = 100;
 
 // Writes the name of a check and whether it holds.
-fn report(name: &[u8], ok: bool) {
-    io::write_all(1, name);
+fn report(rt: &impl Print, name: &[u8], ok: bool) -> io::Result<()> {
+    rt.write_all(name)?;
     if ok {
-        io::write_all(1, b": ok\n");
+        rt.write_all(b": ok\n")
     } else {
-        io::write_all(1, b": wrong\n");
+        rt.write_all(b": wrong\n")
     }
 }
 
@@ -37,41 +39,42 @@ fn fill(memory: &mut [u8]) {
 }
 
 // A load of an absent line waits; idle requests the line, and then the load says so.
-fn load_part(s: State, cache: &mut [u8], memory: &mut [u8]) -> State {
+fn load_part(rt: &impl Print, s: State, cache: &mut [u8], memory: &mut [u8]) -> io::Result<State> {
     let a = s.load(cache, memory, ADDRESS, 1);
-    report(b"load waits", answers::is_waits(a, 1));
+    report(rt, b"load waits", answers::is_waits(a, 1))?;
     let b = a.next.commit(cache, memory, 1);
-    report(b"commit 1", answers::is_committed(b, 1));
+    report(rt, b"commit 1", answers::is_committed(b, 1))?;
     let c = b.next.idle(cache, memory);
-    report(b"idle requests", answers::is_requested(c, 48));
+    report(rt, b"idle requests", answers::is_requested(c, 48))?;
     let d = c.next.retry(cache, memory, 1);
     report(
+        rt,
         b"retry finds the line requested",
         answers::is_waits_requested(d, 1),
-    );
-    d.next
+    )?;
+    Ok(d.next)
 }
 
 // A preview tells what the reply will do; the reply fills the line, and a retry gives the value.
-fn fill_part(s: State, cache: &mut [u8], memory: &mut [u8]) -> State {
+fn fill_part(rt: &impl Print, s: State, cache: &mut [u8], memory: &mut [u8]) -> io::Result<State> {
     let p = s.preview(cache, memory);
-    report(b"way 0 will be filled", answers::is_previewed(p, 0, 0));
+    report(rt, b"way 0 will be filled", answers::is_previewed(p, 0, 0))?;
     let a = p.next.reply(cache, memory);
-    report(b"reply fills", answers::is_filled(a, 48));
+    report(rt, b"reply fills", answers::is_filled(a, 48))?;
     let b = a.next.retry(cache, memory, 1);
-    report(b"retry gives the value", answers::IsValue(b, 1, 50));
-    b.next
+    report(rt, b"retry gives the value", answers::is_value(b, 1, 50))?;
+    Ok(b.next)
 }
 
 // A store is committed and drains into the cache.
-fn store_part(s: State, cache: &mut [u8], memory: &mut [u8]) -> State {
+fn store_part(rt: &impl Print, s: State, cache: &mut [u8], memory: &mut [u8]) -> io::Result<State> {
     let a = s.store(cache, memory, ADDRESS, 1, 200);
-    report(b"store", answers::is_stored(a, 2));
+    report(rt, b"store", answers::is_stored(a, 2))?;
     let b = a.next.commit(cache, memory, 2);
-    report(b"commit 2", answers::is_committed(b, 2));
+    report(rt, b"commit 2", answers::is_committed(b, 2))?;
     let c = b.next.idle(cache, memory);
-    report(b"idle drains", answers::is_drained(c, 2));
-    c.next
+    report(rt, b"idle drains", answers::is_drained(c, 2))?;
+    Ok(c.next)
 }
 
 // Whether two runs of bytes are the same.
@@ -90,18 +93,19 @@ fn same_bytes(a: &[u8], b: &[u8]) -> bool {
 }
 
 // The line's bytes: the stored one and the others as in memory.
-fn check_bytes(line: &[u8]) {
-    report(b"line length", line.len() == 16);
+fn check_bytes(rt: &impl Print, line: &[u8]) -> io::Result<()> {
+    report(rt, b"line length", line.len() == 16)?;
     let bytes = b"\x30\x31\xc8\x33\x34\x35\x36\x37\x38\x39\x3a\x3b\x3c\x3d\x3e\x3f";
-    report(b"line bytes", same_bytes(line, bytes));
+    report(rt, b"line bytes", same_bytes(line, bytes))?;
+    Ok(())
 }
 
 // The line stands in way 0 of set 1: slot 2.
-fn show_part(s: State, cache: &mut [u8], memory: &mut [u8]) -> State {
-    check_bytes(s.show_line(cache, memory, ADDRESS));
+fn show_part(rt: &impl Print, s: State, cache: &mut [u8], memory: &mut [u8]) -> io::Result<State> {
+    check_bytes(rt, s.show_line(cache, memory, ADDRESS))?;
     let a = s.step(Call::Show(ADDRESS), cache, memory);
-    report(b"line place", answers::is_shown(a, 32, 16));
-    a.next
+    report(rt, b"line place", answers::is_shown(a, 32, 16))?;
+    Ok(a.next)
 }
 
 // Whether the byte at i is v.
@@ -113,20 +117,21 @@ fn byte_is(bytes: &[u8], i: usize, v: u8) -> bool {
 }
 
 // Memory has the stored byte after the flush alone.
-fn flush_part(s: State, cache: &mut [u8], memory: &mut [u8]) -> State {
-    report(b"memory before the flush", byte_is(memory, 50, 50));
+fn flush_part(rt: &impl Print, s: State, cache: &mut [u8], memory: &mut [u8]) -> io::Result<State> {
+    report(rt, b"memory before the flush", byte_is(memory, 50, 50))?;
     let a = s.flush(cache, memory);
-    report(b"flush", answers::is_flushed(a, 1));
-    report(b"memory after the flush", byte_is(memory, 50, 200));
-    a.next
+    report(rt, b"flush", answers::is_flushed(a, 1))?;
+    report(rt, b"memory after the flush", byte_is(memory, 50, 200))?;
+    Ok(a.next)
 }
 
 // A refused load takes no number.
-fn refusal_part(s: State, cache: &mut [u8], memory: &mut [u8]) {
+fn refusal_part(rt: &impl Print, s: State, cache: &mut [u8], memory: &mut [u8]) -> io::Result<()> {
     let a = s.load(cache, memory, ADDRESS, 3);
-    report(b"width 3 is refused", answers::is_refused(a, 2));
+    report(rt, b"width 3 is refused", answers::is_refused(a, 2))?;
     let n = a.next;
-    report(b"the last number stays", n.last == s.last);
+    report(rt, b"the last number stays", n.last == s.last)?;
+    Ok(())
 }
 
 // Whether a start was accepted.
@@ -139,54 +144,63 @@ fn is_ready(r: Started) -> bool {
 }
 
 // The start, on a cache of other bytes.
-fn start_part(cache: &mut [u8], memory: &[u8]) -> State {
+fn start_part(rt: &impl Print, cache: &mut [u8], memory: &[u8]) -> io::Result<State> {
     let figures = Figures {
         sets: 2,
         ways: 2,
         policy: WritePolicy::WriteBack,
     };
     let r = State::start(figures, cache, memory);
-    report(b"start is ready", is_ready(r));
-    report(b"the cache is zeroed", byte_is(cache, 63, 0));
-    r.state
+    report(rt, b"start is ready", is_ready(r))?;
+    report(rt, b"the cache is zeroed", byte_is(cache, 63, 0))?;
+    Ok(r.state)
 }
 
 // A load of another absent line is committed, and idle requests its line: what is in flight before the abort.
-fn request_part(s: State, cache: &mut [u8], memory: &mut [u8]) -> State {
+fn request_part(
+    rt: &impl Print,
+    s: State,
+    cache: &mut [u8],
+    memory: &mut [u8],
+) -> io::Result<State> {
     let a = s.load(cache, memory, OLDER, 1);
-    report(b"an older load misses", answers::is_waits(a, 3));
+    report(rt, b"an older load misses", answers::is_waits(a, 3))?;
     let b = a.next.commit(cache, memory, 3);
-    report(b"commit 3", answers::is_committed(b, 3));
+    report(rt, b"commit 3", answers::is_committed(b, 3))?;
     let c = b.next.idle(cache, memory);
-    report(b"its line is requested", answers::is_requested(c, 64));
-    c.next
+    report(rt, b"its line is requested", answers::is_requested(c, 64))?;
+    Ok(c.next)
 }
 
 // A younger load misses, gets no request and is aborted.
-fn abort_part(s: State, cache: &mut [u8], memory: &mut [u8]) -> State {
+fn abort_part(rt: &impl Print, s: State, cache: &mut [u8], memory: &mut [u8]) -> io::Result<State> {
     let a = s.load(cache, memory, YOUNGER, 1);
-    report(b"a younger load misses", answers::is_waits(a, 4));
+    report(rt, b"a younger load misses", answers::is_waits(a, 4))?;
     let b = a.next.idle(cache, memory);
-    report(b"no request for it", answers::is_idle(b));
+    report(rt, b"no request for it", answers::is_idle(b))?;
     let c = b.next.abort(cache, memory, 4);
-    report(b"it is aborted", answers::is_kept(c, 3));
-    c.next
+    report(rt, b"it is aborted", answers::is_kept(c, 3))?;
+    Ok(c.next)
 }
 
 // The older load gets its value, and number 4 goes to the next load.
-fn later_loads(s: State, cache: &[u8], memory: &[u8]) -> State {
+fn later_loads(rt: &impl Print, s: State, cache: &[u8], memory: &[u8]) -> io::Result<State> {
     let a = s.retry(cache, memory, 3);
-    report(b"  retry gives the value", answers::IsValue(a, 3, 65));
+    report(rt, b"  retry gives the value", answers::is_value(a, 3, 65))?;
     let b = a.next.load(cache, memory, ADDRESS, 1);
-    report(b"  the next load is number 4", answers::IsValue(b, 4, 200));
-    b.next
+    report(
+        rt,
+        b"  the next load is number 4",
+        answers::is_value(b, 4, 200),
+    )?;
+    Ok(b.next)
 }
 
 // The calls that follow: the reply fills the line of the older load.
-fn later_part(s: State, cache: &mut [u8], memory: &mut [u8]) -> State {
+fn later_part(rt: &impl Print, s: State, cache: &mut [u8], memory: &mut [u8]) -> io::Result<State> {
     let a = s.reply(cache, memory);
-    report(b"  reply fills", answers::is_filled(a, 64));
-    later_loads(a.next, cache, memory)
+    report(rt, b"  reply fills", answers::is_filled(a, 64))?;
+    later_loads(rt, a.next, cache, memory)
 }
 
 // Whether two tag records are the same, age and all.
@@ -208,50 +222,59 @@ fn same_tags(a: [Tag; 256], b: [Tag; 256]) -> bool {
 }
 
 // What both runs left: nothing of the aborted load.
-fn compare_states(with: State, without: State) {
-    report(b"the same last number", with.last == without.last);
+fn compare_states(rt: &impl Print, with: State, without: State) -> io::Result<()> {
+    report(rt, b"the same last number", with.last == without.last)?;
     report(
+        rt,
         b"the same committed number",
         with.committed == without.committed,
-    );
+    )?;
     let tags = with.tags;
     let other_tags = without.tags;
-    report(b"the same lines and ages", same_tags(tags, other_tags));
+    report(rt, b"the same lines and ages", same_tags(tags, other_tags))?;
+    Ok(())
 }
 
 // The same calls after the aborted load and without it, each on its own copy of cache and memory: nothing is left of that load.
-fn trace_part(s: State, cache: [u8; 64], memory: [u8; 256]) {
+fn trace_part(rt: &impl Print, s: State, cache: [u8; 64], memory: [u8; 256]) -> io::Result<()> {
     let mut cache_with = cache;
     let mut memory_with = memory;
-    let aborted = abort_part(s, &mut cache_with, &mut memory_with);
-    io::write_all(1, b"after the abort\n");
-    let with = later_part(aborted, &mut cache_with, &mut memory_with);
+    let aborted = abort_part(rt, s, &mut cache_with, &mut memory_with)?;
+    rt.write_all(b"after the abort\n")?;
+    let with = later_part(rt, aborted, &mut cache_with, &mut memory_with)?;
     let mut cache_without = cache;
     let mut memory_without = memory;
-    io::write_all(1, b"without that load\n");
-    let without = later_part(s, &mut cache_without, &mut memory_without);
-    report(b"the same cache", same_bytes(&cache_with, &cache_without));
+    rt.write_all(b"without that load\n")?;
+    let without = later_part(rt, s, &mut cache_without, &mut memory_without)?;
     report(
+        rt,
+        b"the same cache",
+        same_bytes(&cache_with, &cache_without),
+    )?;
+    report(
+        rt,
         b"the same memory",
         same_bytes(&memory_with, &memory_without),
-    );
-    compare_states(with, without);
+    )?;
+    compare_states(rt, with, without)?;
+    Ok(())
 }
 
-fn main() {
+fn main(rt: HostRuntime) -> io::Result<()> {
     let mut cache = [7u8; 64];
     let mut memory = [0u8; 256];
     fill(&mut memory);
-    let s = start_part(&mut cache, &memory);
-    let loaded = load_part(s, &mut cache, &mut memory);
-    let filled = fill_part(loaded, &mut cache, &mut memory);
-    let drained = store_part(filled, &mut cache, &mut memory);
-    let shown = show_part(drained, &mut cache, &mut memory);
-    let flushed = flush_part(shown, &mut cache, &mut memory);
-    refusal_part(flushed, &mut cache, &mut memory);
-    mark_run::mark_part(flushed, &cache, &memory);
-    let requested = request_part(flushed, &mut cache, &mut memory);
-    trace_part(requested, cache, memory);
-    lent_run::lent_part();
-    through_run::through_part();
+    let s = start_part(&rt, &mut cache, &memory)?;
+    let loaded = load_part(&rt, s, &mut cache, &mut memory)?;
+    let filled = fill_part(&rt, loaded, &mut cache, &mut memory)?;
+    let drained = store_part(&rt, filled, &mut cache, &mut memory)?;
+    let shown = show_part(&rt, drained, &mut cache, &mut memory)?;
+    let flushed = flush_part(&rt, shown, &mut cache, &mut memory)?;
+    refusal_part(&rt, flushed, &mut cache, &mut memory)?;
+    mark_run::mark_part(&rt, flushed, &cache, &memory)?;
+    let requested = request_part(&rt, flushed, &mut cache, &mut memory)?;
+    trace_part(&rt, requested, cache, memory)?;
+    lent_run::lent_part(&rt)?;
+    through_run::through_part(&rt)?;
+    Ok(())
 }
