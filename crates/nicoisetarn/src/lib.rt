@@ -110,14 +110,13 @@ pub struct ImageStep {
     pub next: Image,
 }
 
-// ---- the exported functions
+// ---- the functions that `nicoisetarn_c` exports
 
 // Start, with a profile by its number (`images` has the numbers): an accepted one stores the image of the started state, a refused one
 // leaves image and cache as they were. Where there is no such profile the answer is that of an unknown call, and nothing is looked at.
 // Its name has the length of the image and that of an answer, in bytes, so that an object file made for other lengths does not link; those of
 // the next three functions have the length of an answer.
-#[unsafe(no_mangle)]
-pub extern "C" fn nicoisetarn_start_2048_24_in(
+pub fn nicoisetarn_start_2048_24_in(
     image: &mut Image,
     sets: u32,
     ways: u32,
@@ -133,8 +132,7 @@ pub extern "C" fn nicoisetarn_start_2048_24_in(
 }
 
 // Any other call, by its number, with up to three operands. For a number that no call has the answer says so, and nothing is looked at.
-#[unsafe(no_mangle)]
-pub extern "C" fn nicoisetarn_step_24_in(
+pub fn nicoisetarn_step_24_in(
     image: &mut Image,
     call: u32,
     x: u32,
@@ -152,8 +150,7 @@ pub extern "C" fn nicoisetarn_step_24_in(
 
 // A batch: the calls of a list, one after the other, and the list of their answers. The image is opened, tested and made once. Where the
 // lengths do not fit the answer is that of an unknown call, and nothing is looked at.
-#[unsafe(no_mangle)]
-pub extern "C" fn nicoisetarn_run_24_in(
+pub fn nicoisetarn_run_24_in(
     image: &mut Image,
     calls: &[u32],
     answers: &mut [u32],
@@ -168,8 +165,7 @@ pub extern "C" fn nicoisetarn_run_24_in(
 }
 
 // Show line on bytes that are only read: what call number 8 answers.
-#[unsafe(no_mangle)]
-pub extern "C" fn nicoisetarn_show_line_24_in(
+pub fn nicoisetarn_show_line_24_in(
     image: &Image,
     address: u32,
     cache: &[u8],
@@ -182,12 +178,7 @@ pub extern "C" fn nicoisetarn_show_line_24_in(
 
 // The ways study (02, card 5): no image and no call on one. The four hit counts and the four rates, and a scratch that is zero afterwards;
 // or the number of the refusal, zeros, and the scratch as it was.
-#[unsafe(no_mangle)]
-pub extern "C" fn nicoisetarn_study_ways(
-    items: &[u32],
-    sets: u32,
-    scratch: &mut [u32],
-) -> StudyResult
+pub fn nicoisetarn_study_ways(items: &[u32], sets: u32, scratch: &mut [u32]) -> StudyResult
     ensures { (result ≡ studied items.now sets (length scratch.old)) × (scratch.new ≡ scratch_after items.now sets scratch.old) }
 {
     study::study(items, sets, scratch)

@@ -17,7 +17,7 @@ use Rattle.lists.proofs.Selected.{filter-append, filter-most}
 use Rattle.rules.specs.Shape.{sets_allowed, ways_allowed}
 use Rattle.rules.proofs.LineFacts.{sets-bound}
 use Rattle.study.specs.declared.StudyResult.{StudyResult}
-use Rattle.study.specs.Study.{scratch_size, most_items, line_limit, items_allowed, study_allowed, hits, hit_count, hit_counts, rates_of, counted}
+use Rattle.study.specs.Study.{scratch_size, most_items, line_limit, items_allowed, study_allowed, hit_count, hit_counts, rates_of, counted}
 use Rattle.study.specs.Stack.{distance, touched, stacks_from, distances_from, empty_stacks, distances}
 use Rattle.study.specs.Scratch.{places_of, HoldsStacks, TouchedAt, below, tally, one_more, added_hits, OneMoreFits, CountGiven, CountLeft, RatesFit}
 use Rattle.study.specs.Claims.{HitsByDistance}

@@ -1,7 +1,6 @@
 -- `access_passes` meets its contract: an access that ends in memory by its width and its alignment, no other.
 use mathlib.Core.Path.{◌∙◌}
 use native.Mathlib.Omega.{arith}
-use borrow.Author.Rules.{rules}
 use Rattle.access.proofs.AccessChecks.{passes-inside, passes-outside}
 use Rattle.access.proofs.access_passes.Goals as goal
 

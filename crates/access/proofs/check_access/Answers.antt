@@ -1,8 +1,6 @@
 -- `check_access` meets its contract: each return by the tests that led there.
 use mathlib.Core.Path.{sym, ◌∙◌}
 use native.Mathlib.Omega.{arith}
-use borrow.Author.Tests.{not-true, not-false}
-use borrow.Author.Rules.{rules}
 use Rattle.access.proofs.AccessChecks.{aligned-even, aligned-uneven, access-width, access-uneven, access-out, access-in}
 use Rattle.access.proofs.check_access.Goals as goal
 

@@ -1,5 +1,4 @@
 -- `failure` meets its contract: by the two cases.
-use borrow.Author.Rules.{rules}
 use Rattle.access.proofs.AccessChecks.{no-failure, failure-number}
 use Rattle.access.proofs.failure.Goals as goal
 

@@ -1,6 +1,5 @@
 -- `checkpoints::add` meets its contract. The mark is placed, then all are ranked.
 use mathlib.Core.Path.{◌∙◌, ap}
-use borrow.Author.Rules.{rules}
 use Rattle.rules.specs.Checkpoints.{ranked, add_checkpoint}
 use Rattle.checkpoints.proofs.add.Goals as goal
 

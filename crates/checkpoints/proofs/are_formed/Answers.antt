@@ -1,11 +1,9 @@
 -- `checkpoints::are_formed` meets its contract. The loop: the whole list is good where the rest is, from place i on and above m.
-use Prim.Native.Nat.{◌-◌, ◌≤◌}
 use mathlib.Core.Path.{◌≡◌, refl, sym, ◌∙◌}
 use native.Mathlib.Omega.{arith}
-use lib.ListN.{length, drop}
+use lib.ListN.{length}
 use borrow.Author.Rules.{rules}
 use Rattle.rules.specs.Shape.{checkpoint_places}
-use Rattle.checkpoints.specs.Good.{checkpoints_good}
 use Rattle.checkpoints.proofs.Good.{good-end, good-free, good-fails, good-twice, good-next, good-formed}
 use mathlib.Core.Path.{ap}
 use mathlib.Core.Bool.{not}

@@ -1,5 +1,4 @@
 -- `checkpoints::changed` meets its contract: each change by itself.
-use borrow.Author.Rules.{rules}
 use Rattle.checkpoints.proofs.changed.Goals as goal
 
 pub returns-in-Add : goal.returns-in-Add

@@ -1,12 +1,11 @@
 -- `checkpoints::forget_above` meets its contract. The loop: the entries before place at are done.
-use Prim.Native.Nat.{◌-◌, ◌≤◌}
 use mathlib.Core.Path.{◌≡◌, ◌∙◌}
 use native.Mathlib.Omega.{arith}
 use lib.ListN.{length}
 use borrow.Author.Rules.{rules}
-use Rattle.lists.proofs.Loops.{done, done_none, done-step, done_all}
+use Rattle.lists.proofs.Loops.{done_none, done-step, done_all}
 use Rattle.rules.specs.Shape.{checkpoint_places, no_checkpoint}
-use Rattle.rules.specs.Checkpoints.{above, forget_above}
+use Rattle.rules.specs.Checkpoints.{forget_above}
 use Rattle.checkpoints.proofs.forget_above.Goals as goal
 
 pub loop-at-init : goal.loop-at-init

@@ -1,12 +1,9 @@
 -- `checkpoints::forget_above` meets its contract. The loop: the entries before place at are done.
 use Prim.Native.Nat.{◌-◌, ◌≤◌}
-use mathlib.Core.Path.{◌≡◌, ◌∙◌}
-use native.Mathlib.Omega.{arith}
-use lib.ListN.{length}
-use borrow.Author.Rules.{rules}
-use Rattle.lists.proofs.Loops.{done, done_none, done-step, done_all}
+use mathlib.Core.Path.{◌≡◌}
+use Rattle.lists.proofs.Loops.{done}
 use Rattle.rules.specs.Shape.{checkpoint_places, no_checkpoint}
-use Rattle.rules.specs.Checkpoints.{above, forget_above}
+use Rattle.rules.specs.Checkpoints.{above}
 use Rattle.checkpoints.proofs.forget_above.Given as goal
 
 abbrev pub invariant-loop-at : goal.invariant-loop-at

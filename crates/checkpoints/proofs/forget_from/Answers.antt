@@ -1,12 +1,11 @@
 -- `checkpoints::forget_from` meets its contract. The loop: the first marks are laid down, and none of them has the name.
-use Prim.Native.Nat.{◌-◌, ◌≤◌}
 use mathlib.Core.Path.{◌≡◌, sym, ◌∙◌}
 use native.Mathlib.Omega.{arith}
 use lib.ListN.{length}
 use borrow.Author.Rules.{rules}
-use Rattle.lists.proofs.Loops.{Cutting, cutting-none, cutting-next, cutting-stop, cutting-end}
+use Rattle.lists.proofs.Loops.{cutting-none, cutting-next, cutting-stop, cutting-end}
 use Rattle.rules.specs.Shape.{checkpoint_places, no_checkpoint}
-use Rattle.rules.specs.Checkpoints.{named, forget_from}
+use Rattle.rules.specs.Checkpoints.{forget_from}
 use Rattle.checkpoints.proofs.forget_from.Goals as goal
 
 pub loop-kept-init : goal.loop-kept-init

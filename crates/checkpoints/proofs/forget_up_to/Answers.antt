@@ -1,6 +1,5 @@
 -- `checkpoints::forget_up_to` meets its contract. The marks at k or below leave, then the others are ranked.
 use mathlib.Core.Path.{◌∙◌, ap}
-use borrow.Author.Rules.{rules}
 use Rattle.rules.specs.Checkpoints.{ranked, forget_up_to}
 use Rattle.checkpoints.proofs.forget_up_to.Goals as goal
 

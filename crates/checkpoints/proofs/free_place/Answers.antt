@@ -1,13 +1,11 @@
 -- `checkpoints::free_place` meets its contract. The loop: the first free place is as far behind i as in the rest.
-use Prim.Native.Nat.{◌+◌, ◌-◌, ◌≤◌}
 use mathlib.Core.Path.{◌≡◌, sym, ◌∙◌}
 use native.Mathlib.Omega.{arith}
-use lib.ListN.{length, drop}
+use lib.ListN.{length}
 use borrow.Author.Rules.{rules}
 use borrow.Author.Tests.{eq-eqb, ne_eqb}
-use Rattle.lists.specs.Padded.{position}
 use Rattle.lists.proofs.Loops.{position-hit, position-miss, position-end}
-use Rattle.rules.specs.Shape.{checkpoint_places, no_checkpoint, is_free_checkpoint}
+use Rattle.rules.specs.Shape.{checkpoint_places, no_checkpoint}
 use Rattle.checkpoints.proofs.free_place.Goals as goal
 
 pub loop-i-init : goal.loop-i-init

@@ -1,13 +1,10 @@
 -- `checkpoints::in_use_from` meets its contract. The loop: some mark from k on has the name where one from i on has.
-use Prim.Native.Nat.{◌-◌, ◌≤◌}
 use mathlib.Core.Path.{◌≡◌, refl, sym, ◌∙◌}
 use native.Mathlib.Omega.{arith}
-use lib.ListN.{length, drop}
+use lib.ListN.{length}
 use borrow.Author.Rules.{rules}
-use Rattle.lists.specs.Padded.{any}
 use Rattle.lists.proofs.Loops.{any-hit, any-miss, any-end}
 use Rattle.rules.specs.Shape.{checkpoint_places, no_checkpoint}
-use Rattle.rules.specs.Checkpoints.{named}
 use Rattle.checkpoints.proofs.in_use_from.Goals as goal
 
 pub loop-i-init : goal.loop-i-init

@@ -1,7 +1,5 @@
 -- `checkpoints::is_good` meets its contract. By the tests (proofs/Good).
 use mathlib.Core.Path.{sym, ◌∙◌}
-use borrow.Author.Rules.{rules}
-use borrow.Author.Tests.{not-true, not-false}
 use Rattle.checkpoints.proofs.Good.{mark-falls, mark-committed, mark-late, mark-misnamed, mark-by-rank}
 use Rattle.checkpoints.proofs.is_good.Goals as goal
 

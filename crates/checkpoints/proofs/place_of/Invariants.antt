@@ -1,12 +1,9 @@
 -- `checkpoints::place_of` meets its contract. The loop: the first mark of the name is as far behind i as in the rest.
 use Prim.Native.Nat.{◌+◌, ◌-◌, ◌≤◌}
-use mathlib.Core.Path.{◌≡◌, sym, ◌∙◌}
-use native.Mathlib.Omega.{arith}
-use lib.ListN.{length, drop}
-use borrow.Author.Rules.{rules}
+use mathlib.Core.Path.{◌≡◌}
+use lib.ListN.{drop}
 use Rattle.lists.specs.Padded.{position}
-use Rattle.lists.proofs.Loops.{position-hit, position-miss, position-end}
-use Rattle.rules.specs.Shape.{checkpoint_places, no_checkpoint}
+use Rattle.rules.specs.Shape.{checkpoint_places}
 use Rattle.rules.specs.Checkpoints.{named}
 use Rattle.checkpoints.proofs.place_of.Given as goal
 

@@ -1,10 +1,8 @@
 -- `checkpoints::rank_all` meets its contract. The loop: the places that are left to rank give the whole.
 use Prim.Native.Nat.{◌-◌, ◌≤◌}
-use mathlib.Core.Path.{◌≡◌, refl, sym, ◌∙◌}
-use lib.ListN.{length}
-use borrow.Author.Rules.{rules}
+use mathlib.Core.Path.{◌≡◌}
 use Rattle.lists.specs.Counted.{steps_from}
-use Rattle.lists.proofs.CountedLoops.{change, steps-end, changes-next, changes-all}
+use Rattle.lists.proofs.CountedLoops.{change}
 use Rattle.rules.specs.Shape.{checkpoint_places, no_checkpoint}
 use Rattle.rules.specs.Checkpoints.{rank_at}
 use Rattle.checkpoints.proofs.rank_all.Given as goal

@@ -1,12 +1,6 @@
 -- `checkpoints::remove_up_to` meets its contract. The loop: what is kept of the first entries stands before free places.
-use Prim.Native.Nat.{◌-◌, ◌≤◌, ◌<◌}
-use mathlib.Core.Path.{◌≡◌, sym, ◌∙◌}
-use mathlib.Core.Logic.{⊎_elim}
-use native.Mathlib.Omega.{arith}
-use lib.ListN.{length}
-use borrow.Author.Tests.{not-true, not-false}
-use borrow.Author.Rules.{rules}
-use Rattle.lists.proofs.Loops.{Packing, pack-none, pack-out, pack-in, pack-all}
+use Prim.Native.Nat.{◌-◌, ◌≤◌}
+use Rattle.lists.proofs.Loops.{Packing}
 use Rattle.rules.specs.Shape.{checkpoint_places, no_checkpoint}
 use Rattle.rules.specs.Checkpoints.{at_most}
 use Rattle.checkpoints.proofs.remove_up_to.Given as goal

@@ -1,13 +1,10 @@
 -- `checkpoints::zero_from` meets its contract. The loop: all are zero from k on where they are from i on.
-use Prim.Native.Nat.{◌-◌, ◌≤◌}
 use mathlib.Core.Path.{◌≡◌, refl, sym, ◌∙◌}
 use native.Mathlib.Omega.{arith}
-use lib.ListN.{length, drop}
+use lib.ListN.{length}
 use borrow.Author.Rules.{rules}
-use Rattle.lists.specs.Padded.{every}
 use Rattle.lists.proofs.Loops.{every-hit, every-miss, every-end}
 use Rattle.rules.specs.Shape.{checkpoint_places, no_checkpoint}
-use Rattle.checkpoints.specs.Good.{zero_checkpoint}
 use Rattle.checkpoints.proofs.zero_from.Goals as goal
 
 pub loop-i-init : goal.loop-i-init

@@ -1,5 +1,4 @@
 -- `count` meets its contract: the four marks, added up.
-use borrow.Author.Rules.{rules}
 use native.Mathlib.Omega.{arith}
 use Rattle.rules.specs.Lines.{mark_count}
 use Rattle.dirty_words.proofs.count.Goals as goal

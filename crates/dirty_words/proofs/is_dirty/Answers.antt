@@ -1,5 +1,4 @@
 -- `is_dirty` meets its contract: a shift by n bits divides by 2 to the power n.
-use borrow.Author.Rules.{rules}
 use borrow.Author.Tests.{lt-ltb, le-ltb}
 use native.Mathlib.Omega.{arith}
 use Rattle.rules.specs.Lines.{is_dirty_word}

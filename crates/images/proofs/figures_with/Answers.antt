@@ -1,6 +1,5 @@
 -- `figures_with` meets its contract.
 use mathlib.Core.Path.{ap}
-use borrow.Author.Rules.{rules}
 use Rattle.rules.specs.declared.WritePolicy.{WritePolicy}
 use Rattle.rules.specs.Shape.{geometry}
 use Rattle.images.proofs.figures_with.Goals as goal

@@ -1,5 +1,4 @@
 -- `imaged` meets its contract: the images of the records, and the rest with them.
-use borrow.Author.Rules.{rules}
 use mathlib.Core.Path.{ap, ◌∙◌}
 use mathlib.Core.List.{List}
 use Rattle.images.specs.declared.TagImage.{TagImage}

@@ -1,5 +1,4 @@
 -- `imaged_with` meets its contract.
-use borrow.Author.Rules.{rules}
 use Rattle.images.specs.Images.{imaged_with}
 use Rattle.images.proofs.imaged_with.Goals as goal
 

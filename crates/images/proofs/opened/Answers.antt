@@ -1,5 +1,4 @@
 -- `opened` meets its contract.
-use borrow.Author.Rules.{rules}
 use Rattle.images.specs.Images.{opened_with, opened_first}
 use Rattle.images.proofs.opened.Goals as goal
 

@@ -1,5 +1,4 @@
 -- `profile_of` meets its contract, policy by policy.
-use borrow.Author.Rules.{rules}
 use Rattle.images.proofs.profile_of.Goals as goal
 
 pub returns-in-WriteBack : goal.returns-in-WriteBack

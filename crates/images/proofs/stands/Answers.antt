@@ -1,5 +1,4 @@
 -- `stands` meets its contract.
-use borrow.Author.Rules.{rules}
 use mathlib.Core.Path.{sym, ◌∙◌}
 use Rattle.images.specs.Images.{stands_with, stands_first}
 use Rattle.images.proofs.stands.Goals as goal

@@ -1,5 +1,4 @@
 -- `used_records` meets its contract.
-use borrow.Author.Rules.{rules}
 use mathlib.Core.Path.{sym, ◌∙◌}
 use Rattle.images.specs.Images.{used_of, used_records}
 use Rattle.images.proofs.used_records.Goals as goal

@@ -1,5 +1,4 @@
 -- `started_or_kept` meets its contract: ready, or refused.
-use borrow.Author.Rules.{rules}
 use Rattle.lent.proofs.Starting.{start-stored, start-kept}
 use Rattle.lent.proofs.started_or_kept.Goals as goal
 

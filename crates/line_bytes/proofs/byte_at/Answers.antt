@@ -1,5 +1,4 @@
 -- `byte_at` meets its contract.
-use borrow.Author.Rules.{rules}
 use mathlib.Core.Path.{sym, ◌∙◌}
 use native.Mathlib.Omega.{arith}
 use Rattle.line_bytes.proofs.Reading.{known-byte, line-byte, no_byte}

@@ -1,12 +1,10 @@
 -- `fill_slot` meets its contract. The bytes that are left to copy give the whole line.
 use mathlib.Core.Path.{◌≡◌, refl, sym, ◌∙◌}
-use Prim.Native.Nat.{◌≤◌, ◌-◌, ◌+◌, ◌*◌}
+use Prim.Native.Nat.{◌+◌, ◌*◌}
 use native.Mathlib.Omega.{arith}
-use lib.ListN.{length, length-set}
+use lib.ListN.{length-set}
 use borrow.Author.Rules.{rules}
-use Rattle.lists.specs.Counted.{steps_from}
-use Rattle.lists.proofs.CountedLoops.{change, steps_on, steps-off}
-use Rattle.line_bytes.specs.Writes.{filled_at}
+use Rattle.lists.proofs.CountedLoops.{steps_on, steps-off}
 use Rattle.line_bytes.proofs.Writing.{fill-each, fill-at, filled-inside, filled-outside, filled-short}
 use Rattle.line_bytes.proofs.fill_slot.Goals as goal
 

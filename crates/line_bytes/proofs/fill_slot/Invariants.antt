@@ -1,13 +1,10 @@
 -- `fill_slot` meets its contract. The bytes that are left to copy give the whole line.
-use mathlib.Core.Path.{◌≡◌, refl, sym, ◌∙◌}
+use mathlib.Core.Path.{◌≡◌}
 use Prim.Native.Nat.{◌≤◌, ◌-◌, ◌+◌, ◌*◌}
-use native.Mathlib.Omega.{arith}
-use lib.ListN.{length, length-set}
-use borrow.Author.Rules.{rules}
+use lib.ListN.{length}
 use Rattle.lists.specs.Counted.{steps_from}
-use Rattle.lists.proofs.CountedLoops.{change, steps_on, steps-off}
+use Rattle.lists.proofs.CountedLoops.{change}
 use Rattle.line_bytes.specs.Writes.{filled_at}
-use Rattle.line_bytes.proofs.Writing.{fill-each, fill-at, filled-inside, filled-outside, filled-short}
 use Rattle.line_bytes.proofs.fill_slot.Given as goal
 
 abbrev pub invariant-loop-i : goal.invariant-loop-i

@@ -1,5 +1,4 @@
 -- `is_readable` meets its contract.
-use borrow.Author.Rules.{rules}
 use mathlib.Core.Path.{sym, ◌∙◌}
 use Rattle.line_bytes.proofs.Reading.{apart-readable, far-readable, here-readable, away-readable}
 use Rattle.line_bytes.proofs.is_readable.Goals as goal

@@ -1,13 +1,9 @@
 -- `join_bytes` meets its contract: the loop goes from the highest byte down.
-use borrow.Author.Rules.{rules}
-use mathlib.Core.Path.{◌≡◌, ◌∙◌}
-use native.Mathlib.Omega.{arith}
-use Prim.Native.Nat.{◌+◌, ◌-◌, ◌≤◌, suc}
+use mathlib.Core.Path.{◌≡◌}
+use Prim.Native.Nat.{◌+◌, ◌-◌, ◌≤◌}
 use Rattle.lists.specs.Bytes.{gather}
-use Rattle.lists.specs.Counted.{all_from}
 use Rattle.rules.specs.Forward.{all_forwarded}
 use Rattle.line_bytes.specs.Reads.{read_of, byte_from}
-use Rattle.line_bytes.proofs.Reading.{joined-gather, byte-from, from-small}
 use Rattle.line_bytes.proofs.join_bytes.Given as goal
 
 abbrev pub invariant-loop-k : goal.invariant-loop-k

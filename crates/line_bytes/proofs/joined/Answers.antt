@@ -1,5 +1,4 @@
 -- `joined` meets its contract.
-use borrow.Author.Rules.{rules}
 use Rattle.line_bytes.proofs.joined.Goals as goal
 
 pub returns-in-Forwarded : goal.returns-in-Forwarded

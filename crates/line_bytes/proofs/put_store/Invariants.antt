@@ -1,14 +1,10 @@
 -- `put_store` meets its contract. Before byte i the rest of the value is the value without its i lowest bytes.
-use mathlib.Core.Path.{◌≡◌, refl, sym, ap, ◌∙◌}
-use Prim.Native.Nat.{ℕ, ◌≤◌, ◌-◌, ◌+◌, ◌/◌, ◌^◌}
-use native.Mathlib.Omega.{arith}
-use native.Mathlib.Nat.{div-one}
-use lib.ListN.{length, length-set}
-use borrow.Author.Rules.{rules}
+use mathlib.Core.Path.{◌≡◌}
+use Prim.Native.Nat.{◌≤◌, ◌-◌, ◌+◌, ◌/◌, ◌^◌}
+use lib.ListN.{length}
 use Rattle.lists.specs.Counted.{steps_from}
 use Rattle.lists.specs.Bytes.{overlaid}
-use Rattle.lists.proofs.CountedLoops.{change, steps_on, steps-off}
-use Rattle.line_bytes.proofs.Writing.{inside-tells, put-each, put-at, next-byte, put-inside, put-outside}
+use Rattle.lists.proofs.CountedLoops.{change}
 use Rattle.line_bytes.proofs.put_store.Given as goal
 
 abbrev pub invariant-loop-i : goal.invariant-loop-i

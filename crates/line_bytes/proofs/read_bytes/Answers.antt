@@ -1,5 +1,4 @@
 -- `read_bytes` meets its contract.
-use borrow.Author.Rules.{rules}
 use mathlib.Core.Path.{sym, ◌∙◌}
 use Rattle.line_bytes.proofs.Reading.{readable-tells, read-inside, read-outside}
 use Rattle.line_bytes.proofs.read_bytes.Goals as goal

@@ -1,5 +1,4 @@
 -- `write_back` meets its contract: dirty words are written to their line of memory; where there is none, or no place, memory is as it was.
-use borrow.Author.Rules.{rules}
 use borrow.Author.Tests.{eq-eqb}
 use mathlib.Core.Path.{ap, ◌∙◌}
 use mathlib.Core.Bool.{not}

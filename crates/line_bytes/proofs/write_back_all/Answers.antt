@@ -1,9 +1,8 @@
 -- `write_back_all` meets its contract. The slots that are left to write back give the whole.
 use mathlib.Core.Path.{◌≡◌, refl, sym, ap, ◌∙◌}
-use Prim.Native.Nat.{◌≤◌, ◌-◌, ◌+◌}
+use Prim.Native.Nat.{◌-◌, ◌+◌}
 use native.Mathlib.Omega.{arith}
 use lib.ListN.{length}
-use borrow.Author.Rules.{rules}
 use Rattle.lists.specs.Counted.{steps_from}
 use Rattle.lists.proofs.CountedLoops.{steps_next, steps-end}
 use Rattle.line_bytes.proofs.Writing.{slot_written, written-length, lines-inside, lines-outside}

@@ -1,12 +1,9 @@
 -- `write_back_all` meets its contract. The slots that are left to write back give the whole.
-use mathlib.Core.Path.{◌≡◌, refl, sym, ap, ◌∙◌}
-use Prim.Native.Nat.{◌≤◌, ◌-◌, ◌+◌}
-use native.Mathlib.Omega.{arith}
+use mathlib.Core.Path.{◌≡◌}
+use Prim.Native.Nat.{◌≤◌, ◌-◌}
 use lib.ListN.{length}
-use borrow.Author.Rules.{rules}
 use Rattle.lists.specs.Counted.{steps_from}
-use Rattle.lists.proofs.CountedLoops.{steps_next, steps-end}
-use Rattle.line_bytes.proofs.Writing.{slot_written, written-length, lines-inside, lines-outside}
+use Rattle.line_bytes.proofs.Writing.{slot_written}
 use Rattle.line_bytes.proofs.write_back_all.Given as goal
 
 abbrev pub invariant-loop-k : goal.invariant-loop-k

@@ -1,6 +1,5 @@
 -- `write_through` meets its contract, under either write policy.
 use mathlib.Core.Path.{◌∙◌}
-use borrow.Author.Rules.{rules}
 use Rattle.line_bytes.proofs.Writing.{drained-back, drained-through}
 use Rattle.line_bytes.proofs.write_through.Goals as goal
 

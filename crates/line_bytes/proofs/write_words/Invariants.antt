@@ -1,15 +1,11 @@
 -- `write_words` meets its contract. The bytes that are left to write give the whole line.
-use mathlib.Core.Path.{◌≡◌, refl, sym, ap, ◌∙◌}
-use mathlib.Core.Logic.{⊎_elim}
+use mathlib.Core.Path.{◌≡◌}
 use Prim.Native.Nat.{◌≤◌, ◌-◌, ◌+◌, ◌*◌}
-use native.Mathlib.Omega.{arith}
-use lib.ListN.{length, length-set}
-use borrow.Author.Rules.{rules}
+use lib.ListN.{length}
 use Rattle.lists.specs.Counted.{steps_from}
-use Rattle.lists.proofs.CountedLoops.{change, steps-off}
+use Rattle.lists.proofs.CountedLoops.{change}
 use Rattle.rules.specs.Lines.{written_back_at}
 use Rattle.line_bytes.specs.Writes.{marked_line}
-use Rattle.line_bytes.proofs.Writing.{words-each, turn-dirty, turn-clean}
 use Rattle.line_bytes.proofs.write_words.Given as goal
 
 abbrev pub invariant-loop-i : goal.invariant-loop-i

@@ -1,5 +1,4 @@
 -- `allows_dirty` meets its contract, policy by policy.
-use borrow.Author.Rules.{rules}
 use Rattle.line_checks.proofs.allows_dirty.Goals as goal
 
 pub returns-in-WriteBack : goal.returns-in-WriteBack

@@ -1,6 +1,5 @@
 -- `apart` meets its contract: its tests are those of the definition, in the same order.
 use mathlib.Core.Path.{sym, ◌∙◌}
-use borrow.Author.Rules.{rules}
 use borrow.Author.Tests.{lt-ltb, le-ltb}
 use Rattle.line_checks.specs.SlotTests.{apart_from}
 use Rattle.line_checks.proofs.apart.Goals as goal

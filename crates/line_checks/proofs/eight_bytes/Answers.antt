@@ -1,7 +1,6 @@
 -- `eight_bytes` meets its contract: a byte is below 256, so the sums fit.
 use Prim.Native.Nat.{◌+◌}
 use native.Mathlib.Omega.{arith}
-use borrow.Author.Rules.{rules}
 use Rattle.line_checks.proofs.EightBytes.{eight-value}
 use Rattle.line_checks.proofs.eight_bytes.Goals as goal
 

@@ -1,6 +1,5 @@
 -- `figures_allowed` meets its contract.
 use mathlib.Core.Path.{sym, ◌∙◌}
-use borrow.Author.Rules.{rules}
 use Rattle.rules.specs.Shape.{figures_allowed}
 use Rattle.lists.proofs.Loops.{tests}
 use Rattle.line_checks.proofs.figures_allowed.Goals as goal

@@ -1,6 +1,5 @@
 -- `invalid_good` meets its contract.
 use borrow.Author.Tests.{eq-eqb, ne_eqb}
-use borrow.Author.Rules.{rules}
 use Rattle.line_checks.specs.SlotTests.{invalid_good}
 use Rattle.line_checks.proofs.invalid_good.Goals as goal
 

@@ -2,7 +2,6 @@
 use Prim.Native.Nat.{ℕ}
 use mathlib.Core.Path.{sym, ◌∙◌, ap}
 use lib.Dec.{eqb}
-use borrow.Author.Rules.{rules}
 use Rattle.line_checks.proofs.EightBytes.{halves-zero, half-some}
 use Rattle.line_checks.proofs.is_zero_line.Goals as goal
 

@@ -1,7 +1,6 @@
 -- `lines_good` meets its contract: the unused records are tested first, as `slots_good` requires.
 use mathlib.Core.Path.{sym, ◌∙◌}
 use native.Mathlib.Omega.{arith}
-use borrow.Author.Rules.{rules}
 use Rattle.rules.proofs.LineFacts.{fits-tells}
 use Rattle.line_checks.proofs.SlotTests.{unused-failed}
 use Rattle.line_checks.proofs.lines_good.Goals as goal

@@ -1,6 +1,5 @@
 -- `lines_refusal` meets its contract.
 use mathlib.Core.Path.{sym, ◌∙◌}
-use borrow.Author.Rules.{rules}
 use Rattle.rules.specs.Shape.{fits}
 use Rattle.line_checks.specs.Refusal.{lines_refusal}
 use Rattle.line_checks.proofs.lines_refusal.Goals as goal

@@ -1,12 +1,10 @@
 -- `marks_good` meets its contract. The test of the words that are left is the whole test.
 use borrow.Author.Rules.{rules}
 use borrow.Author.Tests.{le-leb, lt-leb}
-use mathlib.Core.Path.{◌≡◌, refl, sym, ◌∙◌}
-use Prim.Native.Nat.{◌≤◌, ◌-◌}
+use mathlib.Core.Path.{refl, sym, ◌∙◌}
 use native.Mathlib.Omega.{arith}
-use Rattle.lists.specs.Counted.{all_from}
 use Rattle.lists.proofs.CountedLoops.{all-fails, all-next, all_end}
-use Rattle.line_checks.specs.SlotTests.{word_good, marks_good}
+use Rattle.line_checks.specs.SlotTests.{marks_good}
 use Rattle.line_checks.proofs.marks_good.Goals as goal
 
 pub returns-then-marks-gt-ALL_MARKS : goal.returns-then-marks-gt-ALL_MARKS

@@ -1,10 +1,6 @@
 -- `same_bytes` meets its contract. The answer so far is the test of the bytes so far.
 use mathlib.Core.Path.{◌≡◌, refl, sym, ◌∙◌}
-use mathlib.Core.Logic.{⊎_elim}
-use Prim.Native.Nat.{◌≤◌, ◌-◌, ◌+◌}
 use native.Mathlib.Omega.{arith}
-use lib.Dec.{eqb}
-use lib.ListN.{get_or}
 use borrow.Author.Tests.{eq-eqb, ne_eqb}
 use borrow.Author.Rules.{rules}
 use Rattle.lists.specs.Counted.{all_from}
@@ -20,8 +16,8 @@ loop-i-init c = (search rules, refl)
 pub loop-i-preserved : goal.loop-i-preserved
 loop-i-preserved c =
     elim c.if-cache-at.branch [
-    then-cache-at w ↦ (omega arith, w.same-is ∙ sym (all-broken _ c.loop-i.i (ne_eqb _ _ w.if-cache-at.true)))
-    | else-cache-at w ↦ (omega arith, w.same-is ∙ (c.loop-i.invariant.1 ∙ sym (all-kept _ c.loop-i.i (eq-eqb _ _ w.if-cache-at.false))))
+      | then-cache-at w ↦ (omega arith, w.same-is ∙ sym (all-broken _ c.loop-i.i (ne_eqb _ _ w.if-cache-at.true)))
+      | else-cache-at w ↦ (omega arith, w.same-is ∙ (c.loop-i.invariant.1 ∙ sym (all-kept _ c.loop-i.i (eq-eqb _ _ w.if-cache-at.false))))
     ]
 
 pub returns : goal.returns

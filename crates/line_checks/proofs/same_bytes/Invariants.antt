@@ -1,15 +1,9 @@
 -- `same_bytes` meets its contract. The answer so far is the test of the bytes so far.
-use mathlib.Core.Path.{◌≡◌, refl, sym, ◌∙◌}
-use mathlib.Core.Logic.{⊎_elim}
+use mathlib.Core.Path.{◌≡◌}
 use Prim.Native.Nat.{◌≤◌, ◌-◌, ◌+◌}
-use native.Mathlib.Omega.{arith}
 use lib.Dec.{eqb}
 use lib.ListN.{get_or}
-use borrow.Author.Tests.{eq-eqb, ne_eqb}
-use borrow.Author.Rules.{rules}
 use Rattle.lists.specs.Counted.{all_from}
-use Rattle.lists.proofs.CountedLoops.{all-broken, all-kept}
-use Rattle.line_checks.specs.SlotTests.{same_bytes}
 use Rattle.line_checks.proofs.same_bytes.Given as goal
 
 abbrev pub invariant-loop-i : goal.invariant-loop-i

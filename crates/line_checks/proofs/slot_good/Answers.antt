@@ -1,6 +1,5 @@
 -- `slot_good` meets its contract.
 use borrow.Author.Tests.{lt-ltb, le-ltb}
-use borrow.Author.Rules.{rules}
 use Rattle.line_checks.specs.SlotTests.{slot_good, valid_good, invalid_good}
 use Rattle.line_checks.proofs.slot_good.Goals as goal
 

@@ -1,12 +1,7 @@
 -- `slots_good` meets its contract. The slots below k have passed.
-use mathlib.Core.Path.{◌≡◌, sym}
 use Prim.Native.Nat.{◌≤◌, ◌-◌}
-use native.Mathlib.Omega.{arith}
-use lib.ListN.{length}
-use borrow.Author.Rules.{rules}
-use Rattle.rules.proofs.LineFacts.{fits-tells}
 use Rattle.line_checks.specs.Refusal.{hierarchy}
-use Rattle.line_checks.proofs.SlotTests.{Scanned, scan-start, scan-end, scan-set, scan-alone-fails, scan-apart-fails, scan-on, scan-wrap, all-passed, few-ways}
+use Rattle.line_checks.proofs.SlotTests.{Scanned}
 use Rattle.line_checks.proofs.slots_good.Given as goal
 
 abbrev pub invariant-loop-k : goal.invariant-loop-k

@@ -1,16 +1,11 @@
 -- `unused_zero` meets its contract. No valid record so far and a sum of 0, and the test of the records that are left, is the whole test.
 use mathlib.Core.Path.{◌≡◌, sym, ◌∙◌}
-use mathlib.Core.Bool.{◌&&◌}
-use Prim.Native.Nat.{◌≤◌, ◌-◌, ◌*◌}
 use native.Mathlib.Omega.{arith}
-use lib.ListN.{length, drop}
-use borrow.Author.Rules.{rules}
-use Rattle.lists.specs.Padded.{every}
+use lib.ListN.{length}
 use Rattle.lists.proofs.Counting.{every_drop}
 use Rattle.rules.specs.Shape.{no_tag}
 use Rattle.rules.specs.WellFormed.{zero_tag}
-use Rattle.line_checks.specs.SlotTests.{nothing}
-use Rattle.line_checks.proofs.SlotTests.{zero_from, zero-step, zero-end}
+use Rattle.line_checks.proofs.SlotTests.{zero-step, zero-end}
 use Rattle.line_checks.proofs.unused_zero.Goals as goal
 
 pub loop-k-init : goal.loop-k-init

@@ -1,6 +1,5 @@
 -- `valid_good` meets its contract.
 use borrow.Author.Tests.{eq-eqb, ne_eqb, lt-ltb, le-ltb}
-use borrow.Author.Rules.{rules}
 use mathlib.Core.Path.{sym, ◌∙◌}
 use Rattle.line_checks.specs.SlotTests.{valid_good}
 use Rattle.line_checks.proofs.valid_good.Goals as goal

@@ -1,5 +1,4 @@
 -- `word_good` meets its contract.
-use borrow.Author.Rules.{rules}
 use mathlib.Core.Path.{◌∙◌}
 use Rattle.dirty_words.proofs.Marks.{told-word}
 use Rattle.line_checks.specs.SlotTests.{word_good}

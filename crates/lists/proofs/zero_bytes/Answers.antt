@@ -1,10 +1,9 @@
 -- `zero_bytes` meets its contract. The first i bytes are zero.
-use mathlib.Core.Path.{◌≡◌, refl}
-use Prim.Native.Nat.{◌≤◌, ◌-◌}
+use mathlib.Core.Path.{refl}
 use native.Mathlib.Omega.{arith}
-use lib.ListN.{length, length-set}
+use lib.ListN.{length-set}
 use borrow.Author.Rules.{rules}
-use Rattle.lists.proofs.CountedLoops.{FilledTo, filled_more, filled-all}
+use Rattle.lists.proofs.CountedLoops.{filled_more, filled-all}
 use Rattle.lists.proofs.zero_bytes.Goals as goal
 
 pub loop-i-init : goal.loop-i-init

@@ -1,10 +1,8 @@
 -- `zero_bytes` meets its contract. The first i bytes are zero.
-use mathlib.Core.Path.{◌≡◌, refl}
+use mathlib.Core.Path.{◌≡◌}
 use Prim.Native.Nat.{◌≤◌, ◌-◌}
-use native.Mathlib.Omega.{arith}
-use lib.ListN.{length, length-set}
-use borrow.Author.Rules.{rules}
-use Rattle.lists.proofs.CountedLoops.{FilledTo, filled_more, filled-all}
+use lib.ListN.{length}
+use Rattle.lists.proofs.CountedLoops.{FilledTo}
 use Rattle.lists.proofs.zero_bytes.Given as goal
 
 abbrev pub invariant-loop-i : goal.invariant-loop-i

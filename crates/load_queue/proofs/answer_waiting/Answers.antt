@@ -1,12 +1,10 @@
 -- `load_queue::answer_waiting` meets its contract. The loop: the first k entries are done.
-use Prim.Native.Nat.{◌-◌, ◌≤◌}
 use mathlib.Core.Path.{◌≡◌, ◌∙◌}
 use native.Mathlib.Omega.{arith}
 use lib.ListN.{length}
 use borrow.Author.Rules.{rules}
-use Rattle.lists.proofs.Loops.{done, done_none, done-step, done_all}
+use Rattle.lists.proofs.Loops.{done_none, done-step, done_all}
 use Rattle.rules.specs.Shape.{load_places, no_load}
-use Rattle.rules.specs.Calls.{waiting_at, answered}
 use Rattle.load_queue.proofs.answer_waiting.Goals as goal
 
 pub loop-k-init : goal.loop-k-init

@@ -1,13 +1,11 @@
 -- `load_queue::free_load` meets its contract. The loop: the first free place is as far behind j as in the rest.
-use Prim.Native.Nat.{◌+◌, ◌-◌, ◌≤◌}
 use mathlib.Core.Path.{◌≡◌, sym, ◌∙◌}
 use native.Mathlib.Omega.{arith}
-use lib.ListN.{length, drop}
+use lib.ListN.{length}
 use borrow.Author.Rules.{rules}
 use borrow.Author.Tests.{eq-eqb, ne_eqb}
-use Rattle.lists.specs.Padded.{position}
 use Rattle.lists.proofs.Loops.{position-hit, position-miss, position-end}
-use Rattle.rules.specs.Shape.{load_places, no_load, is_free_load}
+use Rattle.rules.specs.Shape.{load_places, no_load}
 use Rattle.load_queue.proofs.free_load.Goals as goal
 
 pub loop-j-init : goal.loop-j-init

@@ -1,13 +1,9 @@
 -- `load_queue::free_load` meets its contract. The loop: the first free place is as far behind j as in the rest.
 use Prim.Native.Nat.{◌+◌, ◌-◌, ◌≤◌}
-use mathlib.Core.Path.{◌≡◌, sym, ◌∙◌}
-use native.Mathlib.Omega.{arith}
-use lib.ListN.{length, drop}
-use borrow.Author.Rules.{rules}
-use borrow.Author.Tests.{eq-eqb, ne_eqb}
+use mathlib.Core.Path.{◌≡◌}
+use lib.ListN.{drop}
 use Rattle.lists.specs.Padded.{position}
-use Rattle.lists.proofs.Loops.{position-hit, position-miss, position-end}
-use Rattle.rules.specs.Shape.{load_places, no_load, is_free_load}
+use Rattle.rules.specs.Shape.{load_places, is_free_load}
 use Rattle.load_queue.proofs.free_load.Given as goal
 
 abbrev pub invariant-loop-j : goal.invariant-loop-j

@@ -1,6 +1,5 @@
 -- `load_queue::mark_answered` meets its contract. By the test.
 use mathlib.Core.Path.{sym, ◌∙◌}
-use borrow.Author.Rules.{rules}
 use Rattle.lists.proofs.Cond.{cond-then, cond-else}
 use Rattle.rules.specs.Calls.{answered}
 use Rattle.load_queue.proofs.mark_answered.Goals as goal

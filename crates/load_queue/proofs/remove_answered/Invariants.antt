@@ -1,12 +1,6 @@
 -- `load_queue::remove_answered` meets its contract. The loop: what is kept of the first entries stands before free places.
-use Prim.Native.Nat.{◌-◌, ◌≤◌, ◌<◌}
-use mathlib.Core.Path.{◌≡◌, sym, ◌∙◌}
-use mathlib.Core.Logic.{⊎_elim}
-use native.Mathlib.Omega.{arith}
-use lib.ListN.{length}
-use borrow.Author.Tests.{not-true, not-false}
-use borrow.Author.Rules.{rules}
-use Rattle.lists.proofs.Loops.{Packing, pack-none, pack-out, pack-in, pack-all}
+use Prim.Native.Nat.{◌-◌, ◌≤◌}
+use Rattle.lists.proofs.Loops.{Packing}
 use Rattle.rules.specs.Shape.{load_places, no_load}
 use Rattle.rules.specs.Calls.{answered_by}
 use Rattle.load_queue.proofs.remove_answered.Given as goal

@@ -1,12 +1,10 @@
 -- `load_queue::squash_loads` meets its contract. The loop: the first i entries are done.
-use Prim.Native.Nat.{◌-◌, ◌≤◌}
 use mathlib.Core.Path.{◌≡◌, ◌∙◌}
 use native.Mathlib.Omega.{arith}
 use lib.ListN.{length}
 use borrow.Author.Rules.{rules}
-use Rattle.lists.proofs.Loops.{done, done_none, done-step, done_all}
+use Rattle.lists.proofs.Loops.{done_none, done-step, done_all}
 use Rattle.rules.specs.Shape.{load_places, no_load}
-use Rattle.rules.specs.Calls.{young_load}
 use Rattle.load_queue.proofs.squash_loads.Goals as goal
 
 pub loop-i-init : goal.loop-i-init

@@ -1,7 +1,6 @@
 -- `load_queue::uses_line_by` meets its contract. By the tests.
 use mathlib.Core.Path.{sym, ◌∙◌, ap}
 use mathlib.Core.Bool.{Bool, not, ◌&&◌, and-false, and-true}
-use borrow.Author.Rules.{rules}
 use Rattle.rules.specs.Calls.{answered_by, uses_line_by}
 use Rattle.load_queue.proofs.uses_line_by.Goals as goal
 

@@ -1,13 +1,10 @@
 -- `load_queue::waiting_place` meets its contract. The loop: the first waiting load of number i is as far behind k as in the rest.
-use Prim.Native.Nat.{◌+◌, ◌-◌, ◌≤◌}
 use mathlib.Core.Path.{◌≡◌, sym, ◌∙◌}
 use native.Mathlib.Omega.{arith}
-use lib.ListN.{length, drop}
+use lib.ListN.{length}
 use borrow.Author.Rules.{rules}
-use Rattle.lists.specs.Padded.{position}
 use Rattle.lists.proofs.Loops.{position-hit, position-miss, position-end}
 use Rattle.rules.specs.Shape.{load_places, no_load}
-use Rattle.rules.specs.Calls.{waiting_at}
 use Rattle.load_queue.proofs.waiting_place.Goals as goal
 
 pub loop-k-init : goal.loop-k-init

@@ -1,12 +1,9 @@
 -- `load_queue::waits_below` meets its contract. The loop: the whole queue has one where the rest has.
 use Prim.Native.Nat.{◌-◌, ◌≤◌}
-use mathlib.Core.Path.{◌≡◌, refl, sym, ◌∙◌}
-use native.Mathlib.Omega.{arith}
-use lib.ListN.{length, drop}
-use borrow.Author.Rules.{rules}
+use mathlib.Core.Path.{◌≡◌}
+use lib.ListN.{drop}
 use Rattle.lists.specs.Padded.{any}
-use Rattle.lists.proofs.Loops.{any-hit, any-miss, any-end}
-use Rattle.rules.specs.Shape.{load_places, no_load}
+use Rattle.rules.specs.Shape.{load_places}
 use Rattle.rules.specs.Calls.{waits_below}
 use Rattle.load_queue.proofs.waits_below.Given as goal
 

@@ -1,13 +1,11 @@
 -- `queue_checks::has_uncovered` meets its contract. The loop: some byte is uncovered where one is from x on.
-use Prim.Native.Nat.{◌+◌, ◌-◌, ◌≤◌}
+use Prim.Native.Nat.{◌+◌, ◌-◌}
 use mathlib.Core.Path.{◌≡◌, sym, ◌∙◌, ap}
 use mathlib.Core.Bool.{not}
 use native.Mathlib.Omega.{arith}
 use borrow.Author.Rules.{rules}
-use Rattle.lists.specs.Padded.{any}
-use Rattle.lists.specs.Counted.{some_from}
 use Rattle.lists.proofs.Loops.{some-hit, some-miss, some_end}
-use Rattle.rules.specs.Forward.{older_covers, some_uncovered}
+use Rattle.rules.specs.Forward.{some_uncovered}
 use Rattle.queue_checks.proofs.has_uncovered.Goals as goal
 
 pub loop-x-init : goal.loop-x-init
@@ -17,13 +15,12 @@ loop-x-init c =
     (search rules, rw z)
 
 pub loop-x-preserved : goal.loop-x-preserved
-loop-x-preserved c =
-    (
-      search rules,
-      c.loop-x.invariant.1
-          ∙ some-miss _ _ c.loop-x.x c.loop-x-test.true
-          (ap not (sym c.is_covered.ensures ∙ c.if-is_covered.true)),
-    )
+loop-x-preserved c = (
+  search rules,
+  c.loop-x.invariant.1
+      ∙ some-miss _ _ c.loop-x.x c.loop-x-test.true
+      (ap not (sym c.is_covered.ensures ∙ c.if-is_covered.true)),
+)
 
 pub returns-else-is_covered : goal.returns-else-is_covered
 returns-else-is_covered c =

@@ -1,12 +1,9 @@
 -- `queue_checks::has_uncovered` meets its contract. The loop: some byte is uncovered where one is from x on.
-use Prim.Native.Nat.{◌+◌, ◌-◌, ◌≤◌}
-use mathlib.Core.Path.{◌≡◌, sym, ◌∙◌, ap}
+use Prim.Native.Nat.{◌-◌, ◌≤◌}
+use mathlib.Core.Path.{◌≡◌}
 use mathlib.Core.Bool.{not}
-use native.Mathlib.Omega.{arith}
-use borrow.Author.Rules.{rules}
 use Rattle.lists.specs.Padded.{any}
 use Rattle.lists.specs.Counted.{some_from}
-use Rattle.lists.proofs.Loops.{some-hit, some-miss, some_end}
 use Rattle.rules.specs.Forward.{older_covers, some_uncovered}
 use Rattle.queue_checks.proofs.has_uncovered.Given as goal
 

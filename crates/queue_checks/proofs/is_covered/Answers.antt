@@ -1,13 +1,10 @@
 -- `queue_checks::is_covered` meets its contract. The loop: the whole queue has one where the rest has; from a free place on there is none.
-use Prim.Native.Nat.{◌-◌, ◌≤◌}
 use mathlib.Core.Path.{◌≡◌, refl, sym, ◌∙◌}
 use native.Mathlib.Omega.{arith}
-use lib.ListN.{length, drop}
+use lib.ListN.{length}
 use borrow.Author.Rules.{rules}
-use Rattle.lists.specs.Padded.{any}
 use Rattle.lists.proofs.Loops.{any-hit, any-miss, any-end, free-rest}
 use Rattle.rules.specs.Shape.{store_places, no_store}
-use Rattle.rules.specs.Forward.{older_covers}
 use Rattle.queue_checks.proofs.Good.{covered_none}
 use Rattle.queue_checks.proofs.is_covered.Goals as goal
 

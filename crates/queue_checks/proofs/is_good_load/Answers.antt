@@ -1,7 +1,6 @@
 -- `queue_checks::is_good_load` meets its contract. By the tests (proofs/Good); the number is above m, so the entry is in use.
 use mathlib.Core.Path.{sym, ◌∙◌}
 use native.Mathlib.Omega.{arith}
-use borrow.Author.Rules.{rules}
 use Rattle.queue_checks.proofs.Good.{passes-end, load_low, load-late, load-astray, load-untold, load-waiting, load-answered}
 use Rattle.queue_checks.proofs.is_good_load.Goals as goal
 
@@ -19,8 +18,8 @@ returns-then-l-2 c =
 pub has_uncovered-requires : goal.has_uncovered-requires
 has_uncovered-requires c =
     let pass = sym c.access_passes.ensures ∙ c.if-access_passes.true in record {
-        width_bound = omega (arith, passes-end c.args.size c.args.l.address c.args.l.width pass);
-        stores_value = c.requires;
+      width_bound = omega (arith, passes-end c.args.size c.args.l.address c.args.l.width pass);
+      stores_value = c.requires;
     }
 
 pub returns-then-l : goal.returns-then-l

@@ -1,6 +1,5 @@
 -- `queue_checks::is_good_store` meets its contract. By the tests (proofs/Good); the number is above m, so the entry is in use.
 use mathlib.Core.Path.{sym, ◌∙◌}
-use borrow.Author.Rules.{rules}
 use Rattle.queue_checks.proofs.Good.{store_low, store-late, store-astray, store-by-value}
 use Rattle.queue_checks.proofs.is_good_store.Goals as goal
 

@@ -1,12 +1,9 @@
 -- `queue_checks::is_listed` meets its contract. The loop: the whole queue has one where the rest has; from a free place on there is none.
-use Prim.Native.Nat.{◌-◌, ◌≤◌}
 use mathlib.Core.Path.{◌≡◌, refl, sym, ◌∙◌}
 use native.Mathlib.Omega.{arith}
-use lib.ListN.{length, drop}
-use lib.Dec.{eqb}
+use lib.ListN.{length}
 use borrow.Author.Rules.{rules}
 use borrow.Author.Tests.{eq-eqb, ne_eqb}
-use Rattle.lists.specs.Padded.{any}
 use Rattle.lists.proofs.Loops.{any-hit, any-miss, any-end, free-rest}
 use Rattle.rules.specs.Shape.{load_places, no_load}
 use Rattle.queue_checks.proofs.Good.{listed-none}

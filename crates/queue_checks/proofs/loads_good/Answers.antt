@@ -1,8 +1,7 @@
 -- `queue_checks::loads_good` meets its contract. The loop: the whole queue is good where the rest is, above m.
-use Prim.Native.Nat.{◌-◌, ◌≤◌}
 use mathlib.Core.Path.{◌≡◌, refl, sym, ◌∙◌}
 use native.Mathlib.Omega.{arith}
-use lib.ListN.{length, drop}
+use lib.ListN.{length}
 use borrow.Author.Rules.{rules}
 use Rattle.lists.proofs.Loops.{rise-next, rise-stop, rise-end}
 use Rattle.rules.specs.Shape.{load_places, no_load}

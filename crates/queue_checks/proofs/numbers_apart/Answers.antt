@@ -1,14 +1,11 @@
 -- `queue_checks::numbers_apart` meets its contract. The loop: all are apart where the rest is; from a free place on there is no number.
-use Prim.Native.Nat.{◌-◌, ◌≤◌}
 use mathlib.Core.Path.{◌≡◌, refl, sym, ◌∙◌, ap}
 use mathlib.Core.Bool.{not}
 use native.Mathlib.Omega.{arith}
-use lib.ListN.{length, drop}
+use lib.ListN.{length}
 use borrow.Author.Rules.{rules}
-use Rattle.lists.specs.Padded.{every}
 use Rattle.lists.proofs.Loops.{every-hit, every-miss, every-end, free-rest}
 use Rattle.rules.specs.Shape.{store_places, no_store}
-use Rattle.rules.specs.WellFormed.{alone}
 use Rattle.queue_checks.proofs.Good.{alone-free, alone-used}
 use Rattle.queue_checks.proofs.numbers_apart.Goals as goal
 
@@ -27,8 +24,8 @@ returns-then-s-eq0 c =
 pub is_listed-requires : goal.is_listed-requires
 is_listed-requires c =
     record {
-        loads_value = c.requires.loads_value;
-        n_nonzero = omega arith;
+      loads_value = c.requires.loads_value;
+      n_nonzero = omega arith;
     }
 
 pub returns-then-is_listed : goal.returns-then-is_listed

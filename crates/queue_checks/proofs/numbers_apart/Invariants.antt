@@ -1,15 +1,10 @@
 -- `queue_checks::numbers_apart` meets its contract. The loop: all are apart where the rest is; from a free place on there is no number.
 use Prim.Native.Nat.{◌-◌, ◌≤◌}
-use mathlib.Core.Path.{◌≡◌, refl, sym, ◌∙◌, ap}
-use mathlib.Core.Bool.{not}
-use native.Mathlib.Omega.{arith}
-use lib.ListN.{length, drop}
-use borrow.Author.Rules.{rules}
+use mathlib.Core.Path.{◌≡◌}
+use lib.ListN.{drop}
 use Rattle.lists.specs.Padded.{every}
-use Rattle.lists.proofs.Loops.{every-hit, every-miss, every-end, free-rest}
-use Rattle.rules.specs.Shape.{store_places, no_store}
+use Rattle.rules.specs.Shape.{store_places}
 use Rattle.rules.specs.WellFormed.{alone}
-use Rattle.queue_checks.proofs.Good.{alone-free, alone-used}
 use Rattle.queue_checks.proofs.numbers_apart.Given as goal
 
 abbrev pub invariant-loop-i : goal.invariant-loop-i

@@ -1,6 +1,5 @@
 -- `queue_checks::queues_good` meets its contract. The tests of the code are the clauses (proofs/Good).
 use mathlib.Core.Path.{sym, ◌∙◌}
-use borrow.Author.Rules.{rules}
 use Rattle.queue_checks.proofs.Good.{stores-last, loads-last, queues-late, queues-by-stores, queues-by-loads, queues-by-numbers}
 use Rattle.queue_checks.proofs.queues_good.Goals as goal
 
@@ -14,8 +13,8 @@ pub numbers_apart-requires : goal.numbers_apart-requires
 numbers_apart-requires c =
     let stores = sym c.stores_good.ensures ∙ c.if-stores_good.true in
     let loads = sym c.loads_good.ensures ∙ c.if-loads_good.true in record {
-        stores_value = stores-last c.args.last c.args.size c.args.stores stores;
-        loads_value = loads-last c.args.last c.args.committed c.args.size c.args.stores c.args.loads loads;
+      stores_value = stores-last c.args.last c.args.size c.args.stores stores;
+      loads_value = loads-last c.args.last c.args.committed c.args.size c.args.stores c.args.loads loads;
     }
 
 pub returns-then-loads_good : goal.returns-then-loads_good

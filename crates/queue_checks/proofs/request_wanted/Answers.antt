@@ -1,6 +1,5 @@
 -- `queue_checks::request_wanted` meets its contract. By the register and the tests (proofs/Ready).
 use mathlib.Core.Path.{sym, ap, ◌∙◌}
-use borrow.Author.Rules.{rules}
 use Rattle.rules.specs.Shape.{line_of, is_through}
 use Rattle.queue_checks.proofs.Ready.{wanted-free, wanted-by-load, wanted-through, wanted-by-none, wanted-by-store}
 use Rattle.queue_checks.proofs.request_wanted.Goals as goal

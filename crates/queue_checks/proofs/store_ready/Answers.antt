@@ -1,6 +1,5 @@
 -- `queue_checks::store_ready` meets its contract. By the tests (proofs/Ready).
 use mathlib.Core.Path.{sym, ◌∙◌}
-use borrow.Author.Rules.{rules}
 use Rattle.queue_checks.proofs.Ready.{ready-uncommitted, ready-behind-load, ready-first}
 use Rattle.queue_checks.proofs.store_ready.Goals as goal
 

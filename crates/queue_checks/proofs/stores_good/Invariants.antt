@@ -1,13 +1,9 @@
 -- `queue_checks::stores_good` meets its contract. The loop: the whole queue is good where the rest is, above m.
 use Prim.Native.Nat.{◌-◌, ◌≤◌}
-use mathlib.Core.Path.{◌≡◌, refl, sym, ◌∙◌}
-use native.Mathlib.Omega.{arith}
-use lib.ListN.{length, drop}
-use borrow.Author.Rules.{rules}
-use Rattle.lists.proofs.Loops.{rise-next, rise-stop, rise-end}
-use Rattle.rules.specs.Shape.{store_places, no_store}
-use Rattle.queue_checks.specs.Good.{store_good, stores_good}
-use Rattle.queue_checks.proofs.Good.{stores-free}
+use mathlib.Core.Path.{◌≡◌}
+use lib.ListN.{drop}
+use Rattle.rules.specs.Shape.{store_places}
+use Rattle.queue_checks.specs.Good.{stores_good}
 use Rattle.queue_checks.proofs.stores_good.Given as goal
 
 abbrev pub invariant-loop-i : goal.invariant-loop-i

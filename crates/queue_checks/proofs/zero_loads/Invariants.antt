@@ -1,12 +1,9 @@
 -- `queue_checks::zero_loads` meets its contract. The loop: all are zero from k on where they are from i on.
 use Prim.Native.Nat.{◌-◌, ◌≤◌}
-use mathlib.Core.Path.{◌≡◌, refl, sym, ◌∙◌}
-use native.Mathlib.Omega.{arith}
-use lib.ListN.{length, drop}
-use borrow.Author.Rules.{rules}
+use mathlib.Core.Path.{◌≡◌}
+use lib.ListN.{drop}
 use Rattle.lists.specs.Padded.{every}
-use Rattle.lists.proofs.Loops.{every-hit, every-miss, every-end}
-use Rattle.rules.specs.Shape.{load_places, no_load}
+use Rattle.rules.specs.Shape.{load_places}
 use Rattle.queue_checks.specs.Good.{zero_load}
 use Rattle.queue_checks.proofs.zero_loads.Given as goal
 

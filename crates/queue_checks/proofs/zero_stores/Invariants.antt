@@ -1,12 +1,9 @@
 -- `queue_checks::zero_stores` meets its contract. The loop: all are zero from k on where they are from i on.
 use Prim.Native.Nat.{◌-◌, ◌≤◌}
-use mathlib.Core.Path.{◌≡◌, refl, sym, ◌∙◌}
-use native.Mathlib.Omega.{arith}
-use lib.ListN.{length, drop}
-use borrow.Author.Rules.{rules}
+use mathlib.Core.Path.{◌≡◌}
+use lib.ListN.{drop}
 use Rattle.lists.specs.Padded.{every}
-use Rattle.lists.proofs.Loops.{every-hit, every-miss, every-end}
-use Rattle.rules.specs.Shape.{store_places, no_store}
+use Rattle.rules.specs.Shape.{store_places}
 use Rattle.queue_checks.specs.Good.{zero_store}
 use Rattle.queue_checks.proofs.zero_stores.Given as goal
 

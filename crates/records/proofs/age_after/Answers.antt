@@ -1,5 +1,4 @@
 -- `age_after` meets its contract.
-use borrow.Author.Rules.{rules}
 use Rattle.records.proofs.RecordLoops.{age-in, no-age}
 use Rattle.records.proofs.age_after.Goals as goal
 

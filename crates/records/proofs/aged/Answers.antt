@@ -1,5 +1,4 @@
 -- `aged` meets its contract: each of its three answers is that case of `aged_at`.
-use borrow.Author.Rules.{rules}
 use Rattle.records.proofs.RecordLoops.{aged-hit, aged-grown, aged-kept}
 use Rattle.records.proofs.aged.Goals as goal
 

@@ -1,5 +1,4 @@
 -- `ages_after` meets its contract: the four places, one by one.
-use borrow.Author.Rules.{rules}
 use Rattle.records.specs.Records.{ages_in}
 use Rattle.lists.specs.Counted.{each_from}
 use Rattle.records.proofs.ages_after.Goals as goal

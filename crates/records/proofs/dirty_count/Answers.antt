@@ -1,9 +1,7 @@
 -- `dirty_count` meets its contract. The count so far and the dirty words that are left make the whole count.
-use mathlib.Core.Path.{◌≡◌}
-use Prim.Native.Nat.{◌≤◌, ◌-◌, ◌+◌, ◌*◌, ◌<◌}
+use Prim.Native.Nat.{◌≤◌, ◌<◌}
 use native.Mathlib.Omega.{arith}
-use lib.ListN.{length, drop}
-use Rattle.lists.specs.Padded.{total}
+use lib.ListN.{length}
 use borrow.Author.Rules.{rules}
 use Rattle.lists.proofs.Total.{total-next, total-end}
 use Rattle.rules.specs.Shape.{no_tag}

@@ -1,12 +1,8 @@
 -- `dirty_count` meets its contract. The count so far and the dirty words that are left make the whole count.
 use mathlib.Core.Path.{◌≡◌}
-use Prim.Native.Nat.{◌≤◌, ◌-◌, ◌+◌, ◌*◌, ◌<◌}
-use native.Mathlib.Omega.{arith}
-use lib.ListN.{length, drop}
+use Prim.Native.Nat.{◌≤◌, ◌-◌, ◌+◌, ◌*◌}
+use lib.ListN.{drop}
 use Rattle.lists.specs.Padded.{total}
-use borrow.Author.Rules.{rules}
-use Rattle.lists.proofs.Total.{total-next, total-end}
-use Rattle.rules.specs.Shape.{no_tag}
 use Rattle.rules.specs.Lines.{words_of}
 use Rattle.records.proofs.dirty_count.Given as goal
 

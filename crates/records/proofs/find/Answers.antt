@@ -1,12 +1,9 @@
 -- `find` meets its contract. The search of the slots that are left is the whole search.
 use mathlib.Core.Path.{◌≡◌, sym, ◌∙◌}
-use Prim.Native.Nat.{◌≤◌, ◌-◌, ◌+◌}
+use Prim.Native.Nat.{◌-◌, ◌+◌}
 use native.Mathlib.Omega.{arith}
 use borrow.Author.Rules.{rules}
-use Rattle.lists.specs.Counted.{first_from}
 use Rattle.lists.proofs.CountedLoops.{first-hit, first-miss, first-end}
-use Rattle.rules.specs.Shape.{tag_at}
-use Rattle.rules.specs.Lines.{holds_line}
 use Rattle.records.proofs.find.Goals as goal
 
 pub loop-k-init : goal.loop-k-init

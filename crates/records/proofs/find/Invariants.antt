@@ -1,10 +1,7 @@
 -- `find` meets its contract. The search of the slots that are left is the whole search.
-use mathlib.Core.Path.{◌≡◌, sym, ◌∙◌}
-use Prim.Native.Nat.{◌≤◌, ◌-◌, ◌+◌}
-use native.Mathlib.Omega.{arith}
-use borrow.Author.Rules.{rules}
+use mathlib.Core.Path.{◌≡◌}
+use Prim.Native.Nat.{◌≤◌, ◌-◌}
 use Rattle.lists.specs.Counted.{first_from}
-use Rattle.lists.proofs.CountedLoops.{first-hit, first-miss, first-end}
 use Rattle.rules.specs.Shape.{tag_at}
 use Rattle.rules.specs.Lines.{holds_line}
 use Rattle.records.proofs.find.Given as goal

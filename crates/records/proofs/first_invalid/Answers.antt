@@ -1,12 +1,9 @@
 -- `first_invalid` meets its contract. The search of the slots that are left is the whole search.
 use mathlib.Core.Path.{◌≡◌, sym, ap, ◌∙◌}
 use mathlib.Core.Bool.{not}
-use Prim.Native.Nat.{◌≤◌, ◌-◌, ◌+◌}
+use Prim.Native.Nat.{◌-◌, ◌+◌}
 use native.Mathlib.Omega.{arith}
-use borrow.Author.Rules.{rules}
-use Rattle.lists.specs.Counted.{first_from}
 use Rattle.lists.proofs.CountedLoops.{first-hit, first-miss, first-end}
-use Rattle.rules.specs.Shape.{tag_at}
 use Rattle.records.proofs.first_invalid.Goals as goal
 
 pub loop-k-init : goal.loop-k-init

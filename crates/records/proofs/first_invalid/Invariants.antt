@@ -1,11 +1,8 @@
 -- `first_invalid` meets its contract. The search of the slots that are left is the whole search.
-use mathlib.Core.Path.{◌≡◌, sym, ap, ◌∙◌}
+use mathlib.Core.Path.{◌≡◌}
 use mathlib.Core.Bool.{not}
-use Prim.Native.Nat.{◌≤◌, ◌-◌, ◌+◌}
-use native.Mathlib.Omega.{arith}
-use borrow.Author.Rules.{rules}
+use Prim.Native.Nat.{◌≤◌, ◌-◌}
 use Rattle.lists.specs.Counted.{first_from}
-use Rattle.lists.proofs.CountedLoops.{first-hit, first-miss, first-end}
 use Rattle.rules.specs.Shape.{tag_at}
 use Rattle.records.proofs.first_invalid.Given as goal
 

@@ -1,5 +1,4 @@
 -- `first_slot` meets its contract: the slots of a set lie among the slots in use, and those in the table.
-use borrow.Author.Rules.{rules}
 use native.Mathlib.Omega.{arith}
 use Rattle.lists.proofs.Cond.{cond-then, cond-else}
 use Rattle.records.proofs.Places.{test-failed, test-passed, room-bounds, slots-room}

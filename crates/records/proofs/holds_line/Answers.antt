@@ -1,5 +1,4 @@
 -- `holds_line` meets its contract.
-use borrow.Author.Rules.{rules}
 use Rattle.rules.specs.Lines.{holds_line}
 use Rattle.records.proofs.holds_line.Goals as goal
 

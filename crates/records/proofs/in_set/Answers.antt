@@ -1,5 +1,4 @@
 -- `in_set` meets its contract.
-use borrow.Author.Rules.{rules}
 use native.Mathlib.Omega.{arith}
 use borrow.Author.Tests.{lt-leb, le-leb}
 use Rattle.records.specs.Records.{in_set}

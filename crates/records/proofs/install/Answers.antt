@@ -1,5 +1,4 @@
 -- `install` meets its contract.
-use borrow.Author.Rules.{rules}
 use native.Mathlib.Omega.{arith}
 use borrow.Author.Tests.{le-ltb}
 use Rattle.records.proofs.Places.{test-failed, test-passed, set-bounds}

@@ -1,5 +1,4 @@
 -- `is_hit` meets its contract.
-use borrow.Author.Rules.{rules}
 use Rattle.records.proofs.is_hit.Goals as goal
 
 pub returns-in-Hit : goal.returns-in-Hit

@@ -1,5 +1,4 @@
 -- `is_named` meets its contract.
-use borrow.Author.Rules.{rules}
 use Rattle.records.proofs.is_named.Goals as goal
 
 pub returns-in-Line : goal.returns-in-Line

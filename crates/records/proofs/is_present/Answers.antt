@@ -1,5 +1,4 @@
 -- `is_present` meets its contract.
-use borrow.Author.Rules.{rules}
 use mathlib.Core.Path.{◌∙◌}
 use Rattle.records.proofs.Places.{test-failed, test-passed}
 use Rattle.records.proofs.Answers.{found-present, present-is}

@@ -1,5 +1,4 @@
 -- `lookup` meets its contract: the slot that was found is one of the set, or the register tells.
-use borrow.Author.Rules.{rules}
 use mathlib.Core.Path.{sym, ◌∙◌}
 use native.Mathlib.Omega.{arith}
 use Rattle.lists.proofs.Cond.{cond-then, cond-else}

@@ -1,20 +1,12 @@
 -- `lowest_wanting` meets its contract: the rest of the loads is still to be searched.
-use borrow.Author.Rules.{rules}
-use mathlib.Core.Path.{◌≡◌, refl, sym, ◌∙◌}
+use mathlib.Core.Path.{◌≡◌}
 use mathlib.Core.Bool.{true}
-use native.Mathlib.Omega.{arith}
-use Prim.Native.Nat.{◌+◌, ◌-◌, ◌≤◌}
-use lib.ListN.{length, drop}
+use Prim.Native.Nat.{◌-◌, ◌≤◌}
+use lib.ListN.{drop}
 use Rattle.lists.specs.Padded.{first}
-use Rattle.lists.proofs.Cond.{cond-then, cond-else}
-use Rattle.lists.proofs.Loops.{rest-none}
 use Rattle.rules.specs.Shape.{no_load}
 use Rattle.rules.specs.Calls.{wants_line}
 use Rattle.records.specs.Records.{has_room, tabled}
-use Rattle.records.proofs.Places.{test-failed, test-passed}
-use Rattle.records.proofs.RecordLoops.{search-hit, search-miss}
-use mathlib.Core.Path.{ap}
-use mathlib.Core.Bool.{not}
 use Rattle.records.proofs.lowest_wanting.Given as goal
 
 abbrev pub invariant-loop-j : goal.invariant-loop-j

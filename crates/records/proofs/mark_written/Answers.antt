@@ -1,5 +1,4 @@
 -- `mark_written` meets its contract: past the table nothing is changed.
-use borrow.Author.Rules.{rules}
 use mathlib.Core.Path.{sym, ap}
 use Prim.Native.Nat.{ℕ}
 use native.Mathlib.Omega.{arith}

@@ -1,5 +1,4 @@
 -- `marks_after` meets its contract, policy by policy.
-use borrow.Author.Rules.{rules}
 use Rattle.records.proofs.marks_after.Goals as goal
 
 pub returns-in-WriteBack : goal.returns-in-WriteBack

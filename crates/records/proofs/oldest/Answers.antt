@@ -1,12 +1,8 @@
 -- `oldest` meets its contract. The greatest of the best so far and the slots that are left is the greatest of all.
 use mathlib.Core.Path.{◌≡◌, sym, ◌∙◌}
-use mathlib.Core.Logic.{⊎_elim}
-use Prim.Native.Nat.{◌≤◌, ◌-◌, ◌+◌, ◌<◌}
+use Prim.Native.Nat.{◌-◌, ◌+◌}
 use native.Mathlib.Omega.{arith}
-use borrow.Author.Rules.{rules}
-use Rattle.lists.specs.Counted.{greatest_from}
 use Rattle.lists.proofs.CountedLoops.{greatest-more, greatest-less, greatest-end}
-use Rattle.rules.specs.Shape.{tag_at}
 use Rattle.records.proofs.oldest.Goals as goal
 use Rattle.records.proofs.oldest.Goals.{then-u-t, else-u-t}
 
@@ -18,8 +14,8 @@ loop-k-init c =
 pub loop-k-preserved : goal.loop-k-preserved
 loop-k-preserved c =
     elim c.if-u-t.branch [
-    then-u-t w ↦ (omega arith, omega arith, omega (arith, w.best-is), omega (arith, w.best-is), c.loop-k.invariant.4 ∙ greatest-more _ _ _ _ c.loop-k-test.true w.if-u-t.true ∙ simp w.best-is)
-    | else-u-t w ↦ (omega arith, omega arith, omega (arith, w.best-is), omega (arith, w.best-is), c.loop-k.invariant.4 ∙ greatest-less _ _ _ _ c.loop-k-test.true w.if-u-t.false ∙ simp w.best-is)
+      | then-u-t w ↦ (omega arith, omega arith, omega (arith, w.best-is), omega (arith, w.best-is), c.loop-k.invariant.4 ∙ greatest-more _ _ _ _ c.loop-k-test.true w.if-u-t.true ∙ simp w.best-is)
+      | else-u-t w ↦ (omega arith, omega arith, omega (arith, w.best-is), omega (arith, w.best-is), c.loop-k.invariant.4 ∙ greatest-less _ _ _ _ c.loop-k-test.true w.if-u-t.false ∙ simp w.best-is)
     ]
 
 pub returns : goal.returns

@@ -1,11 +1,7 @@
 -- `oldest` meets its contract. The greatest of the best so far and the slots that are left is the greatest of all.
-use mathlib.Core.Path.{◌≡◌, sym, ◌∙◌}
-use mathlib.Core.Logic.{⊎_elim}
-use Prim.Native.Nat.{◌≤◌, ◌-◌, ◌+◌, ◌<◌}
-use native.Mathlib.Omega.{arith}
-use borrow.Author.Rules.{rules}
+use mathlib.Core.Path.{◌≡◌}
+use Prim.Native.Nat.{◌≤◌, ◌-◌, ◌<◌}
 use Rattle.lists.specs.Counted.{greatest_from}
-use Rattle.lists.proofs.CountedLoops.{greatest-more, greatest-less, greatest-end}
 use Rattle.rules.specs.Shape.{tag_at}
 use Rattle.records.proofs.oldest.Given as goal
 

@@ -1,5 +1,4 @@
 -- `preview_fill` meets its contract.
-use borrow.Author.Rules.{rules}
 use native.Mathlib.Omega.{arith}
 use Rattle.records.proofs.Places.{test-failed, test-passed}
 use Rattle.records.proofs.Answers.{victim-at, no-set, no_way, previewed}

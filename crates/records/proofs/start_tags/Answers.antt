@@ -1,14 +1,11 @@
 -- `start_tags` meets its contract. The records that are left to age give the whole table.
 use mathlib.Core.Path.{◌≡◌, sym, ◌∙◌}
-use Prim.Native.Nat.{◌≤◌, ◌<◌, ◌-◌, ◌*◌}
+use Prim.Native.Nat.{◌-◌, ◌*◌}
 use native.Mathlib.Omega.{arith}
-use borrow.Author.Rules.{rules}
-use Rattle.lists.specs.Counted.{steps_from}
 use Rattle.lists.proofs.Cond.{cond-then, cond-else}
-use Rattle.lists.proofs.CountedLoops.{change, steps_next, steps-end}
-use Rattle.rules.specs.Shape.{no_tag}
+use Rattle.lists.proofs.CountedLoops.{steps_next, steps-end}
 use Rattle.records.proofs.Places.{test-failed, test-passed, room-bounds}
-use Rattle.records.proofs.RecordLoops.{age-fits, start_at, start-each, start-at}
+use Rattle.records.proofs.RecordLoops.{age-fits, start-each, start-at}
 use mathlib.Core.Path.{ap}
 use mathlib.Core.Bool.{not}
 use Rattle.records.proofs.start_tags.Goals as goal

@@ -1,16 +1,14 @@
 -- `use_answered` meets its contract: the rest of the loads have still to use their lines.
 use borrow.Author.Rules.{rules}
 use mathlib.Core.Path.{◌≡◌, refl, sym, ◌∙◌}
-use mathlib.Core.Bool.{true}
 use native.Mathlib.Omega.{arith}
-use Prim.Native.Nat.{◌+◌, ◌-◌, ◌≤◌}
-use lib.ListN.{length, drop}
+use Prim.Native.Nat.{◌+◌, ◌≤◌}
+use lib.ListN.{length}
 use Rattle.lists.specs.Padded.{filter}
 use Rattle.lists.proofs.Cond.{cond-then, cond-else}
 use Rattle.lists.proofs.Loops.{rest-cons, rest-none}
 use Rattle.rules.specs.Shape.{no_load, line_of}
 use Rattle.rules.specs.Calls.{uses_line_by, use_each}
-use Rattle.records.specs.Records.{has_room, tabled}
 use Rattle.records.proofs.Places.{test-failed, test-passed}
 use Rattle.records.proofs.Answers.{answered-step, other_step}
 use mathlib.Core.Path.{ap}

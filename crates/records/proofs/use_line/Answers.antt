@@ -1,5 +1,4 @@
 -- `use_line` meets its contract: the line is found in a way of its set, or is not there.
-use borrow.Author.Rules.{rules}
 use mathlib.Core.Path.{◌∙◌}
 use native.Mathlib.Omega.{arith}
 use Rattle.lists.proofs.Cond.{cond-then, cond-else}

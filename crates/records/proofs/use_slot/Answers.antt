@@ -1,13 +1,9 @@
 -- `use_slot` meets its contract. The records of the set that are left to age give the whole.
 use mathlib.Core.Path.{◌≡◌, sym, ◌∙◌}
-use Prim.Native.Nat.{◌≤◌, ◌-◌, ◌+◌}
+use Prim.Native.Nat.{◌-◌, ◌+◌}
 use native.Mathlib.Omega.{arith}
-use borrow.Author.Rules.{rules}
-use Rattle.lists.specs.Counted.{steps_from}
 use Rattle.lists.proofs.Cond.{cond-then, cond-else}
-use Rattle.lists.proofs.CountedLoops.{change, steps_next, steps-end}
-use Rattle.rules.specs.Shape.{no_tag}
-use Rattle.rules.specs.Lines.{aged_at}
+use Rattle.lists.proofs.CountedLoops.{steps_next, steps-end}
 use Rattle.records.proofs.Places.{test-failed, test-passed, set-bounds}
 use Rattle.records.proofs.RecordLoops.{use-each}
 use mathlib.Core.Path.{ap}

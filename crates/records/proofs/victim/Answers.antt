@@ -1,5 +1,4 @@
 -- `victim` meets its contract: the lowest invalid way if there is one, else the way of greatest age.
-use borrow.Author.Rules.{rules}
 use mathlib.Core.Path.{◌∙◌}
 use native.Mathlib.Omega.{arith}
 use borrow.Author.Tests.{lt-ltb, le-ltb}

@@ -5,10 +5,10 @@ use Rattle.rules.proofs.checkpoints_exact.Goals as goal
 pub returns : goal.returns
 returns c =
     record {
-  by-set = sets-exactly;
-  by-return = returns-exactly;
-  by-abort = aborts-exactly;
-  by-commit = commits-exactly;
-  by-others = marks_stay;
-  by_rank = marks-ranked;
-}
+      by-set = sets-exactly;
+      by-return = returns-exactly;
+      by-abort = aborts-exactly;
+      by-commit = commits-exactly;
+      by-others = marks_stay;
+      by_rank = marks-ranked;
+    }

@@ -5,9 +5,9 @@ use Rattle.rules.proofs.refusal_table.Goals as goal
 pub returns : goal.returns
 returns c =
     record {
-  starts = start-refusals;
-  input = input-refusals;
-  state = state-refusals;
-  clauses = clause-refusals;
-  order = refusals-in-order;
-}
+      starts = start-refusals;
+      input = input-refusals;
+      state = state-refusals;
+      clauses = clause-refusals;
+      order = refusals-in-order;
+    }

@@ -1,5 +1,4 @@
 -- `start_as_promised` promises what `start` does.
-use borrow.Author.Rules.{rules}
 use Rattle.runs.proofs.start_as_promised.Goals as goal
 
 pub returns : goal.returns

@@ -1,5 +1,4 @@
 -- `step_as_promised` promises what `step` does.
-use borrow.Author.Rules.{rules}
 use Rattle.runs.proofs.step_as_promised.Goals as goal
 
 pub returns : goal.returns

@@ -1,5 +1,4 @@
 -- `store_queue::byte_of` meets its contract. A shift by 8 k bits divides by 256 to the power k; bytes above the fourth are 0.
-use borrow.Author.Rules.{rules}
 use Rattle.lists.proofs.Bytes.{byte-shifted, byte_above}
 use Rattle.store_queue.proofs.byte_of.Goals as goal
 

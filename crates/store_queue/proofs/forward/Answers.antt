@@ -1,6 +1,5 @@
 -- `store_queue::forward` meets its contract. The byte is known where the last store that covers it is no free entry.
 use mathlib.Core.Path.{sym, ◌∙◌, ap}
-use borrow.Author.Rules.{rules}
 use Rattle.store_queue.specs.declared.Byte.TheVariants.{Known}
 use Rattle.store_queue.proofs.Forwarded.{cover-begins, forwarded-known, forwarded-unknown}
 use Rattle.store_queue.proofs.forward.Goals as goal

@@ -1,13 +1,10 @@
 -- `store_queue::last_cover` meets its contract. The loop: the last of the whole queue is the last of what was found and the rest.
-use Prim.Native.Nat.{◌-◌, ◌≤◌}
 use mathlib.Core.Path.{◌≡◌, refl, sym, ◌∙◌}
 use native.Mathlib.Omega.{arith}
-use lib.ListN.{length, drop}
+use lib.ListN.{length}
 use borrow.Author.Rules.{rules}
-use Rattle.lists.specs.Padded.{final}
 use Rattle.lists.proofs.Loops.{final-step, final-end}
 use Rattle.rules.specs.Shape.{store_places, no_store}
-use Rattle.rules.specs.Forward.{older_covers}
 use Rattle.store_queue.proofs.last_cover.Goals as goal
 
 pub loop-k-init : goal.loop-k-init

@@ -1,6 +1,5 @@
 -- `store_queue::newer_cover` meets its contract. By the test.
 use mathlib.Core.Path.{sym, ◌∙◌}
-use borrow.Author.Rules.{rules}
 use Rattle.lists.proofs.Cond.{cond-then, cond-else}
 use Rattle.store_queue.proofs.newer_cover.Goals as goal
 

@@ -1,10 +1,9 @@
 -- `store_queue::pop_store` meets its contract. The loop: i entries, from the second on, stand before free places.
-use Prim.Native.Nat.{◌-◌, ◌≤◌}
 use mathlib.Core.Path.{◌≡◌, refl}
 use native.Mathlib.Omega.{arith}
-use lib.ListN.{length, drop}
+use lib.ListN.{length}
 use borrow.Author.Rules.{rules}
-use Rattle.lists.proofs.Loops.{laid, moved-step, moved_all}
+use Rattle.lists.proofs.Loops.{moved-step, moved_all}
 use Rattle.rules.specs.Shape.{store_places, no_store}
 use Rattle.store_queue.proofs.pop_store.Goals as goal
 

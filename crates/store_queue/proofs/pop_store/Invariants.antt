@@ -1,10 +1,8 @@
 -- `store_queue::pop_store` meets its contract. The loop: i entries, from the second on, stand before free places.
 use Prim.Native.Nat.{◌-◌, ◌≤◌}
-use mathlib.Core.Path.{◌≡◌, refl}
-use native.Mathlib.Omega.{arith}
-use lib.ListN.{length, drop}
-use borrow.Author.Rules.{rules}
-use Rattle.lists.proofs.Loops.{laid, moved-step, moved_all}
+use mathlib.Core.Path.{◌≡◌}
+use lib.ListN.{drop}
+use Rattle.lists.proofs.Loops.{laid}
 use Rattle.rules.specs.Shape.{store_places, no_store}
 use Rattle.store_queue.proofs.pop_store.Given as goal
 

@@ -1,12 +1,10 @@
 -- `store_queue::squash_stores` meets its contract. The loop: the first i entries are done.
-use Prim.Native.Nat.{◌-◌, ◌≤◌}
 use mathlib.Core.Path.{◌≡◌, ◌∙◌}
 use native.Mathlib.Omega.{arith}
 use lib.ListN.{length}
 use borrow.Author.Rules.{rules}
-use Rattle.lists.proofs.Loops.{done, done_none, done-step, done_all}
+use Rattle.lists.proofs.Loops.{done_none, done-step, done_all}
 use Rattle.rules.specs.Shape.{store_places, no_store}
-use Rattle.rules.specs.Calls.{young_store}
 use Rattle.store_queue.proofs.squash_stores.Goals as goal
 
 pub loop-i-init : goal.loop-i-init

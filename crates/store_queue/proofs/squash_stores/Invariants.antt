@@ -1,10 +1,7 @@
 -- `store_queue::squash_stores` meets its contract. The loop: the first i entries are done.
 use Prim.Native.Nat.{◌-◌, ◌≤◌}
-use mathlib.Core.Path.{◌≡◌, ◌∙◌}
-use native.Mathlib.Omega.{arith}
-use lib.ListN.{length}
-use borrow.Author.Rules.{rules}
-use Rattle.lists.proofs.Loops.{done, done_none, done-step, done_all}
+use mathlib.Core.Path.{◌≡◌}
+use Rattle.lists.proofs.Loops.{done}
 use Rattle.rules.specs.Shape.{store_places, no_store}
 use Rattle.rules.specs.Calls.{young_store}
 use Rattle.store_queue.proofs.squash_stores.Given as goal

@@ -1,5 +1,4 @@
 -- `add_hits` meets its contract.
-use borrow.Author.Rules.{rules}
 use Rattle.study.proofs.add_hits.Goals as goal
 
 pub returns : goal.returns

@@ -1,9 +1,7 @@
 -- `count_hits` meets its contract. The stacks in the scratch and the counts are those of the items so far.
-use Prim.Native.Nat.{◌-◌}
 use native.Mathlib.Omega.{arith}
-use lib.ListN.{length, get_or}
-use borrow.Author.Rules.{rules}
-use Rattle.study.proofs.Counts.{Counting, some-sets, set-small, line_small, counting-none, countable, places-in, counting_more, counting-all}
+use lib.ListN.{get_or}
+use Rattle.study.proofs.Counts.{some-sets, set-small, line_small, counting-none, countable, places-in, counting_more, counting-all}
 use Rattle.study.proofs.count_hits.Goals as goal
 
 pub loop-i-init : goal.loop-i-init

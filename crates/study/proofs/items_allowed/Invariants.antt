@@ -1,14 +1,10 @@
 -- `items_allowed` meets its contract. What holds of all items holds of those still to be seen.
-use mathlib.Core.Path.{◌≡◌, refl, sym, ◌∙◌}
+use mathlib.Core.Path.{◌≡◌}
 use Prim.Native.Nat.{◌≤◌, ◌-◌}
-use native.Mathlib.Omega.{arith}
 use lib.Dec.{ltb}
 use lib.ListN.{length, drop}
-use borrow.Author.Rules.{rules}
-use borrow.Author.Tests.{lt-ltb, le-ltb}
 use Rattle.lists.specs.Padded.{every}
-use Rattle.lists.proofs.Loops.{every-hit, every-miss, every-end}
-use Rattle.study.specs.Study.{line_limit, items_allowed}
+use Rattle.study.specs.Study.{line_limit}
 use Rattle.study.proofs.items_allowed.Given as goal
 
 abbrev pub invariant-loop-i : goal.invariant-loop-i

@@ -1,5 +1,4 @@
 -- `one_more` meets its contract.
-use borrow.Author.Rules.{rules}
 use Rattle.lists.proofs.Loops.{tests}
 use Rattle.study.proofs.one_more.Goals as goal
 

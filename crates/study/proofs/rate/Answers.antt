@@ -1,5 +1,4 @@
 -- `rate` meets its contract.
-use borrow.Author.Rules.{rules}
 use Rattle.lists.proofs.Loops.{tests}
 use Rattle.study.specs.Study.{rate_of}
 use Rattle.study.proofs.rate.Goals as goal

@@ -1,6 +1,5 @@
 -- `study` meets its contract: refused where the figures are not allowed, else what an accepted study answers and leaves.
 use mathlib.Core.Path.{sym, ◌∙◌}
-use borrow.Author.Rules.{rules}
 use Rattle.study.specs.Study.{studied, scratch_after}
 use Rattle.study.proofs.study.Goals as goal
 

@@ -4,7 +4,6 @@ use mathlib.Core.Path.{sym, ap, subst, ◌∙◌}
 use mathlib.Core.List.{List}
 use lib.ListN.{length, replicate, length-replicate}
 use native.Mathlib.Omega.{arith}
-use borrow.Author.Rules.{rules}
 use Rattle.study.specs.Scratch.{CountGiven}
 use Rattle.study.proofs.Counts.{allowed-tells, allowed-given, allowed-rated, allowed-counted}
 use Rattle.study.proofs.study_accepted.Goals as goal

@@ -1,6 +1,5 @@
 -- `study_allowed` meets its contract: a test of the code for each part of the definition.
 use mathlib.Core.Path.{sym, ◌∙◌}
-use borrow.Author.Rules.{rules}
 use borrow.Author.Tests.{le-leb, lt-leb}
 use Rattle.study.specs.Study.{study_allowed}
 use Rattle.study.proofs.study_allowed.Goals as goal

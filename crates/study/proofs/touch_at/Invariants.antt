@@ -1,8 +1,6 @@
 -- `touch_at` meets its contract. Before place d the first d of the four have moved, and what comes next is carried.
 use Prim.Native.Nat.{◌-◌}
-use native.Mathlib.Omega.{arith}
-use borrow.Author.Rules.{rules}
-use Rattle.study.proofs.Scratch.{Moving, moving-none, moving-more, moving-found, moving-all}
+use Rattle.study.proofs.Scratch.{Moving}
 use Rattle.study.proofs.touch_at.Given as goal
 
 abbrev pub invariant-loop-d : goal.invariant-loop-d

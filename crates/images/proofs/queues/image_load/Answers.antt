@@ -1,5 +1,4 @@
 -- `queues::image_load` meets its contract.
-use borrow.Author.Rules.{rules}
 use Rattle.images.specs.Images.{imaged_load}
 use Rattle.images.proofs.queues.image_load.Goals as goal
 

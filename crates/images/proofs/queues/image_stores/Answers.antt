@@ -1,12 +1,11 @@
 -- `queues::image_stores` meets its contract. The loop: the first i entries are made.
-use Prim.Native.Nat.{◌-◌, ◌≤◌}
 use mathlib.Core.Path.{◌≡◌, refl}
 use lib.ListN.{length}
 use borrow.Author.Rules.{rules}
 use Rattle.images.specs.Images.{imaged_store}
 use Rattle.images.proofs.Standing.{no_store_image}
 use Rattle.rules.specs.Shape.{no_store}
-use Rattle.images.proofs.Mapped.{made, made-step, made_all}
+use Rattle.images.proofs.Mapped.{made-step, made_all}
 use Rattle.images.proofs.queues.image_stores.Goals as goal
 
 pub loop-i-init : goal.loop-i-init

@@ -1,10 +1,8 @@
 -- `queues::loads_stand` meets its contract. The test of the entries that are left is the whole test.
-use Prim.Native.Nat.{◌-◌, ◌≤◌}
 use mathlib.Core.Path.{◌≡◌, refl, sym, ◌∙◌}
 use native.Mathlib.Omega.{arith}
-use lib.ListN.{length, drop}
+use lib.ListN.{length}
 use borrow.Author.Rules.{rules}
-use Rattle.lists.specs.Padded.{every}
 use Rattle.lists.proofs.Loops.{every-hit, every-miss, every-end}
 use Rattle.images.specs.Images.{load_stands}
 use Rattle.images.proofs.Standing.{no_load_image}

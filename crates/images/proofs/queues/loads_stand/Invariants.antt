@@ -1,13 +1,9 @@
 -- `queues::loads_stand` meets its contract. The test of the entries that are left is the whole test.
 use Prim.Native.Nat.{◌-◌, ◌≤◌}
-use mathlib.Core.Path.{◌≡◌, refl, sym, ◌∙◌}
-use native.Mathlib.Omega.{arith}
-use lib.ListN.{length, drop}
-use borrow.Author.Rules.{rules}
+use mathlib.Core.Path.{◌≡◌}
+use lib.ListN.{drop}
 use Rattle.lists.specs.Padded.{every}
-use Rattle.lists.proofs.Loops.{every-hit, every-miss, every-end}
 use Rattle.images.specs.Images.{load_stands}
-use Rattle.images.proofs.Standing.{no_load_image}
 use Rattle.images.proofs.queues.loads_stand.Given as goal
 
 abbrev pub invariant-loop-i : goal.invariant-loop-i

@@ -1,12 +1,9 @@
 -- `queues::open_stores` meets its contract. The loop: the first i entries are made.
 use Prim.Native.Nat.{◌-◌, ◌≤◌}
-use mathlib.Core.Path.{◌≡◌, refl}
-use lib.ListN.{length}
-use borrow.Author.Rules.{rules}
+use mathlib.Core.Path.{◌≡◌}
 use Rattle.images.specs.Images.{opened_store}
-use Rattle.images.proofs.Standing.{no_store_image}
 use Rattle.rules.specs.Shape.{no_store}
-use Rattle.images.proofs.Mapped.{made, made-step, made_all}
+use Rattle.images.proofs.Mapped.{made}
 use Rattle.images.proofs.queues.open_stores.Given as goal
 
 abbrev pub invariant-loop-i : goal.invariant-loop-i

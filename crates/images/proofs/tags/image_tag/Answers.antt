@@ -1,5 +1,4 @@
 -- `tags::image_tag` meets its contract.
-use borrow.Author.Rules.{rules}
 use Rattle.images.specs.Images.{imaged_tag}
 use Rattle.images.proofs.tags.image_tag.Goals as goal
 

@@ -1,13 +1,9 @@
 -- `tags::open_tags` meets its contract. The loop: the first i entries are made.
-use Prim.Native.Nat.{ℕ, ◌-◌, ◌≤◌}
-use mathlib.Core.Path.{◌≡◌, refl, ap, ◌∙◌}
-use native.Mathlib.Omega.{arith}
-use lib.ListN.{length}
-use borrow.Author.Rules.{rules}
-use Rattle.images.specs.Images.{opened_tag, opened_tags}
+use Prim.Native.Nat.{◌-◌, ◌≤◌}
+use mathlib.Core.Path.{◌≡◌}
+use Rattle.images.specs.Images.{opened_tag}
 use Rattle.rules.specs.Shape.{no_tag}
-use Rattle.images.proofs.Standing.{no_tag_image, bounded-rest, bounded-take}
-use Rattle.images.proofs.Mapped.{made, made-step}
+use Rattle.images.proofs.Mapped.{made}
 use Rattle.images.proofs.tags.open_tags.Given as goal
 
 abbrev pub invariant-loop-i : goal.invariant-loop-i

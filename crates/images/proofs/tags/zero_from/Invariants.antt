@@ -1,14 +1,10 @@
 -- `tags::zero_from` meets its contract. The answer so far and the test of the entries that are left is the whole test.
 use Prim.Native.Nat.{◌-◌, ◌≤◌}
-use mathlib.Core.Path.{◌≡◌, refl, sym, ◌∙◌}
+use mathlib.Core.Path.{◌≡◌}
 use mathlib.Core.Bool.{◌&&◌}
-use native.Mathlib.Omega.{arith}
-use lib.ListN.{length, drop}
-use borrow.Author.Rules.{rules}
+use lib.ListN.{drop}
 use Rattle.lists.specs.Padded.{every}
 use Rattle.images.specs.Images.{zero_image}
-use Rattle.images.proofs.Standing.{no_tag_image}
-use Rattle.images.proofs.Mapped.{every-on, every-off}
 use Rattle.images.proofs.tags.zero_from.Given as goal
 
 abbrev pub invariant-loop-i : goal.invariant-loop-i

@@ -1,5 +1,4 @@
 -- `tags::zero_too` meets its contract: two numbers hold the fields.
-use borrow.Author.Rules.{rules}
 use Rattle.images.proofs.Standing.{first-not, second-not, both_zero}
 use Rattle.images.proofs.tags.zero_too.Goals as goal
 

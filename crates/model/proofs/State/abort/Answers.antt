@@ -1,5 +1,4 @@
 -- `State::abort` meets its contract.
-use borrow.Author.Rules.{rules}
 use mathlib.Core.Path.{refl}
 use Rattle.model.proofs.State.abort.Goals as goal
 

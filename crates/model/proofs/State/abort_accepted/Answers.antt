@@ -1,5 +1,4 @@
 -- `State::abort_accepted` meets its contract: an abort's change of the checkpoints.
-use borrow.Author.Rules.{rules}
 use Rattle.rules.specs.Checkpoints.{forget_above}
 use Rattle.rules.specs.Calls.{abort_rule}
 use Rattle.model.proofs.State.abort_accepted.Goals as goal

@@ -1,5 +1,4 @@
 -- `State::answer_load` meets its contract.
-use borrow.Author.Rules.{rules}
 use Rattle.rules.specs.Shape.{line_of}
 use Rattle.model.proofs.Facts.{shaped-room}
 use Rattle.model.proofs.Accepted.{answered-leaves, answered-stays}

@@ -1,5 +1,4 @@
 -- `State::checkpoint_accepted` meets its contract.
-use borrow.Author.Rules.{rules}
 use Rattle.rules.specs.Calls.{checkpoint_rule}
 use Rattle.model.proofs.State.checkpoint_accepted.Goals as goal
 

@@ -1,7 +1,5 @@
 -- `State::checkpoint_formed` meets its contract: checks 19, 20 and 21, then the setting.
-use borrow.Author.Rules.{rules}
 use mathlib.Core.Path.{sym, ◌∙◌}
-use borrow.Author.Tests.{not-true, not-false}
 use Rattle.model.proofs.Calls.{formed-opens, set-misnamed, set-used, set-numbers, set_does}
 use Rattle.model.proofs.State.checkpoint_formed.Goals as goal
 

@@ -1,5 +1,4 @@
 -- `State::commit_accepted` meets its contract.
-use borrow.Author.Rules.{rules}
 use Rattle.rules.specs.Calls.{commit_rule}
 use mathlib.Core.Path.{sym, ◌∙◌}
 use Rattle.lists.proofs.Cond.{cond-then}

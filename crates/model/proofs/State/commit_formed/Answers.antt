@@ -1,5 +1,4 @@
 -- `State::commit_formed` meets its contract.
-use borrow.Author.Rules.{rules}
 use mathlib.Core.Path.{refl, sym, ◌∙◌}
 use borrow.Author.Tests.{lt-ltb, le-ltb}
 use Rattle.model.proofs.Calls.{formed-opens, one-refuses, one-does}

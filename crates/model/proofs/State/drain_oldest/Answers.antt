@@ -1,5 +1,4 @@
 -- `State::drain_oldest` meets its contract.
-use borrow.Author.Rules.{rules}
 use Rattle.model.proofs.Moves.{drained-state}
 use Rattle.model.proofs.State.drain_oldest.Goals as goal
 

@@ -1,5 +1,4 @@
 -- `State::flush_formed` meets its contract.
-use borrow.Author.Rules.{rules}
 use mathlib.Core.Path.{refl, sym, ◌∙◌}
 use Rattle.model.proofs.Calls.{formed-opens, one-refuses, one-does}
 use Rattle.model.proofs.Facts.{formed-flushable}

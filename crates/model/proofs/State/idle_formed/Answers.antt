@@ -1,5 +1,4 @@
 -- `State::idle_formed` meets its contract.
-use borrow.Author.Rules.{rules}
 use mathlib.Core.Path.{refl, sym, ◌∙◌}
 use Rattle.rules.specs.Calls as rules
 use Rattle.rules.specs.Shape.{line_of}
@@ -52,6 +51,6 @@ returns c =
     let told = c.store_ready-ready.ensures ∙ ready_at s cache memory in
     let room = shaped-room _ _ (formed-shaped s cache memory c.requires) in
     elim c.if-ready.branch [
-    then-ready+else-can_write w ↦ c.idle_request.ensures _ _ ∙ sym (none-does rules.idle _ _ (formed-opens rules.idle _ _ c.requires tt) refl ∙ idle-absent s cache memory (sym (writes-known s _ room w.can_write.ensures) ∙ w.if-can_write.false))
-    | else-ready w ↦ c.idle_request.ensures _ _ ∙ sym (none-does rules.idle _ _ (formed-opens rules.idle _ _ c.requires tt) refl ∙ idle-unready s cache memory (sym told ∙ w.if-ready.false))
+      | then-ready+else-can_write w ↦ c.idle_request.ensures _ _ ∙ sym (none-does rules.idle _ _ (formed-opens rules.idle _ _ c.requires tt) refl ∙ idle-absent s cache memory (sym (writes-known s _ room w.can_write.ensures) ∙ w.if-can_write.false))
+      | else-ready w ↦ c.idle_request.ensures _ _ ∙ sym (none-does rules.idle _ _ (formed-opens rules.idle _ _ c.requires tt) refl ∙ idle-unready s cache memory (sym told ∙ w.if-ready.false))
     ]

@@ -1,5 +1,4 @@
 -- `State::idle_request` meets its contract.
-use borrow.Author.Rules.{rules}
 use mathlib.Core.Path.{sym, ◌∙◌}
 use Rattle.lists.proofs.Cond.{cond-then}
 use Rattle.model.proofs.Moves.{idle-busy, idle-load, idle-store, idle-nothing}

@@ -1,5 +1,4 @@
 -- `State::is_formed` meets its contract.
-use borrow.Author.Rules.{rules}
 use Rattle.model.proofs.Calls.{state-judged}
 use Rattle.model.proofs.State.is_formed.Goals as goal
 

@@ -1,5 +1,4 @@
 -- `State::load` meets its contract.
-use borrow.Author.Rules.{rules}
 use mathlib.Core.Path.{refl}
 use Rattle.model.proofs.State.load.Goals as goal
 

@@ -1,5 +1,4 @@
 -- `State::load_accepted` meets its contract.
-use borrow.Author.Rules.{rules}
 use Rattle.rules.specs.Calls.{load_rule}
 use Rattle.line_bytes.proofs.Reading.{lacking-read}
 use Rattle.model.proofs.Reading.{answer-read, forwarded-is}

@@ -1,5 +1,4 @@
 -- `State::load_formed` meets its contract: each refusal by its check, else what an accepted load does.
-use borrow.Author.Rules.{rules}
 use mathlib.Core.Path.{refl, sym, ◌∙◌}
 use Prim.Native.Nat.{◌<◌}
 use native.Mathlib.Omega.{arith}

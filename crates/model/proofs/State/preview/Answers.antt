@@ -1,5 +1,4 @@
 -- `State::preview` meets its contract.
-use borrow.Author.Rules.{rules}
 use mathlib.Core.Path.{refl}
 use Rattle.model.proofs.State.preview.Goals as goal
 

@@ -1,5 +1,4 @@
 -- `State::preview_formed` meets its contract.
-use borrow.Author.Rules.{rules}
 use mathlib.Core.Path.{refl, sym, ◌∙◌, ap}
 use Rattle.rules.specs.Shape.{is_free}
 use Rattle.model.proofs.Calls.{formed-opens, one-refuses, one-does}

@@ -1,5 +1,4 @@
 -- `State::read` meets its contract.
-use borrow.Author.Rules.{rules}
 use mathlib.Core.List.{[]}
 use native.Mathlib.Omega.{arith}
 use Rattle.rules.specs.Shape.{line_of}

@@ -1,5 +1,4 @@
 -- `State::read_checked` meets its contract: checks 1 and 10, then the call on a well-formed state.
-use borrow.Author.Rules.{rules}
 use mathlib.Core.Path.{sym, ◌∙◌}
 use Rattle.model.specs.State.{call_of, hierarchy_of}
 use Rattle.model.proofs.Calls.{state-refuses, state-formed, early}

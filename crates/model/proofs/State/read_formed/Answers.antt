@@ -1,5 +1,4 @@
 -- `State::read_formed` meets its contract: each call by its own.
-use borrow.Author.Rules.{rules}
 use Prim.Native.Nat.{ℕ}
 use mathlib.Core.Path.{◌≡◌, refl}
 use mathlib.Core.Bool.{true, false≢true}

@@ -1,5 +1,4 @@
 -- `State::refused_call` meets its contract: show line, or one of the calls that name their refusal.
-use borrow.Author.Rules.{rules}
 use Prim.Native.Nat.{ℕ}
 use mathlib.Core.Path.{◌≡◌, refl, ap}
 use Rattle.rules.specs.Calls.{Answer, refused, unchanged}

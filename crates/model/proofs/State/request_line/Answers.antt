@@ -1,5 +1,4 @@
 -- `State::request_line` meets its contract.
-use borrow.Author.Rules.{rules}
 use Rattle.rules.specs.Shape.{line_of}
 use Rattle.model.proofs.State.request_line.Goals as goal
 

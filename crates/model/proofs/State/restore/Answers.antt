@@ -1,5 +1,4 @@
 -- `State::restore` meets its contract: checks 1 and 10, then the call on a well-formed state.
-use borrow.Author.Rules.{rules}
 use mathlib.Core.Path.{sym}
 use Rattle.model.proofs.Calls.{state-refuses, state-formed}
 use Rattle.model.proofs.State.restore.Goals as goal

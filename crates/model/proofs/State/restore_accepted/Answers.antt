@@ -1,5 +1,4 @@
 -- `State::restore_accepted` meets its contract: a return's number and its change of the checkpoints.
-use borrow.Author.Rules.{rules}
 use Rattle.rules.specs.Checkpoints.{forget_from}
 use Rattle.rules.specs.Calls.{restore_rule}
 use Rattle.model.proofs.Facts.{used-number}

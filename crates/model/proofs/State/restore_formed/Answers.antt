@@ -1,7 +1,5 @@
 -- `State::restore_formed` meets its contract: checks 19 and 21, then the return.
-use borrow.Author.Rules.{rules}
 use mathlib.Core.Path.{sym, ◌∙◌}
-use borrow.Author.Tests.{not-true, not-false}
 use Rattle.model.proofs.Calls.{formed-opens, return-misnamed, return-unused, return-does}
 use Rattle.model.proofs.State.restore_formed.Goals as goal
 

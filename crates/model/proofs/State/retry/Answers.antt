@@ -1,5 +1,4 @@
 -- `State::retry` meets its contract.
-use borrow.Author.Rules.{rules}
 use mathlib.Core.Path.{refl}
 use Rattle.model.proofs.State.retry.Goals as goal
 

@@ -1,5 +1,4 @@
 -- `State::retry_accepted` meets its contract.
-use borrow.Author.Rules.{rules}
 use mathlib.Core.Path.{sym, ◌∙◌, ap}
 use Rattle.rules.specs.Forward.{load_value, all_forwarded}
 use Rattle.rules.specs.Calls.{retry_rule, retry_with}

@@ -1,5 +1,4 @@
 -- `State::retry_formed` meets its contract.
-use borrow.Author.Rules.{rules}
 use mathlib.Core.Path.{refl, sym, ◌∙◌, ap}
 use mathlib.Core.Bool.{not}
 use Rattle.model.proofs.Calls.{formed-opens, one-refuses, one-does}

@@ -1,5 +1,4 @@
 -- `State::show` meets its contract.
-use borrow.Author.Rules.{rules}
 use Rattle.model.proofs.Moves.{show-answers}
 use Rattle.model.proofs.State.show.Goals as goal
 

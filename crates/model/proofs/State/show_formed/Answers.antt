@@ -1,5 +1,4 @@
 -- `State::show_formed` meets its contract.
-use borrow.Author.Rules.{rules}
 use Rattle.model.proofs.Moves.{show-answers}
 use Rattle.model.proofs.State.show_formed.Goals as goal
 

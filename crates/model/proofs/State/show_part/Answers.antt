@@ -1,5 +1,4 @@
 -- `State::show_part` meets its contract: check 1 or 10 refuses, or the state is well formed.
-use borrow.Author.Rules.{rules}
 use native.Mathlib.Omega.{arith}
 use Rattle.model.proofs.Moves.{show-refused}
 use Rattle.model.proofs.Calls.{state-refuses, state-formed}

@@ -1,5 +1,4 @@
 -- `State::squash` meets its contract.
-use borrow.Author.Rules.{rules}
 use Rattle.model.proofs.Accepted.{squashed-state}
 use Rattle.model.proofs.State.squash.Goals as goal
 

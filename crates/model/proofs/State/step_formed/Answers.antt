@@ -1,5 +1,4 @@
 -- `State::step_formed` meets its contract: each call that writes by its own, the others together.
-use borrow.Author.Rules.{rules}
 use Prim.Native.Nat.{ℕ}
 use mathlib.Core.Path.{◌≡◌, refl}
 use mathlib.Core.Bool.{true}
@@ -43,6 +42,6 @@ pub read_formed-requires : goal.read_formed-requires
 read_formed-requires c = formed-sound c.args.self c.args.cache.now c.args.memory.now c.requires
 
 pub returns : goal.returns
-returns c = c.read_formed.ensures 
+returns c = c.read_formed.ensures
     (all_read c.args.call c.in_default.not-Idle c.in_default.not-Reply c.in_default.not-Flush c.in_default.not-Checkpoint c.in_default.not-Restore)
     _ c.requires

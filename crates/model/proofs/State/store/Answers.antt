@@ -1,5 +1,4 @@
 -- `State::store` meets its contract.
-use borrow.Author.Rules.{rules}
 use mathlib.Core.Path.{refl}
 use Rattle.model.proofs.State.store.Goals as goal
 

@@ -1,5 +1,4 @@
 -- `State::store_accepted` meets its contract.
-use borrow.Author.Rules.{rules}
 use Rattle.rules.specs.Calls.{store_rule}
 use Rattle.model.proofs.State.store_accepted.Goals as goal
 

@@ -1,5 +1,4 @@
 -- `State::store_checked` meets its contract.
-use borrow.Author.Rules.{rules}
 use mathlib.Core.Path.{sym, ◌∙◌}
 use native.Mathlib.Omega.{arith}
 use Rattle.model.proofs.Calls.{rest-values, rest-numbers, rest-full, rest-does}

@@ -1,5 +1,4 @@
 -- `State::store_formed` meets its contract.
-use borrow.Author.Rules.{rules}
 use mathlib.Core.Path.{refl, sym, ◌∙◌}
 use Rattle.model.proofs.Calls.{formed-opens, access-refuses, store_goes, passed-access}
 use Rattle.model.proofs.State.store_formed.Goals as goal

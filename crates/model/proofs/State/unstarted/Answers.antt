@@ -1,5 +1,4 @@
 -- `State::unstarted` meets its contract.
-use borrow.Author.Rules.{rules}
 use Rattle.model.proofs.State.unstarted.Goals as goal
 
 pub returns : goal.returns

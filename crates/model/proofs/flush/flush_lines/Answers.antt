@@ -1,5 +1,4 @@
 -- `flush_lines` meets its contract.
-use borrow.Author.Rules.{rules}
 use native.Mathlib.Omega.{arith}
 use Rattle.model.proofs.Accepted.{flushed-lines}
 use Rattle.model.proofs.flush.flush_lines.Goals as goal

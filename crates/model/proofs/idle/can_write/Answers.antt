@@ -1,6 +1,5 @@
 -- `can_write` meets its contract, under either write policy.
 use mathlib.Core.Path.{sym, ◌∙◌}
-use borrow.Author.Rules.{rules}
 use Rattle.model.proofs.Moves.{back-writes}
 use Rattle.model.proofs.idle.can_write.Goals as goal
 

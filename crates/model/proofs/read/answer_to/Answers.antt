@@ -1,5 +1,4 @@
 -- `answer_to` meets its contract.
-use borrow.Author.Rules.{rules}
 use mathlib.Core.Path.{◌∙◌}
 use Rattle.model.proofs.read.answer_to.Goals as goal
 

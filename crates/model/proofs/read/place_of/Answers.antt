@@ -1,5 +1,4 @@
 -- `place_of` meets its contract.
-use borrow.Author.Rules.{rules}
 use native.Mathlib.Omega.{arith}
 use Rattle.records.proofs.Answers.{no_hit}
 use Rattle.model.proofs.Reading.{place_none}

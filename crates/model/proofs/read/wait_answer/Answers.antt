@@ -1,5 +1,4 @@
 -- `wait_answer` meets its contract.
-use borrow.Author.Rules.{rules}
 use Rattle.model.proofs.read.wait_answer.Goals as goal
 
 pub returns-in-Hit : goal.returns-in-Hit

@@ -1,5 +1,4 @@
 -- `fill_line` meets its contract.
-use borrow.Author.Rules.{rules}
 use native.Mathlib.Omega.{arith}
 use Rattle.line_checks.specs.Refusal.{hierarchy}
 use Rattle.line_bytes.proofs.Writing.{written-length}

@@ -1,5 +1,4 @@
 -- `answers::answer_image` meets its contract: each kind by itself.
-use borrow.Author.Rules.{rules}
 use native.Mathlib.Omega.{arith}
 use Rattle.nicoisetarn.proofs.ShownPart.{part-fits, part-image}
 use Rattle.nicoisetarn.proofs.answers.answer_image.Goals as goal

@@ -1,5 +1,4 @@
 -- `answers::coded_preview` meets its contract.
-use borrow.Author.Rules.{rules}
 use Rattle.nicoisetarn.proofs.answers.coded_preview.Goals as goal
 
 pub returns : goal.returns

@@ -1,5 +1,4 @@
 -- `answers::packed` meets its contract.
-use borrow.Author.Rules.{rules}
 use native.Mathlib.Omega.{arith}
 use Rattle.lists.specs.Bytes.{value_at}
 use Rattle.nicoisetarn.proofs.answers.packed.Goals as goal

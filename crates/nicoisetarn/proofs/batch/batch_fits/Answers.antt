@@ -1,5 +1,4 @@
 -- `batch::batch_fits` meets its contract.
-use borrow.Author.Rules.{rules}
 use borrow.Author.Tests.{eq-eqb, ne_eqb}
 use Rattle.nicoisetarn.proofs.batch.batch_fits.Goals as goal
 

@@ -1,5 +1,4 @@
 -- `batch::listed_call` meets its contract: the two numbers that no call has, then the call of the others.
-use borrow.Author.Rules.{rules}
 use Rattle.nicoisetarn.proofs.Batches.{listed-fifth, listed-sixth, listed-known}
 use Rattle.nicoisetarn.proofs.batch.listed_call.Goals as goal
 

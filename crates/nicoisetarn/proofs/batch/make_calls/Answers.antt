@@ -1,6 +1,5 @@
 -- `batch::make_calls` meets its contract: after i calls the state is well formed, and the first i answers are there.
-use borrow.Author.Rules.{rules}
-use Prim.Native.Nat.{ℕ, ◌+◌, ◌*◌, ◌≤◌, ◌-◌}
+use Prim.Native.Nat.{ℕ, ◌+◌, ◌*◌, ◌≤◌}
 use mathlib.Core.Path.{◌≡◌, refl, sym, ap, subst, ◌∙◌}
 use native.Mathlib.Omega.{arith}
 use lib.ListN.{length}
@@ -41,15 +40,15 @@ loop-i-preserved c =
     let room : 6 * (c.loop-i.i + 1) ≤ length c.loop-i.answers = omega (arith, c.requires.1, c.loop-i.invariant.1, c.loop-i-test.true) in
     let going : Going c.args.n c.args.calls.now from (c.loop-i.i + 1) c.match-numbered.at c.match-numbered.cache c.match-numbered.memory c.match-numbered.answers =
     elim c.match-numbered.branch [
-    in-Known w ↦
-        going-same c.args.n c.args.calls.now from w.answers-is w.cache-is w.memory-is w.at-is
-        (going-call c.args.n c.args.calls.now from c.loop-i.i c.loop-i.at c.loop-i.cache c.loop-i.memory c.loop-i.answers c.loop-i-test.true room c.loop-i.invariant.4
-        _ w.step_formed-r.result _ _ _ _ (sym (ap numbered_of w.in-Known.is) ∙ c.listed_call-numbered.ensures) w.step_formed-r.ensures
-        w.answer_image-a.ensures w.put_answer.ensures)
-    | in-Unknown w ↦
-        going-same c.args.n c.args.calls.now from w.answers-is w.cache-is w.memory-is w.at-is
-        (going-none c.args.n c.args.calls.now from c.loop-i.i c.loop-i.at c.loop-i.cache c.loop-i.memory c.loop-i.answers c.loop-i-test.true room c.loop-i.invariant.4
-        _ _ (sym (ap numbered_of w.in-Unknown.is) ∙ c.listed_call-numbered.ensures) w.coded-a.ensures w.put_answer-in-Unknown.ensures)
+      | in-Known w ↦
+          going-same c.args.n c.args.calls.now from w.answers-is w.cache-is w.memory-is w.at-is
+          (going-call c.args.n c.args.calls.now from c.loop-i.i c.loop-i.at c.loop-i.cache c.loop-i.memory c.loop-i.answers c.loop-i-test.true room c.loop-i.invariant.4
+          _ w.step_formed-r.result _ _ _ _ (sym (ap numbered_of w.in-Known.is) ∙ c.listed_call-numbered.ensures) w.step_formed-r.ensures
+          w.answer_image-a.ensures w.put_answer.ensures)
+      | in-Unknown w ↦
+          going-same c.args.n c.args.calls.now from w.answers-is w.cache-is w.memory-is w.at-is
+          (going-none c.args.n c.args.calls.now from c.loop-i.i c.loop-i.at c.loop-i.cache c.loop-i.memory c.loop-i.answers c.loop-i-test.true room c.loop-i.invariant.4
+          _ _ (sym (ap numbered_of w.in-Unknown.is) ∙ c.listed_call-numbered.ensures) w.coded-a.ensures w.put_answer-in-Unknown.ensures)
     ] in (
       omega (arith, c.loop-i-test.true),
       c.match-numbered.auto.answers ∙ c.loop-i.invariant.1,

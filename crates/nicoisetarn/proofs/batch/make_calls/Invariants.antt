@@ -1,14 +1,9 @@
 -- `batch::make_calls` meets its contract: after i calls the state is well formed, and the first i answers are there.
-use borrow.Author.Rules.{rules}
-use Prim.Native.Nat.{ℕ, ◌+◌, ◌*◌, ◌≤◌, ◌-◌}
-use mathlib.Core.Logic.{⊎_elim}
-use mathlib.Core.Path.{◌≡◌, refl, sym, ap, subst, ◌∙◌}
-use native.Mathlib.Omega.{arith}
+use Prim.Native.Nat.{◌≤◌, ◌-◌}
+use mathlib.Core.Path.{◌≡◌}
 use lib.ListN.{length}
 use Rattle.model.specs.State.{world_of}
-use Rattle.nicoisetarn.specs.Answers.{numbered_of}
-use Rattle.nicoisetarn.proofs.ShownPart.{step_small}
-use Rattle.nicoisetarn.proofs.Batches.{Made, made_none, made_all, Going, going-same, going-call, going-none}
+use Rattle.nicoisetarn.proofs.Batches.{Going}
 use Rattle.nicoisetarn.proofs.batch.make_calls.Given as goal
 
 abbrev pub invariant-loop-i : goal.invariant-loop-i

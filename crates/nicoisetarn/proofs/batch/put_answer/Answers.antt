@@ -1,5 +1,4 @@
 -- `batch::put_answer` meets its contract: six stores, one behind the other.
-use borrow.Author.Rules.{rules}
 use native.Mathlib.Omega.{arith}
 use Rattle.nicoisetarn.proofs.Batches.{put_six}
 use lib.ListN.{length-set}

@@ -1,10 +1,8 @@
 -- `batch::refuse_calls` meets its contract: after i calls the first i answers are there.
-use borrow.Author.Rules.{rules}
-use Prim.Native.Nat.{ℕ, ◌+◌, ◌*◌, ◌≤◌, ◌-◌}
-use mathlib.Core.Path.{◌≡◌, refl, subst, ◌∙◌}
-use native.Mathlib.Omega.{arith}
+use Prim.Native.Nat.{◌≤◌, ◌-◌}
+use mathlib.Core.Path.{◌≡◌}
 use lib.ListN.{length}
-use Rattle.nicoisetarn.proofs.Batches.{Refused, refused_none, refused-more, refused_all}
+use Rattle.nicoisetarn.proofs.Batches.{Refused}
 use Rattle.nicoisetarn.proofs.batch.refuse_calls.Given as goal
 
 abbrev pub invariant-loop-i : goal.invariant-loop-i

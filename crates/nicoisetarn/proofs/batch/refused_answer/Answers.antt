@@ -1,5 +1,4 @@
 -- `batch::refused_answer` meets its contract.
-use borrow.Author.Rules.{rules}
 use Rattle.nicoisetarn.proofs.batch.refused_answer.Goals as goal
 
 pub returns-in-Known : goal.returns-in-Known

@@ -1,5 +1,4 @@
 -- `batch::run_fitting` meets its contract: the image stands for a well-formed state, or is refused.
-use borrow.Author.Rules.{rules}
 use mathlib.Core.Path.{◌≡◌, refl, sym, ◌∙◌}
 use mathlib.Core.Bool.{false}
 use Rattle.images.proofs.Standing.{used-stands, used-opened}
@@ -33,9 +32,9 @@ returns c =
     let memory = c.args.memory.now in
     let bad : formed_image c.args.image cache memory ≡ false =
     elim c.if-stands.branch [
-    then-stands+else-is_formed w ↦
-        unformed c.args.image cache memory w.opened-state.result (w.opened-state.ensures ∙ used-opened _ _ c.used_records-used.ensures)
-        (sym w.is_formed.ensures ∙ w.if-is_formed.false)
-    | else-stands w ↦ no-state-unformed c.args.image cache memory (stands-is ∙ w.if-stands.false)
+      | then-stands+else-is_formed w ↦
+          unformed c.args.image cache memory w.opened-state.result (w.opened-state.ensures ∙ used-opened _ _ c.used_records-used.ensures)
+          (sym w.is_formed.ensures ∙ w.if-is_formed.false)
+      | else-stands w ↦ no-state-unformed c.args.image cache memory (stands-is ∙ w.if-stands.false)
     ] in
     batch-refused calls answers c.args.image cache memory c.requires bad _ c.image_refusal-k.ensures _ c.refuse_calls.ensures _ c.coded-2.ensures refl

@@ -1,5 +1,4 @@
 -- `batch::run_image` meets its contract: the lengths fit, or nothing is made.
-use borrow.Author.Rules.{rules}
 use mathlib.Core.Path.{refl, ◌∙◌}
 use Rattle.nicoisetarn.proofs.BatchRuns.{fits_told, batch-unfit}
 use Rattle.nicoisetarn.proofs.batch.run_image.Goals as goal

@@ -1,5 +1,4 @@
 -- `steps::image_refusal` meets its contract: 10 where figures and lengths fit, else 1.
-use borrow.Author.Rules.{rules}
 use Prim.Native.Nat.{ℕ}
 use mathlib.Core.Path.{◌≡◌, sym, ◌∙◌}
 use mathlib.Core.Bool.{Bool, true, false}

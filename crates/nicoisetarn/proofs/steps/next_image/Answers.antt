@@ -1,5 +1,4 @@
 -- `steps::next_image` meets its contract: records that may change have new images, others keep theirs.
-use borrow.Author.Rules.{rules}
 use mathlib.Core.Path.{sym, ◌∙◌}
 use Rattle.nicoisetarn.proofs.steps.next_image.Goals as goal
 

@@ -1,5 +1,4 @@
 -- `steps::refused_with` meets its contract: show line, or one of the calls that name their refusal.
-use borrow.Author.Rules.{rules}
 use Prim.Native.Nat.{ℕ}
 use mathlib.Core.Path.{◌≡◌, refl, ◌∙◌}
 use Rattle.rules.specs.Runs.{refusal}

@@ -1,5 +1,4 @@
 -- `steps::show_image` meets its contract: the image stands for a state, which is looked at, or for none.
-use borrow.Author.Rules.{rules}
 use mathlib.Core.Path.{sym, ◌∙◌}
 use Rattle.images.proofs.Standing.{used-stands, used-opened}
 use Rattle.nicoisetarn.proofs.ShownPart.{step_small}

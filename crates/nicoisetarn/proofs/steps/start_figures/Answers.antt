@@ -1,5 +1,4 @@
 -- `steps::start_figures` meets its contract: ready, or refused.
-use borrow.Author.Rules.{rules}
 use mathlib.Core.Path.{refl}
 use Rattle.nicoisetarn.proofs.Outcomes.{start-ready, start-refused}
 use Rattle.nicoisetarn.proofs.steps.start_figures.Goals as goal

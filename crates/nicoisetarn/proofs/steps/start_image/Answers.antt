@@ -1,5 +1,4 @@
 -- `steps::start_image` meets its contract: there is such a profile, or not.
-use borrow.Author.Rules.{rules}
 use mathlib.Core.Path.{refl}
 use Rattle.nicoisetarn.proofs.Outcomes.{start-known, start-unknown}
 use Rattle.nicoisetarn.proofs.steps.start_image.Goals as goal

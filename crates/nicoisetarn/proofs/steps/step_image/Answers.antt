@@ -1,5 +1,4 @@
 -- `steps::step_image` meets its contract: the image stands for a state, or for none, or the number for no call.
-use borrow.Author.Rules.{rules}
 use mathlib.Core.Path.{refl, sym, ◌∙◌}
 use Rattle.images.proofs.Standing.{used-stands}
 use Rattle.nicoisetarn.proofs.Outcomes.{image-refused, known-stepped, unknown-stepped}

@@ -1,5 +1,4 @@
 -- `steps::step_state` meets its contract: a step of the state that the image stands for.
-use borrow.Author.Rules.{rules}
 use mathlib.Core.Path.{◌∙◌}
 use Rattle.images.proofs.Standing.{used-opened}
 use Rattle.nicoisetarn.proofs.ShownPart.{step_small}

@@ -1,5 +1,4 @@
 -- `new` meets its contract.
-use borrow.Author.Rules.{rules}
 use mathlib.Core.Path.{refl}
 use Rattle.script_play.proofs.Player.new.Goals as goal
 

@@ -1,14 +1,8 @@
 -- `hold` meets its contract.
-use Rattle.script_text.proofs.Writing.{word_more}
-use lib.Seq.{sets, get_or-drop}
-use lib.ListN.{length, take, drop, set, get_or, length-drop}
-use mathlib.Core.List.{List}
-use Prim.Native.Nat.{ℕ, ◌+◌, ◌-◌, ◌≤◌, ◌<◌}
-use Rattle.script.specs.Commands.{held_bytes}
-use mathlib.Core.Path.{◌≡◌, refl, ◌∙◌, ap}
-use native.Mathlib.Omega.{arith}
-use Rattle.script_play.proofs.InputPlays.{room-bounds, held_all}
-use borrow.Author.Rules.{rules}
+use lib.Seq.{sets}
+use lib.ListN.{take, drop}
+use Prim.Native.Nat.{◌-◌, ◌≤◌}
+use mathlib.Core.Path.{◌≡◌}
 use Rattle.script_play.proofs.input.hold.Given as goal
 
 abbrev pub invariant-loop-i : goal.invariant-loop-i

@@ -3,7 +3,6 @@ use lib.ListN.{length}
 use mathlib.Core.Path.{refl, sym, ◌∙◌}
 use Rattle.script_play.specs.declared.Player.{Player}
 use Rattle.script_play.proofs.InputPlays.{last-piece}
-use borrow.Author.Rules.{rules}
 use Rattle.script_play.proofs.input.play_lines.Goals as goal
 
 pub run_lines-r-requires : goal.run_lines-r-requires

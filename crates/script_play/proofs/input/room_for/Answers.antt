@@ -1,6 +1,5 @@
 -- `room_for` meets its contract.
 use Rattle.lists.proofs.Loops.{tests}
-use borrow.Author.Rules.{rules}
 use Rattle.script_play.proofs.input.room_for.Goals as goal
 
 pub returns-then-held-n : goal.returns-then-held-n

@@ -1,18 +1,17 @@
 -- `run_lines` meets its contract.
 use Rattle.model.proofs.Facts.{length-of}
 use lib.Seq.{length-take-le}
-use lib.ListN.{length, take, drop}
-use Prim.Native.Nat.{◌+◌, ◌*◌, ◌-◌, ◌≤◌}
-use Rattle.lists.specs.Padded.{position}
+use lib.ListN.{length}
+use Prim.Native.Nat.{◌+◌, ◌≤◌}
 use Rattle.script.specs.Commands.{held_bytes}
 use Rattle.script_text.specs.Reader.{asked_of}
 use Rattle.script_text.specs.Written.{line_room}
 use mathlib.Core.Path.{◌≡◌, refl, sym, ◌∙◌, ap}
 use native.Mathlib.Omega.{arith}
-use Rattle.script_play.specs.Player.{largest_cache, largest_memory, run_at, player_at, is_feed, PlaysCommand, Plays}
+use Rattle.script_play.specs.Player.{largest_cache, largest_memory, run_at, PlaysCommand}
 use Rattle.script_play.specs.declared.Player.{Player}
 use Rattle.script.specs.Play.{malformed_line}
-use Rattle.script_play.proofs.LinePlays.{front_length, front-formed, made, line-met, answered, stays, malformed, not-begun}
+use Rattle.script_play.proofs.LinePlays.{front-formed, made, line-met, answered, stays, malformed, not-begun}
 use Rattle.script_play.proofs.RunKept.{plays-kept}
 use Rattle.script_play.proofs.InputPlays.{plays-none, plays-on, end-bounds, line-played}
 use borrow.Author.Rules.{rules}
@@ -103,28 +102,28 @@ loop-end-preserved c =
     let asked = asked_of c.line_command-command.result in
     let plays : PlaysCommand asked before after =
     elim c.match-command.branch [
-    in-Malformed w ↦
-        line-met before refl w.cache-is w.memory-is w.out-is w.started-is w.state-is w.at-is
-        (stays asked c.loop-end.started c.loop-end.state c.loop-end.cache c.loop-end.memory c.loop-end.out c.loop-end.at cfit mfit malformed_line
-        (malformed asked c.loop-end.started c.loop-end.state c.loop-end.cache c.loop-end.memory c.loop-end.out c.loop-end.at cfit mfit (ap asked_of w.in-Malformed.is)) w.refuse_line-at.ensures)
-    | in-Start w ↦
-        line-met before (ap asked_of w.in-Start.is) w.cache-is w.memory-is w.out-is w.started-is w.state-is w.at-is w.play_start-r.ensures
-    | in-Make+then-started+then-formed w ↦
-        let cused : w.cache_used-c.result ≤ length c.loop-end.cache = omega (arith, w.cache_used-c.ensures.1, cfit) in
-        let mused : w.memory_used-m.result ≤ length c.loop-end.memory = omega (arith, w.memory_used-m.ensures.1, mfit) in
-        let clen = w.step_formed-r.auto.cache ∙ length-take-le w.cache_used-c.result c.loop-end.cache cused in
-        let mlen = w.step_formed-r.auto.memory ∙ length-take-le w.memory_used-m.result c.loop-end.memory mused in
-        line-met before (ap asked_of w.in-Make.is) w.cache-is w.memory-is w.out-is w.started-is w.state-is w.at-is
-        (answered _ c.loop-end.started w.if-started.true
-        (made c.loop-end.state w.in-Make.call c.loop-end.cache c.loop-end.memory w.cache_used-c.result w.memory_used-m.result w.step_formed-r.result _ _
-        w.cache_used-c.ensures.0 w.memory_used-m.ensures.0 w.step_formed-r.ensures clen mlen cused mused) room w.write_answer-at.ensures)
-    | in-Make+then-started+else-formed w ↦
-        line-met before (ap asked_of w.in-Make.is) w.cache-is w.memory-is w.out-is w.started-is w.state-is w.at-is
-        (answered _ c.loop-end.started w.if-started.true w.make_call-r.ensures room w.write_answer-at-else-formed.ensures)
-    | in-Make+else-started w ↦
-        line-met before refl w.cache-is w.memory-is w.out-is w.started-is w.state-is w.at-is
-        (stays asked c.loop-end.started c.loop-end.state c.loop-end.cache c.loop-end.memory c.loop-end.out c.loop-end.at cfit mfit malformed_line
-        (not-begun asked c.loop-end.started c.loop-end.state c.loop-end.cache c.loop-end.memory c.loop-end.out c.loop-end.at cfit mfit _ (ap asked_of w.in-Make.is) w.if-started.false) w.refuse_line-at-else-started.ensures)
+      | in-Malformed w ↦
+          line-met before refl w.cache-is w.memory-is w.out-is w.started-is w.state-is w.at-is
+          (stays asked c.loop-end.started c.loop-end.state c.loop-end.cache c.loop-end.memory c.loop-end.out c.loop-end.at cfit mfit malformed_line
+          (malformed asked c.loop-end.started c.loop-end.state c.loop-end.cache c.loop-end.memory c.loop-end.out c.loop-end.at cfit mfit (ap asked_of w.in-Malformed.is)) w.refuse_line-at.ensures)
+      | in-Start w ↦
+          line-met before (ap asked_of w.in-Start.is) w.cache-is w.memory-is w.out-is w.started-is w.state-is w.at-is w.play_start-r.ensures
+      | in-Make+then-started+then-formed w ↦
+          let cused : w.cache_used-c.result ≤ length c.loop-end.cache = omega (arith, w.cache_used-c.ensures.1, cfit) in
+          let mused : w.memory_used-m.result ≤ length c.loop-end.memory = omega (arith, w.memory_used-m.ensures.1, mfit) in
+          let clen = w.step_formed-r.auto.cache ∙ length-take-le w.cache_used-c.result c.loop-end.cache cused in
+          let mlen = w.step_formed-r.auto.memory ∙ length-take-le w.memory_used-m.result c.loop-end.memory mused in
+          line-met before (ap asked_of w.in-Make.is) w.cache-is w.memory-is w.out-is w.started-is w.state-is w.at-is
+          (answered _ c.loop-end.started w.if-started.true
+          (made c.loop-end.state w.in-Make.call c.loop-end.cache c.loop-end.memory w.cache_used-c.result w.memory_used-m.result w.step_formed-r.result _ _
+          w.cache_used-c.ensures.0 w.memory_used-m.ensures.0 w.step_formed-r.ensures clen mlen cused mused) room w.write_answer-at.ensures)
+      | in-Make+then-started+else-formed w ↦
+          line-met before (ap asked_of w.in-Make.is) w.cache-is w.memory-is w.out-is w.started-is w.state-is w.at-is
+          (answered _ c.loop-end.started w.if-started.true w.make_call-r.ensures room w.write_answer-at-else-formed.ensures)
+      | in-Make+else-started w ↦
+          line-met before refl w.cache-is w.memory-is w.out-is w.started-is w.state-is w.at-is
+          (stays asked c.loop-end.started c.loop-end.state c.loop-end.cache c.loop-end.memory c.loop-end.out c.loop-end.at cfit mfit malformed_line
+          (not-begun asked c.loop-end.started c.loop-end.state c.loop-end.cache c.loop-end.memory c.loop-end.out c.loop-end.at cfit mfit _ (ap asked_of w.in-Make.is) w.if-started.false) w.refuse_line-at-else-started.ensures)
     ] in
     let played = line-played input c.loop-end.i c.loop-end.end inv.3 inv.0 old c.loop-end.cache c.loop-end.memory c.loop-end.out c.loop-end.at
     c.match-command.started c.match-command.state c.match-command.cache c.match-command.memory c.match-command.out c.match-command.at asked c.loop-end-test.true c.line_command-command.ensures plays in (

@@ -1,22 +1,11 @@
 -- `run_lines` meets its contract.
-use Rattle.model.proofs.Facts.{length-of}
-use lib.Seq.{length-take-le}
 use lib.ListN.{length, take, drop}
 use Prim.Native.Nat.{◌+◌, ◌*◌, ◌-◌, ◌≤◌}
 use Rattle.lists.specs.Padded.{position}
 use Rattle.script.specs.Commands.{held_bytes}
-use Rattle.script_text.specs.Reader.{asked_of}
 use Rattle.script_text.specs.Written.{line_room}
-use mathlib.Core.Logic.{⊎_elim}
-use mathlib.Core.Path.{◌≡◌, refl, sym, ◌∙◌, ap}
-use native.Mathlib.Omega.{arith}
-use Rattle.script_play.specs.Player.{largest_cache, largest_memory, run_at, player_at, is_feed, PlaysCommand, Plays}
-use Rattle.script_play.specs.declared.Player.{Player}
-use Rattle.script.specs.Play.{malformed_line}
-use Rattle.script_play.proofs.LinePlays.{front_length, front-formed, made, line-met, answered, stays, malformed, not-begun}
-use Rattle.script_play.proofs.RunKept.{plays-kept}
-use Rattle.script_play.proofs.InputPlays.{plays-none, plays-on, end-bounds, line-played}
-use borrow.Author.Rules.{rules}
+use mathlib.Core.Path.{◌≡◌}
+use Rattle.script_play.specs.Player.{player_at, is_feed, Plays}
 use Rattle.script_play.proofs.input.run_lines.Given as goal
 
 abbrev pub invariant-loop-end : goal.invariant-loop-end

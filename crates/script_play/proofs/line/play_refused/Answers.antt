@@ -1,6 +1,5 @@
 -- `play_refused` meets its contract.
 use mathlib.Core.Path.{refl}
-use borrow.Author.Rules.{rules}
 use Rattle.script_play.proofs.line.play_refused.Goals as goal
 
 pub returns : goal.returns

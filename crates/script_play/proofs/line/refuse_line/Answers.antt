@@ -1,7 +1,6 @@
 -- `refuse_line` meets its contract.
 use native.Mathlib.Omega.{arith}
 use Rattle.script_play.proofs.LinePlays.{refused-wrote}
-use borrow.Author.Rules.{rules}
 use Rattle.script_play.proofs.line.refuse_line.Goals as goal
 
 pub returns : goal.returns

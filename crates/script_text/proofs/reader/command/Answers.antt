@@ -3,7 +3,6 @@ use Rattle.script_text.specs.Reader.{named_by, space_read}
 use native.Mathlib.Omega.{arith}
 use mathlib.Core.Path.{◌∙◌, ap}
 use Rattle.script_text.proofs.Scanning.{line-long, line-empty, line-one, line-joined, line-spaced}
-use borrow.Author.Rules.{rules}
 use Rattle.script_text.proofs.reader.command.Goals as goal
 
 pub returns-then-line-gt-LONGEST_LINE : goal.returns-then-line-gt-LONGEST_LINE

@@ -1,7 +1,6 @@
 -- `named` meets its contract.
 use mathlib.Core.Path.{◌∙◌}
 use Rattle.script_text.proofs.Scanning.{named-one, named-two, named-three, named_other, named-bad}
-use borrow.Author.Rules.{rules}
 use Rattle.script_text.proofs.reader.named.Goals as goal
 
 pub returns-then-s-eq1 : goal.returns-then-s-eq1

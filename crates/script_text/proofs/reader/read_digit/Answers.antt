@@ -2,7 +2,6 @@
 use native.Mathlib.Omega.{arith}
 use mathlib.Core.Path.{refl, ◌∙◌}
 use Rattle.script_text.proofs.Scanning.{digit-fits, digit-over}
-use borrow.Author.Rules.{rules}
 use Rattle.script_text.proofs.reader.read_digit.Goals as goal
 
 pub returns-then-v : goal.returns-then-v

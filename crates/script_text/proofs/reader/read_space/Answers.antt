@@ -2,7 +2,6 @@
 use native.Mathlib.Omega.{arith}
 use mathlib.Core.Path.{◌∙◌}
 use Rattle.script_text.proofs.Scanning.{space-ends, space-first, space-many}
-use borrow.Author.Rules.{rules}
 use Rattle.script_text.proofs.reader.read_space.Goals as goal
 
 pub returns-then-s-ge-MOST_NUMBERS : goal.returns-then-s-ge-MOST_NUMBERS

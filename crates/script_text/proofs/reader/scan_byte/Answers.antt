@@ -2,7 +2,6 @@
 use native.Mathlib.Omega.{arith}
 use mathlib.Core.Path.{◌∙◌}
 use Rattle.script_text.proofs.Scanning.{byte-space, byte-digit, byte_above, byte-below}
-use borrow.Author.Rules.{rules}
 use Rattle.script_text.proofs.reader.scan_byte.Goals as goal
 
 pub returns-then-b-eq-SPACE : goal.returns-then-b-eq-SPACE

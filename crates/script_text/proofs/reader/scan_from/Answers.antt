@@ -1,11 +1,8 @@
 -- `scan_from` meets its contract.
-use Prim.Native.Nat.{◌-◌}
 use Rattle.script_text.specs.Reader.{scanned}
-use lib.ListN.{length, drop}
-use Prim.Native.Nat.{◌-◌}
-use mathlib.Core.Path.{◌≡◌, refl, sym, ◌∙◌, ap}
+use lib.ListN.{drop}
+use mathlib.Core.Path.{refl, sym, ◌∙◌, ap}
 use Rattle.script_text.proofs.Scanning.{scanned-next, scanned-end}
-use borrow.Author.Rules.{rules}
 use Rattle.script_text.proofs.reader.scan_from.Goals as goal
 
 pub loop-i-init : goal.loop-i-init

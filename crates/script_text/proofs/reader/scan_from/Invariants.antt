@@ -3,9 +3,7 @@ use Prim.Native.Nat.{◌-◌}
 use Rattle.script_text.specs.Reader.{scanned}
 use lib.ListN.{length, drop}
 use Prim.Native.Nat.{◌-◌}
-use mathlib.Core.Path.{◌≡◌, refl, sym, ◌∙◌, ap}
-use Rattle.script_text.proofs.Scanning.{scanned-next, scanned-end}
-use borrow.Author.Rules.{rules}
+use mathlib.Core.Path.{◌≡◌}
 use Rattle.script_text.proofs.reader.scan_from.Given as goal
 
 abbrev pub invariant-loop-i : goal.invariant-loop-i

@@ -1,5 +1,4 @@
 -- `put_number` meets its contract: all digits but the last are written first.
-use borrow.Author.Rules.{rules}
 use mathlib.Core.Path.{ap}
 use native.Mathlib.Omega.{arith}
 use lib.ListN.{length}

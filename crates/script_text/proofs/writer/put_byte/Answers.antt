@@ -1,6 +1,5 @@
 -- `put_byte` meets its contract.
 use mathlib.Core.Path.{refl}
-use borrow.Author.Rules.{rules}
 use Rattle.script_text.proofs.writer.put_byte.Goals as goal
 
 pub returns : goal.returns

@@ -1,7 +1,6 @@
 -- `put_spaced` meets its contract.
 use native.Mathlib.Omega.{arith}
 use Rattle.script_text.proofs.Writing.{printed-short, wrote_then}
-use borrow.Author.Rules.{rules}
 use Rattle.script_text.proofs.writer.put_spaced.Goals as goal
 
 pub put_number-requires : goal.put_number-requires

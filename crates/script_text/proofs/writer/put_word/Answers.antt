@@ -1,11 +1,11 @@
 -- `put_word` meets its contract.
 use lib.Seq.{sets, take_all}
 use native.Mathlib.Omega.{arith}
-use lib.ListN.{length, take, set, get_or, length-set}
-use lib.ListN.{length, take, set, get_or}
+use lib.ListN.{set, get_or, length-set}
+use lib.ListN.{set, get_or}
 use mathlib.Core.List.{List}
-use Prim.Native.Nat.{ℕ, ◌+◌, ◌-◌, ◌≤◌}
-use mathlib.Core.Path.{◌≡◌, refl, ◌∙◌, ap}
+use Prim.Native.Nat.{ℕ, ◌+◌}
+use mathlib.Core.Path.{refl, ◌∙◌, ap}
 use Rattle.script_text.proofs.Writing.{word_more}
 use borrow.Author.Rules.{rules}
 use Rattle.script_text.proofs.writer.put_word.Goals as goal

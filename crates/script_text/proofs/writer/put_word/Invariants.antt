@@ -1,13 +1,9 @@
 -- `put_word` meets its contract.
-use lib.Seq.{sets, take_all}
-use native.Mathlib.Omega.{arith}
-use lib.ListN.{length, take, set, get_or, length-set}
-use lib.ListN.{length, take, set, get_or}
-use mathlib.Core.List.{List}
-use Prim.Native.Nat.{ℕ, ◌+◌, ◌-◌, ◌≤◌}
-use mathlib.Core.Path.{◌≡◌, refl, ◌∙◌, ap}
-use Rattle.script_text.proofs.Writing.{word_more}
-use borrow.Author.Rules.{rules}
+use lib.Seq.{sets}
+use lib.ListN.{length, take}
+use lib.ListN.{length, take}
+use Prim.Native.Nat.{◌-◌, ◌≤◌}
+use mathlib.Core.Path.{◌≡◌}
 use Rattle.script_text.proofs.writer.put_word.Given as goal
 
 abbrev pub invariant-loop-i : goal.invariant-loop-i

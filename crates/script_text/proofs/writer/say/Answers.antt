@@ -1,5 +1,4 @@
 -- `say` meets its contract.
-use borrow.Author.Rules.{rules}
 use Rattle.script.specs.Words.{answer_line}
 use Rattle.script_text.proofs.Writing.{wrote_none}
 use Rattle.script_text.proofs.writer.say.Goals as goal

@@ -1,7 +1,6 @@
 -- `say_none` meets its contract.
 use Rattle.script.specs.Words.{said}
 use Rattle.script_text.proofs.Writing.{wrote_then}
-use borrow.Author.Rules.{rules}
 use Rattle.script_text.proofs.writer.say_none.Goals as goal
 
 pub returns : goal.returns

@@ -2,7 +2,6 @@
 use Rattle.script.specs.Words.{said}
 use native.Mathlib.Omega.{arith}
 use Rattle.script_text.proofs.Writing.{printed-short, wrote_then}
-use borrow.Author.Rules.{rules}
 use Rattle.script_text.proofs.writer.say_value.Goals as goal
 
 pub put_spaced-end-requires : goal.put_spaced-end-requires

@@ -1,7 +1,6 @@
 -- `write_answer` meets its contract.
 use native.Mathlib.Omega.{arith}
 use Rattle.script_text.proofs.Writing.{no_room, with-room}
-use borrow.Author.Rules.{rules}
 use Rattle.script_text.proofs.writer.write_answer.Goals as goal
 
 pub returns-then-out-lt-LINE_ROOM : goal.returns-then-out-lt-LINE_ROOM
