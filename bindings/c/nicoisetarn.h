@@ -1,7 +1,7 @@
 /*
  * The load/store unit for benches in C and C++: a data cache, a store queue, a load queue, one miss register and
  * a main memory that the bench lends. C11 or C++11, x86-64 (System V). Link with libnicoisetarn.a, which
- * `rt staticlib nicoisetarn` writes.
+ * `bindings/library` writes.
  *
  *     static nicoisetarn_image image;
  *     static uint8_t cache[16], memory[32];

@@ -1,5 +1,5 @@
 //! Links the static library of the proved model: out of the folder that the
-//! environment names, else where `rt staticlib nicoisetarn` writes it.
+//! environment names, else where `bindings/library` writes it.
 
 use std::env;
 use std::path::{Path, PathBuf};
@@ -25,7 +25,7 @@ fn main() {
     println!("cargo:rerun-if-changed={}", library.display());
     if !library.is_file() {
         let wanted =
-            format!("make it with `rt staticlib nicoisetarn`, or name its folder in {VARIABLE}");
+            format!("make it with `bindings/library`, or name its folder in {VARIABLE}");
         panic!("{} is not there: {wanted}", library.display());
     }
     println!("cargo:rustc-link-search=native={}", folder.display());

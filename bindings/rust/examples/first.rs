@@ -1,7 +1,7 @@
 //! A first bench: the scope paper's worked script, call by call, and then a load
 //! that is refused.
 //!
-//! `cargo run --example first`, where `rt staticlib nicoisetarn` has made the library.
+//! `cargo run --example first`, where `bindings/library` has made the library.
 
 use nicoisetarn::{Answer, Figures, Refusal, Unit};
 

@@ -4,7 +4,7 @@
 //! A [`Unit`] owns all that it works on, and has a method for each call. A call
 //! that is refused says why and has changed nothing, byte for byte.
 //!
-//! Needs libnicoisetarn.a: `rt staticlib nicoisetarn`, or its folder in
+//! Needs libnicoisetarn.a: `bindings/library`, or its folder in
 //! `NICOISETARN_LIB_DIR`.
 //!
 //! ```
