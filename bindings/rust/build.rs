@@ -24,8 +24,7 @@ fn main() {
     println!("cargo:rerun-if-env-changed={VARIABLE}");
     println!("cargo:rerun-if-changed={}", library.display());
     if !library.is_file() {
-        let wanted =
-            format!("make it with `bindings/library`, or name its folder in {VARIABLE}");
+        let wanted = format!("make it with `bindings/library`, or name its folder in {VARIABLE}");
         panic!("{} is not there: {wanted}", library.display());
     }
     println!("cargo:rustc-link-search=native={}", folder.display());

@@ -13,7 +13,7 @@ use Rattle.rules.specs.declared.Lookup.{Lookup}
 use Rattle.rules.specs.declared.Lookup.TheVariants.{Hit, Pending, Miss}
 use Rattle.rules.specs.declared.WritePolicy.{WritePolicy}
 use Rattle.rules.specs.declared.WritePolicy.TheVariants.{WriteBack, WriteThrough}
-use Rattle.rules.specs.Shape.{Hierarchy, holding, names, line_bytes, word_bytes, most_ways, line_of, set_of, set_start, slots, first_slot, tag_at, with_age, with_dirty}
+use Rattle.rules.specs.Shape.{Hierarchy, holding, names, line_bytes, word_bytes, most_ways, line_of, set_of, set_start, slots, first_slot, tag_at, with_age, with_dirty, writes_through}
 
 -- ---- where a line stands
 

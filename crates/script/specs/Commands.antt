@@ -6,7 +6,7 @@ use Rattle.lists.specs.Padded.{every}
 use Rattle.rules.specs.Shape.{top_number, geometry}
 use Rattle.rules.specs.Calls.{Call, load, store, retry, commit, abort, idle, reply, flush}
 use Rattle.rules.specs.declared.Figures.{Figures}
-use Rattle.rules.specs.declared.WritePolicy.TheVariants.{WriteBack}
+use Rattle.rules.specs.declared.WritePolicy.TheVariants.{WriteBack, WriteThrough}
 
 -- what a line asks for: a start (its figures and the memory length), or a call
 pub data Command : Type 0 where

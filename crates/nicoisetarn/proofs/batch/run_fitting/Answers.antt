@@ -1,6 +1,7 @@
 -- `batch::run_fitting` meets its contract: the image stands for a well-formed state, or is refused.
 use mathlib.Core.Path.{◌≡◌, refl, sym, ◌∙◌}
-use mathlib.Core.Bool.{false}
+use mathlib.Core.Bool.{true, false}
+use borrow.Author.Rules.{rules}
 use Rattle.images.proofs.Standing.{used-stands, used-opened}
 use Rattle.nicoisetarn.specs.Claims.{formed_image}
 use Rattle.nicoisetarn.proofs.BatchRuns.{fits-tell, batch-made, batch-refused, unformed, no-state-unformed}
@@ -10,7 +11,8 @@ use Rattle.nicoisetarn.proofs.batch.run_fitting.Goals.{then-stands+else-is_forme
 pub make_calls-end-requires : goal.make_calls-end-requires
 make_calls-end-requires c =
     let lengths = fits-tell c.args.calls.now c.args.answers.now c.requires in
-    (lengths.0, lengths.1, sym c.is_formed.ensures ∙ c.if-is_formed.true)
+    let formed : c.is_formed.result ≡ true = search rules in
+    (lengths.0, lengths.1, sym c.is_formed.ensures ∙ formed)
 
 pub returns-then-is_formed : goal.returns-then-is_formed
 returns-then-is_formed c =
