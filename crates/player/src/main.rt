@@ -63,8 +63,7 @@ fn read_and_play(
     })
 }
 
-// Until a read gives nothing. A proved loop ends, and nothing says that the input does: the reads count down from a number that no
-// run uses up.
+// Until a read gives nothing. A proved loop ends, and nothing says that the input does: no run makes so many reads.
 fn run(
     rt: &HostRuntime,
     input: &mut [u8],
