@@ -13,4 +13,6 @@ pub returns-in-4 : goal.returns-in-4
 returns-in-4 c = aligned-to _ _ 4 c.in-4.is refl
 
 pub returns-in_default : goal.returns-in_default
-returns-in_default c = aligned-never _ _ c.in_default.in_default-own.rest.0.0.1 c.in_default.in_default-own.rest.0.1 c.in_default.in_default-own.rest.1
+returns-in_default c =
+    let rest = c.in_default.in_default-own.rest in
+    aligned-never _ _ rest.0.0.1 rest.0.1 rest.1

@@ -28,7 +28,7 @@ loop-k-preserved c =
     let e₂ : w - (k - 1) ≡ suc (w - k) = omega arith in
     let e₃ : c.args.p + (k - 1) ≡ c.args.p + (a + (k - 1) - a) = omega arith in
     let b = rw e₃ at c.byte_at-b.ensures in
-    let small = from-small c.args.i a c.args.stores c.args.cache.now c.args.p c.args.here (λ j. omega (arith, c.shared_slice_known-1.given j)) in
+    let small = from-small c.args.i a c.args.stores c.args.cache.now c.args.p c.args.here (λ j. omega (arith, c.type_inv.cache j)) in
     (omega arith, c.joined-r.ensures ∙ rw (b, byte-from c.args.i a c.args.stores c.args.cache.now c.args.p c.args.here (a + (k - 1)), g.1, e₁, e₂) (joined-gather _ small _ _ (w - k) (a + (k - 1)) (omega arith)))
 
 pub returns : goal.returns

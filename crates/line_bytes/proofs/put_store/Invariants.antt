@@ -8,7 +8,11 @@ use Rattle.lists.proofs.CountedLoops.{change}
 use Rattle.line_bytes.proofs.put_store.Given as goal
 
 abbrev pub invariant-loop-i : goal.invariant-loop-i
-invariant-loop-i l = (l.i ≤ l.n) × (l.width ≤ 4) × (l.at + l.width ≤ length l.initial.bytes) × (length l.bytes ≡ length l.initial.bytes) × (l.rest ≡ l.value / 256 ^ l.i) × (steps_from (change (overlaid l.at l.width l.value) 0) l.at l.width l.initial.bytes ≡ steps_from (change (overlaid l.at l.width l.value) 0) (l.at + l.i) (l.width - l.i) l.bytes)
+invariant-loop-i l =
+    let laid = change (overlaid l.at l.width l.value) 0 in
+    (l.i ≤ l.n) × (l.width ≤ 4) × (l.at + l.width ≤ length l.initial.bytes) × (length l.bytes ≡ length l.initial.bytes)
+    × (l.rest ≡ l.value / 256 ^ l.i)
+    × (steps_from laid l.at l.width l.initial.bytes ≡ steps_from laid (l.at + l.i) (l.width - l.i) l.bytes)
 
 abbrev pub decreases-loop-i : goal.decreases-loop-i
 decreases-loop-i l = l.n - l.i

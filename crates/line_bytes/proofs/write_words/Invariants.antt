@@ -9,7 +9,10 @@ use Rattle.line_bytes.specs.Writes.{marked_line}
 use Rattle.line_bytes.proofs.write_words.Given as goal
 
 abbrev pub invariant-loop-i : goal.invariant-loop-i
-invariant-loop-i l = (l.i ≤ 16) × (length l.memory ≡ length l.initial.memory) × (steps_from (change (written_back_at (marked_line l.marks l.line) l.cache l.v) 0) (16 * l.line) 16 l.initial.memory ≡ steps_from (change (written_back_at (marked_line l.marks l.line) l.cache l.v) 0) (16 * l.line + l.i) (16 - l.i) l.memory)
+invariant-loop-i l =
+    let written = change (written_back_at (marked_line l.marks l.line) l.cache l.v) 0 in
+    (l.i ≤ 16) × (length l.memory ≡ length l.initial.memory)
+    × (steps_from written (16 * l.line) 16 l.initial.memory ≡ steps_from written (16 * l.line + l.i) (16 - l.i) l.memory)
 
 abbrev pub decreases-loop-i : goal.decreases-loop-i
 decreases-loop-i l = 16 - l.i

@@ -54,5 +54,8 @@ returns-in-11 c = rw c.in-11.is
 
 pub returns-in_default : goal.returns-in_default
 returns-in_default c =
+    let rest = c.in_default.in_default-own.rest in
+    let eight = rest.0.0.0.0 in
+    let four = eight.0.0.0.0 in
     sym
-    (none-of-theirs _ _ _ _ c.in_default.in_default-own.rest.0.0.0.0.0.0.0.0.0.0.0.1 c.in_default.in_default-own.rest.0.0.0.0.0.0.0.0.0.0.1 c.in_default.in_default-own.rest.0.0.0.0.0.0.0.0.0.1 c.in_default.in_default-own.rest.0.0.0.0.0.0.0.0.1 c.in_default.in_default-own.rest.0.0.0.0.0.0.0.1 c.in_default.in_default-own.rest.0.0.0.0.0.0.1 c.in_default.in_default-own.rest.0.0.0.0.0.1 c.in_default.in_default-own.rest.0.0.0.0.1 c.in_default.in_default-own.rest.0.0.0.1 c.in_default.in_default-own.rest.0.0.1 c.in_default.in_default-own.rest.0.1 c.in_default.in_default-own.rest.1)
+    (none-of-theirs _ _ _ _ four.0.0.0.1 four.0.0.1 four.0.1 four.1 eight.0.0.0.1 eight.0.0.1 eight.0.1 eight.1 rest.0.0.0.1 rest.0.0.1 rest.0.1 rest.1)

@@ -78,11 +78,6 @@ refuse_line-at-requires-else-started c =
     let bounds = end-bounds c.args.input.now c.loop-end.i c.loop-end.end inv.3 inv.0 in
     omega (arith, c.requires.3, inv.1, inv.6, bounds.0, c.loop-end-test.true)
 
-pub overflow_add-i : goal.overflow_add-i
-overflow_add-i c =
-    let bounds = end-bounds c.args.input.now c.loop-end.i c.loop-end.end c.loop-end.invariant.3 c.loop-end.invariant.0 in
-    record { fits = omega (arith, c.loop-end-test.true, c.well_formed.1.1.0.0) }
-
 pub loop-end-smaller : goal.loop-end-smaller
 loop-end-smaller c =
     let bounds = end-bounds c.args.input.now c.loop-end.i c.loop-end.end c.loop-end.invariant.3 c.loop-end.invariant.0 in
