@@ -1,14 +1,12 @@
--- Well-formed checkpoints, as the code tests them: one mark, test by test; the list from a place on; and that the pass over the list is
--- the clauses of well-formed.
-use Prim.Native.Nat.{ℕ, suc, ◌+◌, ◌-◌, ◌≤◌, ◌<◌}
+-- Well-formed checkpoints, as the code tests them: the list from a place on, and that the pass over the list is the clauses of well-formed.
+use Prim.Native.Nat.{ℕ, suc, ◌+◌, ◌≤◌, ◌<◌}
 use mathlib.Core.Path.{◌≡◌, refl, sym, ap}
 use mathlib.Core.Bool.{Bool, true, false, not, ◌&&◌, ◌||◌}
 use mathlib.Core.List.{List, [], ◌∷◌}
 use native.Mathlib.Numerals.{add-one}
-use native.Mathlib.Omega.{arith}
 use lib.Dec.{ltb, leb, eqb}
 use lib.ListN.{length, get_or, drop}
-use borrow.Author.Tests.{eq-eqb, ne_eqb, lt-ltb, le-ltb, le-leb, lt-leb, not-true, not-false}
+use borrow.Author.Tests.{eq-eqb, ne_eqb, not-true, not-false}
 use Rattle.lists.specs.Padded.{every, climbing, free_last}
 use Rattle.lists.proofs.Cond.{cases, and_left, and_right, and_both, or-one, or-two, or-then}
 use Rattle.lists.proofs.Every.{every-imp, every-imp₂}
@@ -19,36 +17,6 @@ use Rattle.rules.specs.Checkpoints.{in_use, name_allowed}
 use Rattle.rules.specs.WellFormed.{free_checkpoint_zero, placed_at, name_fits, names_distinct, ranks_from, checkpoints_formed}
 use Rattle.rules.proofs.Checkpoints.{checkpoints-tell, checkpoints-are}
 use Rattle.checkpoints.specs.Good.{zero_checkpoint, checkpoint_good, checkpoints_good}
-
--- ---- one mark
-
-module _ (h last m i : ℕ) (c : Checkpoint) where
-  pub mark-falls : c.number < m → false ≡ checkpoint_good h last m i c
-  unfolding checkpoint_good
-  mark-falls t = rw (lt-leb m c.number t)
-
-  module _ (climbs : m ≤ c.number) where
-    pub mark-committed : c.number ≤ h → false ≡ checkpoint_good h last m i c
-    unfolding checkpoint_good
-    mark-committed t = rw (le-leb m c.number climbs, le-ltb h c.number t)
-
-    module _ (over : h < c.number) where
-      pub mark-late : last < c.number - 1 → false ≡ checkpoint_good h last m i c
-      unfolding checkpoint_good
-      mark-late t = rw (le-leb m c.number climbs, lt-ltb h c.number over, lt-leb c.number (last + 1) (omega arith))
-
-      module _ (within : c.number - 1 ≤ last) where
-        -- what is left to ask
-        named-ranked : checkpoint_good h last m i c ≡ (name_allowed c.name && eqb c.rank (suc i))
-        unfolding checkpoint_good
-        named-ranked =
-            rw (le-leb m c.number climbs, lt-ltb h c.number over, le-leb c.number (last + 1) (omega arith))
-
-        pub mark-misnamed : name_allowed c.name ≡ false → false ≡ checkpoint_good h last m i c
-        mark-misnamed t = rw (named-ranked, t)
-
-        pub mark-by-rank : name_allowed c.name ≡ true → eqb c.rank (i + 1) ≡ checkpoint_good h last m i c
-        mark-by-rank t = rw (named-ranked, t, add-one i)
 
 -- ---- the marks from place i on
 

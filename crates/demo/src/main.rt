@@ -1,12 +1,13 @@
-// A run of the model on 2 sets of 2 ways and 256 bytes of memory. Each check writes a line: its name, then `ok` or `wrong`.
+// A run of the model on 2 sets of 2 ways and 256 bytes of memory. Each check writes a line: its name, then `ok` or `wrong`. (The parts look
+// alike, being calls and what they must answer: a table of them would hide how a call is made.)
 #![tactic(auto)]
 
-use model::{Call, StartAnswer, Started, State};
-use rules::{Figures, Tag, WritePolicy};
+use model::{Answer, Call, State};
+use records::Preview;
+use rules::{Figures, WritePolicy};
 use std::io;
 use std::io::Print;
 
-mod answers;
 mod lent_run;
 mod mark_run;
 mod through_run;
@@ -31,26 +32,24 @@ fn report(rt: &impl Print, name: &[u8], ok: bool) -> io::Result<()> {
 
 // Byte i of memory becomes i.
 fn fill(memory: &mut [u8]) {
-    let mut i: usize = 0;
-    while i < memory.len() {
-        memory[i] = (i % 256) as u8;
-        i += 1;
+    for (i, byte) in memory.iter_mut().enumerate() {
+        *byte = (i % 256) as u8;
     }
 }
 
 // A load of an absent line waits; idle requests the line, and then the load says so.
 fn load_part(rt: &impl Print, s: State, cache: &mut [u8], memory: &mut [u8]) -> io::Result<State> {
     let a = s.load(cache, memory, ADDRESS, 1);
-    report(rt, b"load waits", answers::is_waits(a, 1))?;
+    report(rt, b"load waits", a.answer == Answer::Waits(1))?;
     let b = a.next.commit(cache, memory, 1);
-    report(rt, b"commit 1", answers::is_committed(b, 1))?;
+    report(rt, b"commit 1", b.answer == Answer::Committed(1))?;
     let c = b.next.idle(cache, memory);
-    report(rt, b"idle requests", answers::is_requested(c, 48))?;
+    report(rt, b"idle requests", c.answer == Answer::Requested(48))?;
     let d = c.next.retry(cache, memory, 1);
     report(
         rt,
         b"retry finds the line requested",
-        answers::is_waits_requested(d, 1),
+        d.answer == Answer::WaitsRequested(1),
     )?;
     Ok(d.next)
 }
@@ -58,45 +57,45 @@ fn load_part(rt: &impl Print, s: State, cache: &mut [u8], memory: &mut [u8]) -> 
 // A preview tells what the reply will do; the reply fills the line, and a retry gives the value.
 fn fill_part(rt: &impl Print, s: State, cache: &mut [u8], memory: &mut [u8]) -> io::Result<State> {
     let p = s.preview(cache, memory);
-    report(rt, b"way 0 will be filled", answers::is_previewed(p, 0, 0))?;
+    report(
+        rt,
+        b"way 0 will be filled",
+        matches!(
+            p.answer,
+            Answer::Previewed(Preview {
+                way: 0,
+                words: 0,
+                ..
+            })
+        ),
+    )?;
     let a = p.next.reply(cache, memory);
-    report(rt, b"reply fills", answers::is_filled(a, 48))?;
+    report(rt, b"reply fills", a.answer == Answer::Filled(48))?;
     let b = a.next.retry(cache, memory, 1);
-    report(rt, b"retry gives the value", answers::is_value(b, 1, 50))?;
+    report(
+        rt,
+        b"retry gives the value",
+        b.answer == Answer::Value(1, 50),
+    )?;
     Ok(b.next)
 }
 
 // A store is committed and drains into the cache.
 fn store_part(rt: &impl Print, s: State, cache: &mut [u8], memory: &mut [u8]) -> io::Result<State> {
     let a = s.store(cache, memory, ADDRESS, 1, 200);
-    report(rt, b"store", answers::is_stored(a, 2))?;
+    report(rt, b"store", a.answer == Answer::Stored(2))?;
     let b = a.next.commit(cache, memory, 2);
-    report(rt, b"commit 2", answers::is_committed(b, 2))?;
+    report(rt, b"commit 2", b.answer == Answer::Committed(2))?;
     let c = b.next.idle(cache, memory);
-    report(rt, b"idle drains", answers::is_drained(c, 2))?;
+    report(rt, b"idle drains", c.answer == Answer::Drained(2))?;
     Ok(c.next)
-}
-
-// Whether two runs of bytes are the same.
-fn same_bytes(a: &[u8], b: &[u8]) -> bool {
-    if a.len() != b.len() {
-        return false;
-    }
-    let mut i: usize = 0;
-    while i < a.len() {
-        if a[i] != b[i] {
-            return false;
-        }
-        i += 1;
-    }
-    true
 }
 
 // The line's bytes: the stored one and the others as in memory.
 fn check_bytes(rt: &impl Print, line: &[u8]) -> io::Result<()> {
     report(rt, b"line length", line.len() == 16)?;
     let bytes = b"\x30\x31\xc8\x33\x34\x35\x36\x37\x38\x39\x3a\x3b\x3c\x3d\x3e\x3f";
-    report(rt, b"line bytes", same_bytes(line, bytes))?;
+    report(rt, b"line bytes", line == bytes.as_slice())?;
     Ok(())
 }
 
@@ -104,43 +103,25 @@ fn check_bytes(rt: &impl Print, line: &[u8]) -> io::Result<()> {
 fn show_part(rt: &impl Print, s: State, cache: &mut [u8], memory: &mut [u8]) -> io::Result<State> {
     check_bytes(rt, s.show_line(cache, memory, ADDRESS))?;
     let a = s.step(Call::Show(ADDRESS), cache, memory);
-    report(rt, b"line place", answers::is_shown(a, 32, 16))?;
+    report(rt, b"line place", a.answer == Answer::Shown(32, 16))?;
     Ok(a.next)
-}
-
-// Whether the byte at i is v.
-fn byte_is(bytes: &[u8], i: usize, v: u8) -> bool {
-    if i < bytes.len() {
-        return bytes[i] == v;
-    }
-    false
 }
 
 // Memory has the stored byte after the flush alone.
 fn flush_part(rt: &impl Print, s: State, cache: &mut [u8], memory: &mut [u8]) -> io::Result<State> {
-    report(rt, b"memory before the flush", byte_is(memory, 50, 50))?;
+    report(rt, b"memory before the flush", memory.get(50) == Some(&50))?;
     let a = s.flush(cache, memory);
-    report(rt, b"flush", answers::is_flushed(a, 1))?;
-    report(rt, b"memory after the flush", byte_is(memory, 50, 200))?;
+    report(rt, b"flush", a.answer == Answer::Flushed(1))?;
+    report(rt, b"memory after the flush", memory.get(50) == Some(&200))?;
     Ok(a.next)
 }
 
 // A refused load takes no number.
 fn refusal_part(rt: &impl Print, s: State, cache: &mut [u8], memory: &mut [u8]) -> io::Result<()> {
     let a = s.load(cache, memory, ADDRESS, 3);
-    report(rt, b"width 3 is refused", answers::is_refused(a, 2))?;
-    let n = a.next;
-    report(rt, b"the last number stays", n.last == s.last)?;
+    report(rt, b"width 3 is refused", a.answer == Answer::Refused(2))?;
+    report(rt, b"the last number stays", a.next.last == s.last)?;
     Ok(())
-}
-
-// Whether a start was accepted.
-fn is_ready(r: Started) -> bool {
-    let a = r.answer;
-    match a {
-        StartAnswer::Ready => true,
-        StartAnswer::NotAllowed(_) => false,
-    }
 }
 
 // The start, on a cache of other bytes.
@@ -151,8 +132,8 @@ fn start_part(rt: &impl Print, cache: &mut [u8], memory: &[u8]) -> io::Result<St
         policy: WritePolicy::WriteBack,
     };
     let r = State::start(figures, cache, memory);
-    report(rt, b"start is ready", is_ready(r))?;
-    report(rt, b"the cache is zeroed", byte_is(cache, 63, 0))?;
+    report(rt, b"start is ready", r.answer.is_ok())?;
+    report(rt, b"the cache is zeroed", cache.get(63) == Some(&0))?;
     Ok(r.state)
 }
 
@@ -164,34 +145,42 @@ fn request_part(
     memory: &mut [u8],
 ) -> io::Result<State> {
     let a = s.load(cache, memory, OLDER, 1);
-    report(rt, b"an older load misses", answers::is_waits(a, 3))?;
+    report(rt, b"an older load misses", a.answer == Answer::Waits(3))?;
     let b = a.next.commit(cache, memory, 3);
-    report(rt, b"commit 3", answers::is_committed(b, 3))?;
+    report(rt, b"commit 3", b.answer == Answer::Committed(3))?;
     let c = b.next.idle(cache, memory);
-    report(rt, b"its line is requested", answers::is_requested(c, 64))?;
+    report(
+        rt,
+        b"its line is requested",
+        c.answer == Answer::Requested(64),
+    )?;
     Ok(c.next)
 }
 
 // A younger load misses, gets no request and is aborted.
 fn abort_part(rt: &impl Print, s: State, cache: &mut [u8], memory: &mut [u8]) -> io::Result<State> {
     let a = s.load(cache, memory, YOUNGER, 1);
-    report(rt, b"a younger load misses", answers::is_waits(a, 4))?;
+    report(rt, b"a younger load misses", a.answer == Answer::Waits(4))?;
     let b = a.next.idle(cache, memory);
-    report(rt, b"no request for it", answers::is_idle(b))?;
+    report(rt, b"no request for it", b.answer == Answer::Idled)?;
     let c = b.next.abort(cache, memory, 4);
-    report(rt, b"it is aborted", answers::is_kept(c, 3))?;
+    report(rt, b"it is aborted", c.answer == Answer::Kept(3))?;
     Ok(c.next)
 }
 
 // The older load gets its value, and number 4 goes to the next load.
 fn later_loads(rt: &impl Print, s: State, cache: &[u8], memory: &[u8]) -> io::Result<State> {
     let a = s.retry(cache, memory, 3);
-    report(rt, b"  retry gives the value", answers::is_value(a, 3, 65))?;
+    report(
+        rt,
+        b"  retry gives the value",
+        a.answer == Answer::Value(3, 65),
+    )?;
     let b = a.next.load(cache, memory, ADDRESS, 1);
     report(
         rt,
         b"  the next load is number 4",
-        answers::is_value(b, 4, 200),
+        b.answer == Answer::Value(4, 200),
     )?;
     Ok(b.next)
 }
@@ -199,26 +188,8 @@ fn later_loads(rt: &impl Print, s: State, cache: &[u8], memory: &[u8]) -> io::Re
 // The calls that follow: the reply fills the line of the older load.
 fn later_part(rt: &impl Print, s: State, cache: &mut [u8], memory: &mut [u8]) -> io::Result<State> {
     let a = s.reply(cache, memory);
-    report(rt, b"  reply fills", answers::is_filled(a, 64))?;
+    report(rt, b"  reply fills", a.answer == Answer::Filled(64))?;
     later_loads(rt, a.next, cache, memory)
-}
-
-// Whether two tag records are the same, age and all.
-fn same_tag(a: Tag, b: Tag) -> bool {
-    a.valid == b.valid && a.dirty == b.dirty && a.line == b.line && a.age == b.age
-}
-
-// Whether two tables of tag records are the same.
-fn same_tags(a: [Tag; 256], b: [Tag; 256]) -> bool {
-    let mut j: usize = 0;
-    while j < 256 {
-        if same_tag(a[j], b[j]) {
-            j += 1;
-        } else {
-            return false;
-        }
-    }
-    true
 }
 
 // What both runs left: nothing of the aborted load.
@@ -229,9 +200,7 @@ fn compare_states(rt: &impl Print, with: State, without: State) -> io::Result<()
         b"the same committed number",
         with.committed == without.committed,
     )?;
-    let tags = with.tags;
-    let other_tags = without.tags;
-    report(rt, b"the same lines and ages", same_tags(tags, other_tags))?;
+    report(rt, b"the same lines and ages", with.tags == without.tags)?;
     Ok(())
 }
 
@@ -246,16 +215,8 @@ fn trace_part(rt: &impl Print, s: State, cache: [u8; 64], memory: [u8; 256]) -> 
     let mut memory_without = memory;
     rt.write_all(b"without that load\n")?;
     let without = later_part(rt, s, &mut cache_without, &mut memory_without)?;
-    report(
-        rt,
-        b"the same cache",
-        same_bytes(&cache_with, &cache_without),
-    )?;
-    report(
-        rt,
-        b"the same memory",
-        same_bytes(&memory_with, &memory_without),
-    )?;
+    report(rt, b"the same cache", cache_with == cache_without)?;
+    report(rt, b"the same memory", memory_with == memory_without)?;
     compare_states(rt, with, without)?;
     Ok(())
 }

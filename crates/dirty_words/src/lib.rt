@@ -2,32 +2,16 @@
 // A public function takes any marks and any numbers.
 #![tactic(auto)]
 
-ghost use Rattle.std.specs.Prelude.{◌≡◌, ◌&&◌, ◌^◌, ◌<◌, ◌≤◌, ltb};
+ghost use Rattle.std.specs.Prelude.{◌≡◌, ◌&&◌, ◌≤◌, ltb};
 ghost use Rattle.rules.specs.Lines.{word_of, is_dirty_word, with_mark, mark_count};
 
-use rules::{LINE_BYTES, LINE_WORDS, WORD_BYTES};
+use rules::{ALL_MARKS, LINE_BYTES, LINE_WORDS, WORD_BYTES};
 
 // Whether word n of the line is dirty.
 pub fn is_dirty(marks: u8, n: usize) -> bool
     ensures { result ≡ (ltb n 4 && is_dirty_word marks n) }
 {
-    if n < LINE_WORDS {
-        return (marks >> n) % 2 == 1;
-    }
-    false
-}
-
-// The weight of a word's mark.
-fn weight(n: u32) -> u8
-    requires { n < 4 }
-    ensures { result ≡ 2 ^ n }
-{
-    match n {
-        0 => 1,
-        1 => 2,
-        2 => 4,
-        _ => 8,
-    }
+    n < LINE_WORDS && (marks >> n) & 1 == 1
 }
 
 // The marks with that of the word in which the address stands.
@@ -35,16 +19,12 @@ pub fn with_mark(marks: u8, address: u32) -> u8
     ensures { result ≡ with_mark (word_of address) marks }
 {
     let n = address % LINE_BYTES / WORD_BYTES;
-    if is_dirty(marks, n as usize) {
-        return marks;
-    }
-    marks + weight(n)
+    marks | 1 << n
 }
 
 // How many of the four marks are set.
 pub fn count(marks: u8) -> u32
     ensures { (result ≡ mark_count marks) × (result ≤ 4) }
 {
-    let set = marks % 2 + marks / 2 % 2 + marks / 4 % 2 + marks / 8 % 2;
-    set as u32
+    (marks & ALL_MARKS).count_ones()
 }

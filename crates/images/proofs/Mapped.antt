@@ -1,16 +1,20 @@
--- A list made of another, entry by entry: the loop that makes it, and lists that come back.
+-- A list made of another, entry by entry: the loop or the call that makes it, and lists that come back.
 use Prim.Native.Nat.{ℕ, zero, suc, ◌+◌, ◌-◌, ◌≤◌, ◌<◌}
-use mathlib.Core.Path.{◌≡◌, refl, sym, ap}
+use mathlib.Core.Path.{◌≡◌, refl, sym, subst, ap, ◌∙◌}
 use mathlib.Core.Bool.{Bool, true, ◌&&◌}
-use mathlib.Core.List.{List, [], ◌∷◌, ◌++◌, map, append-nil}
+use mathlib.Core.List.{List, [], ◌∷◌, ◌++◌, map}
 use native.Mathlib.Nat.{not-suc-le-zero, le_of_suc-le-suc}
 use native.Mathlib.Numerals.{add-one}
 use native.Mathlib.Omega.{arith}
 use lib.ListN.{length, take, drop, get_or, set, replicate}
-use lib.Seq.{take_all}
+use denote.Param.Members.{Mut}
+use Rattle.std.specs.Array.{IsMapOf, IsFromFnResultFrom, IsFromFnResult}
+use Rattle.std.specs.Fn.{Called}
+use Rattle.std.proofs.lemmas.List.{same_lists, get_or-map, length-map}
+use lib.Dec.{eqb}
+use borrow.Author.Tests.{eqb-true, eqb-false}
 use Rattle.lists.specs.Padded.{every}
 use Rattle.lists.proofs.Cond.{cases, and_left, and_right, and_both}
-use Rattle.lists.proofs.Loops.{rest-cons, every-end}
 
 module _ {A B : Type 0} (f : A → B) where
   -- made in two parts
@@ -36,11 +40,26 @@ module _ {A B : Type 0} (f : A → B) (free : B) where
       let room : n - i ≡ suc (n - suc i) = omega arith in
       rw (e, g, add-one i, room) (made-next d i (n - suc i) l (omega arith))
 
-  pub made_all : (i n : ℕ) (l : List A) (out : List B) → length l ≡ n → n ≤ i → out ≡ made i (n - i) l → out ≡ map f l
-  made_all i n l out len h e =
-      let none : n - i ≡ 0 = omega arith in
-      let all : take i l ≡ l = take_all i l (omega arith) in
-      rw (none, all, append-nil (map f l)) at e
+-- what an array's `map` gives is the map of what its closure computes
+pub from-map : {F A B : Type 0} {g : Mut F (A × Unit {0}) B} (f : A → B) (k : F) (n : ℕ) (xs : List A) (ys : List B) → length xs ≡ n → IsMapOf g k xs ys n → ((x : A) (y : B) (p q : F) → Called g p (x, tt) y q → y ≡ f x) → ys ≡ map f xs
+from-map f k n [] ys e m h = same_lists ys [] (m.long ∙ sym e) (λ i d l. absurd (omega (arith, m.long)))
+from-map f k n (x ∷ xs) ys e m h =
+    let long : length ys ≡ length (map f (x ∷ xs)) = m.long ∙ sym e ∙ sym (length-map (x ∷ xs) f) in
+    same_lists ys (map f (x ∷ xs)) long
+    (λ i d l. let w = m.at i x d (omega (arith, m.long)) in h _ _ _ _ w.2 ∙ sym (get_or-map f (x ∷ xs) i x d (omega (arith, m.long))))
+
+-- an array that `from_fn` makes, by what its closure computes at each place
+module _ {F B : Type 0} {g : Mut F (ℕ × Unit {0}) B} (f : F) (v : ℕ → B) (same : (i : ℕ) (y : B) (q : F) → Called g f (i, tt) y q → (q ≡ f) × (y ≡ v i)) where
+  placed : (n i : ℕ) (ys : List B) → IsFromFnResultFrom g f ys i n → (j : ℕ) (d : B) → i ≤ j → j < i + n → get_or ys j d ≡ v j
+  placed zero i ys r j d h l = absurd (omega arith)
+  placed (suc n) i ys r j d h l =
+      let s = same i r.1 r.0 r.3 in
+      cases (eqb i j)
+      (λ e. subst (λ (m : ℕ). get_or ys m d ≡ v m) (eqb-true i j e) (r.2.1 d ∙ s.1))
+      (λ e. placed n (i + 1) ys (subst (λ (k : F). IsFromFnResultFrom g k ys (i + 1) n) s.0 r.4) j d (omega (arith, eqb-false i j e)) (omega arith))
+
+  pub from-fn : (n : ℕ) (ys zs : List B) → IsFromFnResult g f ys n → length zs ≡ n → ((i : ℕ) (d : B) → i < n → v i ≡ get_or zs i d) → ys ≡ zs
+  from-fn n ys zs r e h = same_lists ys zs (r.long ∙ sym e) (λ i d l. placed n 0 ys r.each i d (omega arith) (omega (arith, r.long)) ∙ h i d (omega (arith, r.long)))
 
 -- there and back
 module _ {A B : Type 0} (f : A → B) (g : B → A) where
@@ -66,15 +85,3 @@ unfolding every
 every-most p zero l e = sym e
 every-most p (suc n) [] e = refl
 every-most p (suc n) (x ∷ l) e = ap (λ (t : Bool). p x && t) (every-most p n l e)
-
--- a test of all that keeps the answer so far
-module _ {A : Type 0} (p : A → Bool) (d : A) (b : Bool) (l : List A) (i : ℕ) where
-  and-joined : (x y : Bool) → (b && (x && y)) ≡ ((b && x) && y)
-  and-joined x y = cases b (λ e. rw e) (λ e. rw e)
-
-  pub every-on : {c : Bool} → i < length l → c ≡ (b && p (get_or l i d)) → (b && every p (drop i l)) ≡ (c && every p (drop (i + 1) l))
-  unfolding every
-  every-on h e = rw (e, rest-cons p d l i h) (and-joined (p (get_or l i d)) (every p (drop (i + 1) l)))
-
-  pub every-off : length l ≤ i → (b && every p (drop i l)) ≡ b
-  every-off h = rw (every-end p d l i h) (cases b (λ e. rw e) (λ e. rw e))

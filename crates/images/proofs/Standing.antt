@@ -1,5 +1,5 @@
 -- Images stand for states: each comes back from the other.
-use Prim.Native.Nat.{ℕ, ◌+◌, ◌*◌, ◌-◌, ◌<◌, ◌≤◌}
+use Prim.Native.Nat.{ℕ, ◌-◌, ◌<◌, min}
 use mathlib.Core.Path.{◌≡◌, refl, sym, ap, ap₂, ◌∙◌}
 use mathlib.Core.List.{List, [], ◌∷◌, ◌++◌, map}
 use mathlib.Core.Bool.{Bool, true, false, ◌&&◌}
@@ -7,34 +7,26 @@ use native.Mathlib.Omega.{arith}
 use lib.ListN.{length, take, drop, replicate, length-drop}
 use lib.Seq.{take_all}
 use lib.Dec.{leb, eqb}
-use borrow.Author.Tests.{leb-true, leb-false, le-leb, lt-leb, eqb-true, eqb-false, eq-eqb}
+use borrow.Author.Tests.{leb-true, leb-false, eqb-true, eqb-false}
 use Rattle.lists.specs.Padded.{every}
 use Rattle.lists.proofs.Cond.{cases, either, and_left, and_right, and_both}
 use Rattle.lists.proofs.Loops.{every-end}
 use Rattle.rules.specs.declared.Tag.{Tag}
 use Rattle.rules.specs.Shape.{no_tag}
-use Rattle.rules.specs.declared.StoreEntry.{StoreEntry}
 use Rattle.rules.specs.declared.LoadEntry.{LoadEntry}
 use Rattle.rules.specs.declared.Request.{Request}
 use Rattle.rules.specs.declared.Request.TheVariants.{Free, Line}
 use Rattle.rules.specs.declared.WritePolicy.{WritePolicy}
 use Rattle.rules.specs.declared.WritePolicy.TheVariants.{WriteBack, WriteThrough}
 use Rattle.model.specs.declared.State.{State}
-use Rattle.images.specs.declared.StoreImage.{StoreImage}
 use Rattle.images.specs.declared.LoadImage.{LoadImage}
 use Rattle.images.specs.declared.TagImage.{TagImage}
 use Rattle.images.specs.declared.Image.{Image}
-use Rattle.images.specs.Images.{flag_of, is_set, is_flag, opened_request, requested_of, line_named, request_stands, opened_profile, profile_of, is_profile, opened_store, imaged_store, opened_load, imaged_load, load_stands, opened_tag, imaged_tag, tag_stands, zero_image, figured, bounded, used_of, used_records, opened_tags, opened_with, opened_of, opened_first, imaged_with, imaged_of, stands_with, stands_for, stands_first}
+use Rattle.images.specs.Images.{flag_of, is_set, is_flag, opened_request, requested_of, line_named, request_stands, opened_profile, profile_of, is_profile, opened_load, imaged_load, load_stands, opened_tag, imaged_tag, tag_stands, zero_image, figured, used_of, used_records, opened_tags, opened_with, opened_of, opened_first, imaged_with, imaged_of, stands_with, stands_for, stands_first}
 use Rattle.images.specs.Claims.{ImagesStandForStates}
 use Rattle.images.proofs.Mapped.{joined, back, back-every, every_made, every-most}
 
--- ---- free places and unused records
-
-abbrev pub no_store_image : StoreImage
-no_store_image = record { number = 0; address = 0; width = 0; value = 0 }
-
-abbrev pub no_load_image : LoadImage
-no_load_image = record { number = 0; address = 0; width = 0; waiting = 0; forwarded = 0 }
+-- ---- unused records
 
 abbrev pub no_tag_image : TagImage
 no_tag_image = record { valid = 0; dirty = 0; line = 0; age = 0; unused = 0 }
@@ -61,7 +53,6 @@ opened-request Free = refl
 opened-request (Line l) = refl
 
 request-stand : (r : Request) → request_stands (requested_of r) (line_named r) ≡ true
-unfolding request_stands
 request-stand Free = refl
 request-stand (Line l) = refl
 
@@ -77,14 +68,6 @@ imaged-profile : (n : ℕ) → is_profile n ≡ true → profile_of (opened_prof
 imaged-profile n e =
     cases (eqb n 1) (λ t. rw t (sym (eqb-true n 1 t)))
     (λ t. let z : n ≡ 0 = omega (arith, leb-true n 1 e, eqb-false n 1 t) in rw z)
-
-opened-store : (s : StoreEntry) → opened_store (imaged_store s) ≡ s
-unfolding opened_store imaged_store
-opened-store s = refl
-
-imaged-store : (s : StoreImage) → imaged_store (opened_store s) ≡ s
-unfolding opened_store imaged_store
-imaged-store s = refl
 
 opened-load : (l : LoadEntry) → opened_load (imaged_load l) ≡ l
 unfolding opened_load imaged_load
@@ -138,24 +121,6 @@ zero-tells t e =
     let u = eqb-true t.unused 0 (and_right (eqb t.age 0) _ e₃) in
     λ j. record { valid = v j; dirty = d j; line = l j; age = a j; unused = u j }
 
--- by two numbers that hold its fields
-module _ (b : Bool) (t : TagImage) where
-  pub first-not : (t.valid + 256 * t.dirty + 65536 * t.line ≡ 0 → ⊥) → false ≡ (b && zero_image t)
-  first-not nope = cases (zero_image t)
-      (λ e. let z = zero-tells t e in absurd (nope (ap (λ (t : TagImage). t.valid + 256 * t.dirty + 65536 * t.line) z)))
-      (λ e. rw e (cases b (λ f. rw f) (λ f. rw f)))
-
-  pub second-not : (t.age + 256 * t.unused ≡ 0 → ⊥) → false ≡ (b && zero_image t)
-  second-not nope = cases (zero_image t)
-      (λ e. let z = zero-tells t e in absurd (nope (ap (λ (t : TagImage). t.age + 256 * t.unused) z)))
-      (λ e. rw e (cases b (λ f. rw f) (λ f. rw f)))
-
-  pub both_zero : t.valid + 256 * t.dirty + 65536 * t.line ≡ 0 → t.age + 256 * t.unused ≡ 0 → b ≡ (b && zero_image t)
-  unfolding zero_image
-  both_zero e f =
-      rw (eq-eqb t.valid 0 (omega arith), eq-eqb t.dirty 0 (omega arith), eq-eqb t.line 0 (omega arith), eq-eqb t.age 0 (omega arith), eq-eqb t.unused 0 (omega arith))
-      (cases b (λ g. rw g) (λ g. rw g))
-
 zeros-stand : (l : List TagImage) → every zero_image l ≡ true → every tag_stands l ≡ true
 unfolding every tag_stands
 zeros-stand [] e = refl
@@ -170,20 +135,14 @@ zeros-opened (t ∷ l) e =
 
 -- ---- the records that need a look
 
--- a number of records, 256 at most
-pub bounded-small : (n : ℕ) → n ≤ 256 → n ≡ bounded n
-bounded-small n h = rw (le-leb n 256 h)
-
-pub bounded-large : (n : ℕ) → 256 < n → 256 ≡ bounded n
-bounded-large n h = rw (lt-leb n 256 h)
-
 module _ {A : Type 0} (n : ℕ) (l : List A) (len : length l ≡ 256) where
-  pub bounded-rest : 256 - bounded n ≡ length l - n
-  bounded-rest = rw len (cases (leb n 256) (λ e. rw e) (λ e. rw e (omega (arith, leb-false n 256 e))))
+  pub bounded-rest : 256 - min n 256 ≡ length l - n
+  bounded-rest = rw len (omega arith)
 
-  pub bounded-take : take (bounded n) l ≡ take n l
-  bounded-take = cases (leb n 256) (λ e. rw e)
-      (λ e. rw e (let h : 256 < n = leb-false n 256 e in take_all 256 l (omega arith) ∙ sym (take_all n l (omega arith))))
+  pub bounded-take : take (min n 256) l ≡ take n l
+  bounded-take = cases (leb n 256)
+      (λ e. ap (λ (m : ℕ). take m l) (omega (arith, leb-true n 256 e)))
+      (λ e. let h : 256 < n = leb-false n 256 e in take_all (min n 256) l (omega arith) ∙ sym (take_all n l (omega arith)))
 
 -- the others, if there are any, are zero
 module _ (n : ℕ) (l : List TagImage) (z : every zero_image (drop n l) ≡ true) where
@@ -218,13 +177,11 @@ module _ (i : Image) (n : ℕ) (e : n ≡ used_records i) where
 
 module _ (n l : ℕ) (e : request_stands n l ≡ true) where
   imaged-requested : requested_of (opened_request n l) ≡ n
-  unfolding request_stands
   imaged-requested = cases (eqb n 0)
       (λ t. let z : n ≡ 0 = eqb-true n 0 t in rw z)
       (λ t. let z : n ≡ 1 = eqb-true n 1 (rw t at e) in rw z)
 
   imaged-line : line_named (opened_request n l) ≡ l
-  unfolding request_stands
   imaged-line = cases (eqb n 0)
       (λ t. let z : n ≡ 0 = eqb-true n 0 t in rw z (sym (eqb-true l 0 (rw t at e))))
       (λ t. let z : n ≡ 1 = eqb-true n 1 (rw t at e) in rw z)
@@ -239,7 +196,7 @@ opened-imaged s = λ j. record {
   last = s.last;
   committed = s.committed;
   request = opened-request s.request j;
-  stores = back imaged_store opened_store opened-store s.stores j;
+  stores = s.stores;
   loads = back imaged_load opened_load opened-load s.loads j;
   checkpoints = s.checkpoints;
   tags = back imaged_tag opened_tag opened-tag s.tags j;
@@ -267,7 +224,7 @@ imaged-opened i e =
       committed = i.committed;
       requested = imaged-requested i.requested i.line register j;
       line = imaged-line i.requested i.line register j;
-      stores = back opened_store imaged_store imaged-store i.stores j;
+      stores = i.stores;
       loads = back-every opened_load imaged_load load_stands imaged-load i.loads (and_left (every load_stands i.loads) _ rest) j;
       checkpoints = i.checkpoints;
       tags = back-every opened_tag imaged_tag tag_stands imaged-tag i.tags (and_right (every load_stands i.loads) _ rest) j;

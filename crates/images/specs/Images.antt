@@ -1,17 +1,15 @@
 -- The image of a state, the state of an image, and which images stand for a state.
-use Rattle.std.specs.Prelude.{ℕ, ◌*◌, ◌-◌, Bool, cond, ◌&&◌, List, map, ◌++◌, leb, eqb, length, take, drop, replicate}
+use Rattle.std.specs.Prelude.{ℕ, ◌*◌, ◌-◌, Bool, cond, ◌&&◌, List, map, ◌++◌, min, leb, eqb, length, take, drop, replicate}
 use Rattle.lists.specs.Padded.{every}
 use Rattle.rules.specs.Shape.{geometry, no_tag}
 use Rattle.rules.specs.declared.Figures.{Figures}
 use Rattle.rules.specs.declared.Tag.{Tag}
-use Rattle.rules.specs.declared.StoreEntry.{StoreEntry}
 use Rattle.rules.specs.declared.LoadEntry.{LoadEntry}
 use Rattle.rules.specs.declared.Request.{Request}
 use Rattle.rules.specs.declared.Request.TheVariants.{Free, Line}
 use Rattle.rules.specs.declared.WritePolicy.{WritePolicy}
 use Rattle.rules.specs.declared.WritePolicy.TheVariants.{WriteBack, WriteThrough}
 use Rattle.model.specs.declared.State.{State}
-use Rattle.images.specs.declared.StoreImage.{StoreImage}
 use Rattle.images.specs.declared.LoadImage.{LoadImage}
 use Rattle.images.specs.declared.TagImage.{TagImage}
 use Rattle.images.specs.declared.Image.{Image}
@@ -47,7 +45,7 @@ line_named Free = 0
 line_named (Line l) = l
 
 -- free with line 0, or a line is named
-unfoldable pub request_stands : ℕ → ℕ → Bool
+abbrev pub request_stands : ℕ → ℕ → Bool
 request_stands requested line = cond (eqb requested 0) (eqb line 0) (eqb requested 1)
 
 -- ---- the profile: the write policy by its number
@@ -65,14 +63,6 @@ abbrev pub is_profile : ℕ → Bool
 is_profile n = leb n 1
 
 -- ---- entries and records
-
--- the entry of its image
-unfoldable pub opened_store : StoreImage → StoreEntry
-opened_store s = record { number = s.number; address = s.address; width = s.width; value = s.value }
-
--- the image of an entry
-unfoldable pub imaged_store : StoreEntry → StoreImage
-imaged_store s = record { number = s.number; address = s.address; width = s.width; value = s.value }
 
 -- the entry of its image
 unfoldable pub opened_load : LoadImage → LoadEntry
@@ -104,13 +94,9 @@ tag_stands t = is_flag t.valid && eqb t.unused 0
 unfoldable pub zero_image : TagImage → Bool
 zero_image t = eqb t.valid 0 && (eqb t.dirty 0 && (eqb t.line 0 && (eqb t.age 0 && eqb t.unused 0)))
 
--- n, or all records where n is more
-abbrev pub bounded : ℕ → ℕ
-bounded n = cond (leb n 256) n 256
-
 -- as many records as the figures ask for, or all
-unfoldable pub figured : ℕ → ℕ → ℕ
-figured sets ways = bounded (sets * ways)
+abbrev pub figured : ℕ → ℕ → ℕ
+figured sets ways = min (sets * ways) 256
 
 -- the first n records, if all others are zero, else all
 unfoldable pub used_of : ℕ → List TagImage → ℕ
@@ -142,7 +128,7 @@ opened_with tags i = record {
   last = i.last;
   committed = i.committed;
   request = opened_request i.requested i.line;
-  stores = map opened_store i.stores;
+  stores = i.stores;
   loads = map opened_load i.loads;
   checkpoints = i.checkpoints;
   tags = tags;
@@ -167,7 +153,7 @@ imaged_with images s = record {
   committed = s.committed;
   requested = requested_of s.request;
   line = line_named s.request;
-  stores = map imaged_store s.stores;
+  stores = s.stores;
   loads = map imaged_load s.loads;
   checkpoints = s.checkpoints;
   tags = images;

@@ -8,13 +8,14 @@ ghost use Rattle.images.specs.Claims.{ImagesStandForStates};
 
 use model::State;
 use rules::{
-    CHECKPOINT_PLACES, Checkpoint, Figures, LOAD_PLACES, STORE_PLACES, TAG_RECORDS, WritePolicy,
+    CHECKPOINT_PLACES, Checkpoint, Figures, LOAD_PLACES, STORE_PLACES, StoreEntry, TAG_RECORDS,
+    WritePolicy,
 };
 
 mod queues;
 mod tags;
 
-// ---- profiles by numbers
+// ---- profiles by numbers: the C interface, over which any number may come
 
 pub const PROFILE_WRITE_BACK: u32 = 0;
 
@@ -22,17 +23,7 @@ pub const PROFILE_WRITE_THROUGH: u32 = 1;
 
 // ---- the image
 
-// An entry of the store queue. No struct here has padding.
-#[repr(C)]
-#[derive(Clone, Copy)]
-pub struct StoreImage {
-    pub number: u32,
-    pub address: u32,
-    pub width: u32,
-    pub value: u32,
-}
-
-// An entry of the load queue.
+// An entry of the load queue. No struct here has padding.
 #[repr(C)]
 #[derive(Clone, Copy)]
 pub struct LoadImage {
@@ -47,7 +38,7 @@ pub struct LoadImage {
 
 // A tag record.
 #[repr(C)]
-#[derive(Clone, Copy)]
+#[derive(Clone, Copy, PartialEq, Eq)]
 pub struct TagImage {
     // 0 or 1
     pub valid: u8,
@@ -77,9 +68,10 @@ pub struct Image {
     pub requested: u32,
     // that line; 0 where the register is free
     pub line: u32,
-    pub stores: [StoreImage; STORE_PLACES],
+    // the store queue, whose entries have nothing but numbers
+    pub stores: [StoreEntry; STORE_PLACES],
     pub loads: [LoadImage; LOAD_PLACES],
-    // the checkpoints, which have nothing but numbers
+    // the checkpoints, which have nothing but numbers either
     pub checkpoints: [Checkpoint; CHECKPOINT_PLACES],
     pub tags: [TagImage; TAG_RECORDS],
 }
@@ -87,25 +79,26 @@ pub struct Image {
 // ---- from an image to a state
 
 // How many records need a look: those that the figures ask for, if all others are zero.
+#[tactic(auto, unfolding(crate::specs::Images::used_records, crate::specs::Images::used_of))]
 pub fn used_records(image: Image) -> usize
     ensures { result ≡ used_records image }
 {
     let n = tags::figured(image.sets, image.ways);
-    let tags = image.tags;
-    if tags::zero_from(tags, n) {
-        return n;
+    if tags::zero_from(image.tags, n) {
+        n
+    } else {
+        TAG_RECORDS
     }
-    TAG_RECORDS
 }
 
 // The write policy of a profile's number; write-back for a number that no profile has.
 fn open_profile(profile: u32) -> WritePolicy
     ensures { result ≡ opened_profile profile }
 {
-    if profile == PROFILE_WRITE_THROUGH {
-        return WritePolicy::WriteThrough;
+    match profile {
+        PROFILE_WRITE_THROUGH => WritePolicy::WriteThrough,
+        _ => WritePolicy::WriteBack,
     }
-    WritePolicy::WriteBack
 }
 
 // Figures by their numbers; with write-back where no profile has the number.
@@ -127,39 +120,33 @@ pub fn is_profile(profile: u32) -> bool
 }
 
 // The image stands for a state, as far as its first n records tell.
+#[tactic(auto, unfolding(crate::specs::Images::stands_first, crate::specs::Images::stands_with))]
 pub fn stands(image: Image, n: usize) -> bool
     ensures { result ≡ stands_first n image }
 {
-    if is_profile(image.profile) {
-        if queues::request_stands(image.requested, image.line) {
-            let loads = image.loads;
-            if queues::loads_stand(loads) {
-                let tags = image.tags;
-                return tags::tags_stand(tags, n);
-            }
-        }
-    }
-    false
+    is_profile(image.profile)
+        && queues::request_stands(image.requested, image.line)
+        && queues::loads_stand(image.loads)
+        && tags::tags_stand(image.tags, n)
 }
 
 // The state of an image, with its first n records.
+#[tactic(auto, unfolding(crate::specs::Images::opened_first, crate::specs::Images::opened_with))]
 pub fn opened(image: Image, n: usize) -> State
     ensures { result ≡ opened_first n image }
 {
     let stores = image.stores;
-    let loads = image.loads;
     let checkpoints = image.checkpoints;
-    let tags = image.tags;
     State {
         figures: figures_with(image.sets, image.ways, image.profile),
         size: image.size,
         last: image.last,
         committed: image.committed,
         request: queues::open_request(image.requested, image.line),
-        stores: queues::open_stores(stores),
-        loads: queues::open_loads(loads),
+        stores,
+        loads: queues::open_loads(image.loads),
         checkpoints,
-        tags: tags::open_tags(tags, n),
+        tags: tags::open_tags(image.tags, n),
     }
 }
 
@@ -176,38 +163,34 @@ fn profile_of(policy: WritePolicy) -> u32
 }
 
 // The image of a state, with these images of its records.
+#[tactic(auto, unfolding(crate::specs::Images::imaged_with))]
 pub fn imaged_with(images: [TagImage; TAG_RECORDS], state: State) -> Image
     ensures { result ≡ imaged_with images state }
 {
-    let figures = state.figures;
-    let policy = figures.policy;
-    let request = state.request;
     let stores = state.stores;
-    let loads = state.loads;
     let checkpoints = state.checkpoints;
     Image {
-        sets: figures.sets,
-        ways: figures.ways,
-        profile: profile_of(policy),
+        sets: state.figures.sets,
+        ways: state.figures.ways,
+        profile: profile_of(state.figures.policy),
         size: state.size,
         last: state.last,
         committed: state.committed,
-        requested: queues::requested(request),
-        line: queues::line_named(request),
-        stores: queues::image_stores(stores),
-        loads: queues::image_loads(loads),
+        requested: queues::requested(state.request),
+        line: queues::line_named(state.request),
+        stores,
+        loads: queues::image_loads(state.loads),
         checkpoints,
         tags: images,
     }
 }
 
 // The image of a state.
+#[tactic(auto, unfolding(crate::specs::Images::imaged_of))]
 pub fn imaged(state: State) -> Image
     ensures { result ≡ imaged_of state }
 {
-    let records = state.tags;
-    let images = tags::image_tags(records);
-    imaged_with(images, state)
+    imaged_with(tags::image_tags(state.tags), state)
 }
 
 // ---- what is claimed of images: a function that does nothing and promises it

@@ -1,37 +1,21 @@
-// The miss register and the two queues: their images and what these stand for.
+// The miss register and the load queue: their images and what these stand for.
 ghost use Rattle.std.specs.Prelude.{◌≡◌, map};
 ghost use Rattle.lists.specs.Padded.{every};
-ghost use Rattle.images.specs.Images.{flag_of, opened_request, requested_of, line_named, request_stands, opened_store, imaged_store, opened_load, imaged_load, load_stands};
+ghost use Rattle.images.specs.Images.{opened_request, requested_of, line_named, request_stands, opened_load, imaged_load, load_stands};
 
-use crate::{LoadImage, StoreImage};
-use rules::{LOAD_PLACES, LoadEntry, NO_LOAD, NO_STORE, Request, STORE_PLACES, StoreEntry};
+use crate::LoadImage;
+use rules::{LOAD_PLACES, LoadEntry, Request};
 
-// ---- free places, all zero
-
-const FREE_STORE: StoreImage = StoreImage {
-    number: 0,
-    address: 0,
-    width: 0,
-    value: 0,
-};
-
-const FREE_LOAD: LoadImage = LoadImage {
-    number: 0,
-    address: 0,
-    width: 0,
-    waiting: 0,
-    forwarded: 0,
-};
-
-// ---- the miss register
+// ---- the miss register: in the image two numbers, a flag and the line, for the C interface
 
 pub(crate) fn open_request(requested: u32, line: u32) -> Request
     ensures { result ≡ opened_request requested line }
 {
     if requested == 1 {
-        return Request::Line(line);
+        Request::Line(line)
+    } else {
+        Request::Free
     }
-    Request::Free
 }
 
 pub(crate) fn requested(r: Request) -> u32
@@ -55,144 +39,65 @@ pub(crate) fn line_named(r: Request) -> u32
 pub(crate) fn request_stands(requested: u32, line: u32) -> bool
     ensures { result ≡ request_stands requested line }
 {
-    if requested == 0 {
-        return line == 0;
-    }
-    requested == 1
-}
-
-// ---- the store queue
-
-fn open_store(s: StoreImage) -> StoreEntry
-    ensures { result ≡ opened_store s }
-{
-    StoreEntry {
-        number: s.number,
-        address: s.address,
-        width: s.width,
-        value: s.value,
-    }
-}
-
-pub(crate) fn open_stores(stores: [StoreImage; STORE_PLACES]) -> [StoreEntry; STORE_PLACES]
-    ensures { result ≡ map opened_store stores }
-{
-    let mut out = [NO_STORE; STORE_PLACES];
-    let mut i: usize = 0;
-    while i < STORE_PLACES {
-        let s = stores[i];
-        let e = open_store(s);
-        out[i] = e;
-        i += 1;
-    }
-    out
-}
-
-fn image_store(s: StoreEntry) -> StoreImage
-    ensures { result ≡ imaged_store s }
-{
-    StoreImage {
-        number: s.number,
-        address: s.address,
-        width: s.width,
-        value: s.value,
-    }
-}
-
-pub(crate) fn image_stores(stores: [StoreEntry; STORE_PLACES]) -> [StoreImage; STORE_PLACES]
-    ensures { result ≡ map imaged_store stores }
-{
-    let mut out = [FREE_STORE; STORE_PLACES];
-    let mut i: usize = 0;
-    while i < STORE_PLACES {
-        let s = stores[i];
-        let e = image_store(s);
-        out[i] = e;
-        i += 1;
-    }
-    out
+    matches!((requested, line), (0, 0) | (1, _))
 }
 
 // ---- the load queue
 
-fn wide_flag(t: bool) -> u16
-    ensures { result ≡ flag_of t }
-{
-    if t { 1 } else { 0 }
+impl From<LoadImage> for LoadEntry {
+    ghost from_gives = { λ l e. e ≡ opened_load l };
+
+    #[tactic(auto, unfolding(crate::specs::Images::opened_load))]
+    fn from(l: LoadImage) -> LoadEntry {
+        LoadEntry {
+            number: l.number,
+            address: l.address,
+            width: l.width,
+            waiting: l.waiting == 1,
+            forwarded: l.forwarded == 1,
+        }
+    }
 }
 
-fn open_load(l: LoadImage) -> LoadEntry
-    ensures { result ≡ opened_load l }
-{
-    LoadEntry {
-        number: l.number,
-        address: l.address,
-        width: l.width,
-        waiting: l.waiting == 1,
-        forwarded: l.forwarded == 1,
+impl From<LoadEntry> for LoadImage {
+    ghost from_gives = { λ e l. l ≡ imaged_load e };
+
+    #[tactic(auto, unfolding(crate::specs::Images::imaged_load))]
+    fn from(e: LoadEntry) -> LoadImage {
+        LoadImage {
+            number: e.number,
+            address: e.address,
+            width: e.width,
+            waiting: u16::from(e.waiting),
+            forwarded: u16::from(e.forwarded),
+        }
     }
 }
 
 pub(crate) fn open_loads(loads: [LoadImage; LOAD_PLACES]) -> [LoadEntry; LOAD_PLACES]
     ensures { result ≡ map opened_load loads }
 {
-    let mut out = [NO_LOAD; LOAD_PLACES];
-    let mut i: usize = 0;
-    while i < LOAD_PLACES {
-        let l = loads[i];
-        let e = open_load(l);
-        out[i] = e;
-        i += 1;
-    }
-    out
-}
-
-fn image_load(l: LoadEntry) -> LoadImage
-    ensures { result ≡ imaged_load l }
-{
-    LoadImage {
-        number: l.number,
-        address: l.address,
-        width: l.width,
-        waiting: wide_flag(l.waiting),
-        forwarded: wide_flag(l.forwarded),
-    }
+    loads.map(|l| LoadEntry::from(l))
 }
 
 pub(crate) fn image_loads(loads: [LoadEntry; LOAD_PLACES]) -> [LoadImage; LOAD_PLACES]
     ensures { result ≡ map imaged_load loads }
 {
-    let mut out = [FREE_LOAD; LOAD_PLACES];
-    let mut i: usize = 0;
-    while i < LOAD_PLACES {
-        let l = loads[i];
-        let e = image_load(l);
-        out[i] = e;
-        i += 1;
-    }
-    out
+    loads.map(|e| LoadImage::from(e))
 }
 
-fn load_stands(l: LoadImage) -> bool
-    ensures { result ≡ load_stands l }
-{
-    if 1 < l.waiting {
-        return false;
+impl LoadImage {
+    // Its flags are 0 or 1.
+    #[tactic(auto, unfolding(crate::specs::Images::load_stands))]
+    fn stands(self) -> bool
+        ensures { result ≡ load_stands self }
+    {
+        self.waiting <= 1 && self.forwarded <= 1
     }
-    l.forwarded <= 1
 }
 
 pub(crate) fn loads_stand(loads: [LoadImage; LOAD_PLACES]) -> bool
     ensures { result ≡ every load_stands loads }
 {
-    let mut i: usize = 0;
-    while i < LOAD_PLACES {
-        let l = loads[i];
-        if load_stands(l) {
-            i += 1;
-        } else {
-            return false;
-        }
-    }
-    true
+    loads.iter().all(|l| l.stands())
 }

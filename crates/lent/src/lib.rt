@@ -6,43 +6,37 @@ ghost use Rattle.std.specs.Prelude.{◌≡◌};
 ghost use Rattle.model.specs.State.{world_of, call_of, Does};
 ghost use Rattle.lent.specs.Starts.{StartsIn, ran_of, start_then};
 
-use model::{Answer, Call, StartAnswer, Started, State};
-use rules::Figures;
-
-// A start by value that keeps the given state where it is refused.
-fn started_or_kept(state: State, figures: Figures, cache: &mut [u8], memory: &[u8]) -> Started
-    ensures { StartsIn figures (world_of state cache.old memory.now) result cache.new memory.now }
-{
-    let r = State::start(figures, cache, memory);
-    let answer = r.answer;
-    match answer {
-        StartAnswer::Ready => r,
-        StartAnswer::NotAllowed(_) => Started { answer, state },
-    }
-}
+use model::{Answer, Call, State};
+use rules::{Figures, Refusal};
 
 // Start: an accepted one stores the started state; a refused one leaves the state, the cache and the memory as they were.
-pub fn start_in(state: &mut State, figures: Figures, cache: &mut [u8], memory: &[u8]) -> StartAnswer
+pub fn start_in(
+    state: &mut State,
+    figures: Figures,
+    cache: &mut [u8],
+    memory: &[u8],
+) -> Result<(), Refusal>
     ensures { StartsIn figures (world_of state.old cache.old memory.now) (record { answer = result; state = state.new }) cache.new memory.now }
 {
-    let r = started_or_kept(*state, figures, cache, memory);
+    let r = State::start(figures, cache, memory);
+    r.answer?;
     *state = r.state;
-    r.answer
+    Ok(())
 }
 
 // Any other call: the next state is stored, which after a refusal is the same as before.
 pub fn step_in(state: &mut State, call: Call, cache: &mut [u8], memory: &mut [u8]) -> Answer
     ensures { Does (call_of call) (world_of state.old cache.old memory.old) (record { answer = result; next = state.new }) cache.new memory.new }
 {
-    let r = State::step(*state, call, cache, memory);
+    let r = state.step(call, cache, memory);
     *state = r.next;
     r.answer
 }
 
 // The answers of a start and of a call after it.
-#[derive(Clone, Copy)]
+#[derive(Clone, Copy, PartialEq, Eq)]
 pub struct StartAndStep {
-    pub started: StartAnswer,
+    pub started: Result<(), Refusal>,
     pub answer: Answer,
 }
 

@@ -4,17 +4,21 @@ use mathlib.Core.Path.{◌≡◌, refl, sym, ap, ◌∙◌}
 use mathlib.Core.Bool.{Bool, true, false, cond, ◌&&◌}
 use mathlib.Core.List.{List}
 use Prim.Native.Nat.{ℕ, zero, suc, ◌+◌, ◌*◌, ◌-◌, ◌/◌, ◌%◌, ◌^◌, ◌<◌, ◌≤◌}
-use native.Mathlib.Nat.{pow-suc, div-div-eq-div-mul}
-use native.Mathlib.Numerals.{add-one}
+use native.Mathlib.Decide.{dec_lt}
 use native.Mathlib.Omega.{arith}
 use lib.Dec.{ltb, leb, eqb}
 use lib.ListN.{length, get_or, set, take, drop, length-take, length-drop}
-use lib.Seq.{get_or-take, get_or-drop, get_or-set_other, set-get_or}
-use borrow.Author.Tests.{ltb-true, leb-true, leb-false, lt-ltb, le-leb, lt-leb, eq-eqb, ne_eqb}
+use lib.Seq.{get_or-take, get_or-drop, get_or-set_other, set-get_or, ext_get_or}
+use Rattle.std.proofs.Common.{w32}
+use Rattle.std.proofs.lemmas.List.{places}
+use Rattle.std.specs.Int.{to_le_bytes}
+use borrow.Rule.Slice.PartMut.{put_mid}
+use Rattle.store_queue.proofs.Forwarded.{le-byte}
+use borrow.Author.Tests.{ltb-true, leb-true, lt-ltb, le-leb, lt-leb, eq-eqb, ne_eqb}
 use Rattle.lists.specs.Counted.{steps_from, each_from}
 use Rattle.lists.specs.Bytes.{byte_of, among, overlaid}
 use Rattle.lists.proofs.Cond.{either, cases, and_left, and_right, and_both, wrong}
-use Rattle.lists.proofs.Counting.{each-length}
+use Rattle.lists.proofs.Counting.{each-length, each_at, each_same}
 use Rattle.lists.proofs.CountedLoops.{change, changes-each, steps_on, each-id, each-ext}
 use Rattle.rules.specs.declared.Tag.{Tag}
 use Rattle.rules.specs.declared.StoreEntry.{StoreEntry}
@@ -26,12 +30,47 @@ use Rattle.rules.proofs.Dirty.{clean-byte}
 use Rattle.dirty_words.proofs.Marks.{told-word}
 use Rattle.line_bytes.specs.Writes.{line_inside, filled_at, line_filled, marked_line, line_written, lines_written, flushed_memory, DirtyInside, places_inside, store_put, stored_through}
 
--- ---- a line of 16 bytes
+-- ---- a part that is copied over
 
-pub fill-each :
-    (v : ℕ) (src cache : List ℕ) → steps_from (change (filled_at v src) 0) (16 * v) 16 cache ≡ each_from (filled_at v src) 0 cache
-fill-each v src cache =
-    changes-each (filled_at v src) 0 (16 * v) 16 cache (λ k x o. rw (ne_eqb (k / 16) v (λ e. o (omega arith) (omega arith))))
+module _ (lo n : ℕ) (ys l : List ℕ) (h : lo + n ≤ length l) (e : length ys ≡ n) where
+  part : List ℕ
+  part = put_mid lo n l ys
+
+  part-length : length part ≡ length l
+  unfolding part
+  part-length = grind (arith, places)
+
+  part-below : (k : ℕ) → k < lo → get_or part k 0 ≡ get_or l k 0
+  unfolding part
+  part-below k p = grind (arith, places)
+
+  part-within : (k : ℕ) → lo ≤ k → k < lo + n → get_or part k 0 ≡ get_or ys (k - lo) 0
+  unfolding part
+  part-within k p q = grind (arith, places)
+
+  part-above : (k : ℕ) → lo + n ≤ k → get_or part k 0 ≡ get_or l k 0
+  unfolding part
+  part-above k p = grind (arith, places)
+
+  -- is the change of each of its places
+  pub part-each : (f : ℕ → ℕ → ℕ) → ((j x : ℕ) → j < n → f (lo + j) x ≡ get_or ys j 0) → ((k x : ℕ) → (lo ≤ k → k < lo + n → ⊥) → f k x ≡ x)
+      → put_mid lo (lo + n - lo) l ys ≡ each_from f 0 l
+  unfolding part
+  part-each f within outside =
+      let m : lo + n - lo ≡ n = omega arith in
+      rw m (ext_get_or 0 part _ (part-length ∙ sym (each-length f 0 l)) (λ k b.
+      let b' : k < length l = omega (arith, part-length) in
+      elim (dec_lt k lo) [
+        | yes p ↦ part-below k p ∙ sym (each_same f l 0 k (λ x. outside k x (λ a c. omega arith)))
+        | no p ↦ elim (dec_lt k (lo + n)) [
+          | yes q ↦
+              let j : lo + (k - lo) ≡ k = omega arith in
+              part-within k (omega arith) q ∙ (sym (rw j at (within (k - lo) (get_or l k 0) (omega arith))) ∙ sym (each_at f l 0 k b'))
+          | no q ↦ part-above k (omega arith) ∙ sym (each_same f l 0 k (λ x. outside k x (λ a c. omega arith)))
+        ]
+      ]))
+
+-- ---- a line of 16 bytes
 
 pub fill-at : (v i : ℕ) (src : List ℕ) (x : ℕ) → i < 16 → filled_at v src (16 * v + i) x ≡ get_or src i 0
 fill-at v i src x h =
@@ -43,6 +82,12 @@ module _ (v : ℕ) (src bytes : List ℕ) where
   pub filled-inside : length src ≡ 16 → 16 * v + 16 ≤ length bytes → line_filled v src bytes ≡ each_from (filled_at v src) 0 bytes
   unfolding line_filled
   filled-inside e h = rw (eq-eqb (length src) 16 e, le-leb (16 * v + 16) (length bytes) h)
+
+  pub filled-part : length src ≡ 16 → 16 * v + 16 ≤ length bytes → put_mid (16 * v) (16 * v + 16 - 16 * v) bytes src ≡ line_filled v src bytes
+  filled-part e h =
+      part-each (16 * v) 16 src bytes h e (filled_at v src) (λ j x l. fill-at v j src x l)
+      (λ k x o. rw (ne_eqb (k / 16) v (λ z. o (omega arith) (omega arith))))
+      ∙ sym (filled-inside e h)
 
   pub filled-short : (length src ≡ 16 → ⊥) → bytes ≡ line_filled v src bytes
   unfolding line_filled
@@ -231,45 +276,30 @@ module _ (p w n : ℕ) where
   unfolding places_inside
   is-inside h k = and_both (leb w 4) (leb (p + w) n) (le-leb w 4 h) (le-leb (p + w) n k)
 
-  pub wide-outside : 4 < w → false ≡ places_inside p w n
-  unfolding places_inside
-  wide-outside h = rw (lt-leb w 4 h)
-
-  pub far-outside : n < p + w → false ≡ places_inside p w n
-  unfolding places_inside
-  far-outside h = cases (leb w 4) (λ e. rw (e, lt-leb (p + w) n h)) (λ e. rw e)
-
-  -- the test that the code makes, of a width that is no greater than the length
-  pub rest-inside : w ≤ 4 → w ≤ n → leb p (n - w) ≡ places_inside p w n
-  rest-inside h k =
-      cases (leb p (n - w))
-      (λ e. e ∙ sym (is-inside h (omega (arith, leb-true p (n - w) e))))
-      (λ e. e ∙ far-outside (omega (arith, leb-false p (n - w) e)))
-
 overlaid-out : (p w v j : ℕ) → (p ≤ j → j < p + w → ⊥) → (x : ℕ) → overlaid p w v j x ≡ x
 unfolding overlaid
 overlaid-out p w v j o x =
     either (λ r. r ≡ x) (among p w j)
     (λ e. absurd (o (leb-true p j (and_left _ _ e)) (ltb-true j (p + w) (and_right (leb p j) _ e)))) (λ e. refl)
 
-pub put-each :
-    (p w v : ℕ) (cache : List ℕ) → steps_from (change (overlaid p w v) 0) p w cache ≡ each_from (overlaid p w v) 0 cache
-put-each p w v cache = changes-each (overlaid p w v) 0 p w cache (λ k x o. overlaid-out p w v k o x)
-
-pub put-at : (p w v i x : ℕ) → i < w → overlaid p w v (p + i) x ≡ (v / 256 ^ i) % 256
-unfolding overlaid byte_of
-put-at p w v i x h =
-    let e : p + i - p ≡ i = omega arith in
-    rw (and_both (leb p (p + i)) (ltb (p + i) (p + w)) (le-leb p (p + i) (omega arith)) (lt-ltb (p + i) (p + w) (omega arith)), e)
-
-pub next-byte : (v i : ℕ) → v / 256 ^ i / 256 ≡ v / 256 ^ (i + 1)
-next-byte v i = div-div-eq-div-mul v (256 ^ i) 256 ∙ ap (λ (n : ℕ). v / n) (sym (ap (λ (j : ℕ). 256 ^ j) (add-one i) ∙ pow-suc 256 i))
-
 module _ (p w v : ℕ) (bytes : List ℕ) where
+  put-at : (i x : ℕ) → i < w → overlaid p w v (p + i) x ≡ byte_of i v
+  unfolding overlaid
+  put-at i x h =
+      let e : p + i - p ≡ i = omega arith in
+      rw (and_both (leb p (p + i)) (ltb (p + i) (p + w)) (le-leb p (p + i) (omega arith)) (lt-ltb (p + i) (p + w) (omega arith)), e)
+
   -- what a store leaves
   pub put-inside : w ≤ 4 → p + w ≤ length bytes → store_put p w v bytes ≡ each_from (overlaid p w v) 0 bytes
   unfolding store_put
   put-inside h k = rw (is-inside p w (length bytes) h k)
+
+  pub put-part : (low : List ℕ) → low ≡ to_le_bytes w32 v → v < 256 ^ 4 → w ≤ 4 → p + w ≤ length bytes → put_mid p (p + w - p) bytes (take w low) ≡ store_put p w v bytes
+  put-part low e f h k =
+      part-each p w (take w low) bytes k (omega (arith, length-take w low, ap length e)) (overlaid p w v)
+      (λ j x l. put-at j x l ∙ sym (get_or-take w low j 0 l ∙ rw e (le-byte j v f)))
+      (λ j x o. overlaid-out p w v j o x)
+      ∙ sym (put-inside h k)
 
   pub put-outside : places_inside p w (length bytes) ≡ false → bytes ≡ store_put p w v bytes
   unfolding store_put
@@ -278,16 +308,6 @@ module _ (p w v : ℕ) (bytes : List ℕ) where
 -- ---- a drained store
 
 module _ (e : StoreEntry) (memory : List ℕ) where
-  -- write-back leaves memory as it is, write-through puts the store in its place
-  pub drained-back : (p : WritePolicy) → p ≡ WriteBack → memory ≡ stored_through p e memory
-  unfolding stored_through
-  drained-back p b = rw b
-
-  pub drained-through :
-      (p : WritePolicy) → p ≡ WriteThrough → store_put e.address e.width e.value memory ≡ stored_through p e memory
-  unfolding stored_through
-  drained-through p t = rw t
-
   -- as the rules have it, where the store lies in memory
   pub drained-inside :
       (p : WritePolicy) → e.width ≤ 4 → e.address + e.width ≤ length memory → stored_through p e memory ≡ each_from (written_through_at p e) 0 memory

@@ -1,3 +1,3 @@
-pub mod EightBytes
+pub mod Chunks
 pub mod Figures
 pub mod SlotTests

@@ -1,31 +1,34 @@
 -- The tests of the records one by one are the clauses of the lines: a table passes them if and only if its lines are well formed.
--- Then the laws of the loop that makes the tests, slot by slot.
-use mathlib.Core.Path.{◌≡◌, refl, sym, ap, ap₂, subst, ◌∙◌}
-use mathlib.Core.Bool.{Bool, true, false, not, ◌&&◌, ◌||◌}
-use mathlib.Core.List.{List}
-use Prim.Native.Nat.{ℕ, suc, ◌+◌, ◌*◌, ◌-◌, ◌/◌, ◌%◌, ◌<◌, ◌≤◌}
-use native.Mathlib.Nat.{mod-lt, mod-eq_of_lt, add-mod_right, div-add-mod', div-lt_iff_lt-mul, suc-mul, mul-le-mul_right}
-use native.Mathlib.Numerals.{add-one}
+use mathlib.Core.Path.{◌≡◌, refl, sym, ap, subst, ◌∙◌}
+use mathlib.Core.Bool.{Bool, true, false, not, ◌&&◌}
+use mathlib.Core.List.{List, [], ◌∷◌}
+use Prim.Native.Nat.{ℕ, zero, suc, ◌+◌, ◌*◌, ◌-◌, ◌/◌, ◌%◌, ◌<◌, ◌≤◌}
+use native.Mathlib.Nat.{mod-lt, div-add-mod', div-lt_iff_lt-mul}
 use native.Mathlib.Omega.{arith}
-use native.Mathlib.Decide.{ℕ_discrete, dec_lt}
+use native.Mathlib.Decide.{dec_lt}
 use lib.Dec.{ltb, leb, eqb}
-use lib.ListN.{length, get_or, drop, get_or-eq_default}
-use borrow.Author.Tests.{ltb-true, ltb-false, leb-true, eqb-true, lt-ltb, le-ltb, le-leb, eq-eqb, ne_eqb, not-true, not-false}
-use Rattle.lists.specs.Padded.{every}
-use Rattle.lists.specs.Counted.{all_from}
-use Rattle.lists.proofs.Cond.{cases, and_left, and_right, and_both, or-one, or-two, or-then, or-by, none_or, wrong}
+use lib.ListN.{length, get_or, take, drop, get_or-eq_default}
+use lib.Seq.{length-take-le}
+use borrow.Author.Tests.{ltb-true, leb-true, eqb-true, lt-ltb, le-leb, eq-eqb, ne_eqb, not-true, not-false}
+use Rattle.std.specs.Cmp.Lexicographic.{bytes_decides}
+use Rattle.std.specs.Simd.{first_chunks}
+use Rattle.std.proofs.lemmas.List.{get_or-replicate, get_or-take}
+use Rattle.std.proofs.lemmas.List.Edits.{length-between, get_or-between}
+use Rattle.std.proofs.lemmas.Grind.{same_number_lists}
+use Rattle.lists.specs.Padded.{any, every}
+use Rattle.lists.proofs.Cond.{cases, and_left, and_right, and_both, or-one, or-two, or-then, or_left, or_right, or-by, none_or, wrong}
 use Rattle.lists.proofs.Counting.{all-at, all-by, every_drop}
-use Rattle.lists.proofs.CountedLoops.{all_end}
 use Rattle.rules.specs.declared.Figures.{Figures}
 use Rattle.rules.specs.declared.Tag.{Tag}
-use Rattle.rules.specs.Shape.{Hierarchy, no_tag, tag_at, slots, first_slot, sets_allowed, ways_allowed, figures_allowed, is_through, fits}
+use Rattle.rules.specs.Shape.{Hierarchy, no_tag, tag_at, slots, first_slot, is_through}
 use Rattle.rules.specs.Lines.{holds_line, is_dirty_word, dirty_at, is_dirty}
 use Rattle.rules.specs.WellFormed.{zero_tag, lines_formed}
 use Rattle.rules.proofs.Records.{set_room}
 use Rattle.rules.proofs.Dirty.{clean-byte, clean-few, no-tag-clean, no-tag-few}
 use Rattle.rules.proofs.Recency.{Ages, recency-ages, ages-recency}
 use Rattle.rules.proofs.LineFacts.{Fits, Good, good-tells, good-is}
-use Rattle.line_checks.specs.SlotTests.{same_bytes, word_good, marks_good, zero_bytes, valid_good, invalid_good, slot_good, same_age_or_line, apart_from, nothing}
+use Rattle.line_checks.specs.SlotTests.{same_bytes, word_at, line_at, word_good, marks_good, valid_good, invalid_good, record_good, same_age_or_line, way_good, set_good, of_set, sets_good}
+use Rattle.line_checks.proofs.Chunks.{chunks-long, chunk-long, chunk-at}
 
 -- ---- numbers
 
@@ -38,122 +41,127 @@ same_set : (r s w ways : ℕ) → w < ways → r * ways ≤ s * ways + w → s *
 same_set r s w ways h low high =
     level r s (λ l. let m = set_room r s ways l in omega arith) (λ l. let m = set_room s r ways l in omega arith)
 
--- "Ways: 1 to 4."
-pub few-ways : (b : Hierarchy) → fits b ≡ true → b.figures.ways ≤ 4
-unfolding fits figures_allowed
-few-ways b e =
-    let figures = and_left (figures_allowed b.figures b.size) _ e in
-    let ways = and_left (ways_allowed b.figures.ways) _ (and_right (sets_allowed b.figures.sets) _ figures) in
-    leb-true b.figures.ways 4 (and_right (leb 1 b.figures.ways) _ ways)
-
 -- ---- one record
 
--- bytes are compared one by one
-same-tells : (cache memory : List ℕ) (at from count : ℕ) → same_bytes cache at memory from count ≡ true → (i : ℕ) → i < count → get_or cache (at + i) 0 ≡ get_or memory (from + i) 0
-unfolding same_bytes
-same-tells cache memory at from count e i h = eqb-true _ _ (all-at _ count 0 e i (omega arith) (omega arith))
-
-same-is : (cache memory : List ℕ) (at from count : ℕ) → ((i : ℕ) → i < count → get_or cache (at + i) 0 ≡ get_or memory (from + i) 0) → same_bytes cache at memory from count ≡ true
-unfolding same_bytes
-same-is cache memory at from count h = all-by _ count 0 (λ i p q. eq-eqb _ _ (h i (omega arith)))
-
--- a dirty line passes if there are four marks, and each clean byte equals memory
-module _ (t : Tag) (cache memory : List ℕ) (at from : ℕ) where
+-- a dirty line passes if there are four marks, and each clean byte equals memory's
+module _ (t : Tag) (line home : List ℕ) (long : length line ≡ 16) (far : length home ≡ 16) where
   abbrev Clean : Type 0
-  Clean = (i : ℕ) → dirty_at t i ≡ false → i < 16 → get_or cache (at + i) 0 ≡ get_or memory (from + i) 0
+  Clean = (i : ℕ) → dirty_at t i ≡ false → i < 16 → get_or line i 0 ≡ get_or home i 0
 
-  marks-tell : marks_good t.dirty cache at memory from ≡ true → (t.dirty ≤ 15) × Clean
+  four : (xs : List ℕ) → length xs ≡ 16 → length xs / 4 ≡ 4
+  four xs e = rw e
+
+  word-byte : (xs : List ℕ) → length xs ≡ 16 → (n j : ℕ) → n < 4 → j < 4 → get_or (word_at xs n) j 0 ≡ get_or xs (4 * n + j) 0
+  word-byte xs e n j h l = rw (four xs e) (chunk-at 4 4 xs n j h l)
+
+  word-long : (xs : List ℕ) → length xs ≡ 16 → (n : ℕ) → n < 4 → length (word_at xs n) ≡ 4
+  word-long xs e n h = rw (four xs e) (chunk-long 4 4 xs n h (omega arith))
+
+  marks-tell : marks_good t.dirty line home ≡ true → (t.dirty ≤ 15) × Clean
   unfolding marks_good word_good dirty_at
   marks-tell e = (
     leb-true t.dirty 15 (and_left _ _ e),
     λ i d h.
-        let word = or-then (is_dirty_word t.dirty (i / 4)) _ (all-at _ 4 0 (and_right (leb t.dirty 15) _ e) (i / 4) (omega arith) (omega arith)) d in
-        let p : at + 4 * (i / 4) + i % 4 ≡ at + i = omega arith in
-        let q : from + 4 * (i / 4) + i % 4 ≡ from + i = omega arith in
-        rw (← p, ← q) (same-tells cache memory (at + 4 * (i / 4)) (from + 4 * (i / 4)) 4 word (i % 4) (omega arith)),
+        let same : word_at line (i / 4) ≡ word_at home (i / 4) =
+        (bytes_decides _ _).0 (or-then (is_dirty_word t.dirty (i / 4)) _ (all-at _ 4 0 (and_right (leb t.dirty 15) _ e) (i / 4) (omega arith) (omega arith)) d) in
+        let p : 4 * (i / 4) + i % 4 ≡ i = omega arith in
+        let q : get_or line (4 * (i / 4) + i % 4) 0 ≡ get_or home (4 * (i / 4) + i % 4) 0 =
+        sym (word-byte line long (i / 4) (i % 4) (omega arith) (omega arith))
+        ∙ (ap (λ (w : List ℕ). get_or w (i % 4) 0) same ∙ word-byte home far (i / 4) (i % 4) (omega arith) (omega arith)) in
+        rw p at q,
   )
 
-  marks-are : t.dirty ≤ 15 → Clean → marks_good t.dirty cache at memory from ≡ true
+  marks-are : t.dirty ≤ 15 → Clean → marks_good t.dirty line home ≡ true
   unfolding marks_good word_good dirty_at
   marks-are few clean =
       and_both (leb t.dirty 15) _ (le-leb t.dirty 15 few)
       (all-by _ 4 0 (λ n low high.
       or-by (is_dirty_word t.dirty n) _ (λ d.
-      same-is cache memory (at + 4 * n) (from + 4 * n) 4 (λ i h.
-      let m : (4 * n + i) / 4 ≡ n = omega arith in
-      let p : at + (4 * n + i) ≡ at + 4 * n + i = omega arith in
-      let q : from + (4 * n + i) ≡ from + 4 * n + i = omega arith in
-      rw (← p, ← q) (clean (4 * n + i) (ap (is_dirty_word t.dirty) m ∙ d) (omega arith))))))
+      (bytes_decides _ _).1
+      (same_number_lists _ _ (word-long line long n (omega arith) ∙ sym (word-long home far n (omega arith))) (λ j h.
+      let l : j < 4 = omega (arith, word-long line long n (omega arith)) in
+      let m : (4 * n + j) / 4 ≡ n = omega arith in
+      word-byte line long n j (omega arith) l
+      ∙ (clean (4 * n + j) (ap (is_dirty_word t.dirty) m ∙ d) (omega arith) ∙ sym (word-byte home far n j (omega arith) l)))))))
 
-module _ (f : Figures) (size : ℕ) (cache memory : List ℕ) (s k : ℕ) (t : Tag) where
+module _ (f : Figures) (memory : List (List ℕ)) (s : ℕ) (line : List ℕ) (t : Tag) where
   abbrev good : Bool
-  good = slot_good f size cache memory s k t
+  good = record_good f memory s line t
+
+  abbrev home : List ℕ
+  home = line_at memory t.line
 
   -- what is asked of a valid record
   pub record Valid : Type 0 where
-    pub inside : 16 * t.line < size
+    pub inside : t.line < length memory
     pub own : t.line % f.sets ≡ s
-    pub clean : (i : ℕ) → dirty_at t i ≡ false → i < 16 → get_or cache (16 * k + i) 0 ≡ get_or memory (16 * t.line + i) 0
+    pub clean : (i : ℕ) → dirty_at t i ≡ false → i < 16 → get_or line i 0 ≡ get_or home i 0
     pub undirty : is_through f.policy ≡ true → is_dirty t ≡ false
     pub few : t.dirty ≤ 15
 
   -- and of an invalid one
   pub record Invalid : Type 0 where
     pub undirty : is_dirty t ≡ false
-    pub line : t.line ≡ 0
-    pub zeroed : (i : ℕ) → i < 16 → get_or cache (16 * k + i) 0 ≡ 0
+    pub line-zero : t.line ≡ 0
+    pub zeroed : (i : ℕ) → i < 16 → get_or line i 0 ≡ 0
 
   age-tells : good ≡ true → t.age < f.ways
-  unfolding slot_good
+  unfolding record_good
   age-tells e = ltb-true t.age f.ways (and_left (ltb t.age f.ways) _ e)
 
-  valid-tells : good ≡ true → t.valid ≡ true → Valid
-  unfolding slot_good valid_good
-  valid-tells e v =
-      let g : valid_good f size cache memory s k t ≡ true = rw v at (and_right (ltb t.age f.ways) _ e) in
-      let h = and_right (ltb (16 * t.line) size) _ g in
-      let rest = and_right (eqb (t.line % f.sets) s) _ h in
-      let inside = ltb-true (16 * t.line) size (and_left (ltb (16 * t.line) size) _ g) in
-      let own = eqb-true (t.line % f.sets) s (and_left (eqb (t.line % f.sets) s) _ h) in
-      cases (is_dirty t)
-      (λ d.
-      let dirty : (not (is_through f.policy) && marks_good t.dirty cache (16 * k) memory (16 * t.line)) ≡ true = rw d at rest in
-      let marks = marks-tell t cache memory (16 * k) (16 * t.line) (and_right (not (is_through f.policy)) _ dirty) in
-      record { inside = inside; own = own; clean = marks.1; undirty = λ w. wrong w (not-true _ (and_left _ _ dirty)); few = marks.0 })
-      (λ d.
-      let same : same_bytes cache (16 * k) memory (16 * t.line) 16 ≡ true = rw d at rest in
-      record { inside = inside; own = own; clean = λ i c l. same-tells cache memory (16 * k) (16 * t.line) 16 same i l; undirty = λ w. d; few = clean-few t d })
+  module _ (long : length line ≡ 16) (far : t.line < length memory → length home ≡ 16) where
+    valid-tells : good ≡ true → t.valid ≡ true → Valid
+    unfolding record_good valid_good
+    valid-tells e v =
+        let g : valid_good f memory s line t ≡ true = rw v at (and_right (ltb t.age f.ways) _ e) in
+        let h = and_right (ltb t.line (length memory)) _ g in
+        let rest = and_right (eqb (t.line % f.sets) s) _ h in
+        let inside = ltb-true t.line (length memory) (and_left (ltb t.line (length memory)) _ g) in
+        let own = eqb-true (t.line % f.sets) s (and_left (eqb (t.line % f.sets) s) _ h) in
+        cases (is_dirty t)
+        (λ d.
+        let dirty : (not (is_through f.policy) && marks_good t.dirty line home) ≡ true = rw d at rest in
+        let marks = marks-tell t line home long (far inside) (and_right (not (is_through f.policy)) _ dirty) in
+        record { inside = inside; own = own; clean = marks.1; undirty = λ w. wrong w (not-true _ (and_left _ _ dirty)); few = marks.0 })
+        (λ d.
+        let same : same_bytes line home ≡ true = rw d at rest in
+        record { inside = inside; own = own; clean = λ i c l. ap (λ (b : List ℕ). get_or b i 0) ((bytes_decides _ _).0 same); undirty = λ w. d; few = clean-few t d })
+
+    record-is : t.age < f.ways → (t.valid ≡ true → Valid) → (t.valid ≡ false → Invalid) → good ≡ true
+    unfolding record_good valid_good invalid_good
+    record-is a p g =
+        and_both (ltb t.age f.ways) _ (lt-ltb t.age f.ways a)
+        (cases t.valid
+        (λ v.
+        let h = p v in
+        rw v
+        (and_both _ _ (lt-ltb t.line (length memory) h.inside)
+        (and_both _ _ (eq-eqb (t.line % f.sets) s h.own)
+        (cases (is_dirty t)
+        (λ d. rw d (and_both (not (is_through f.policy)) _ (cases (is_through f.policy) (λ w. wrong d (h.undirty w)) (λ w. ap not w))
+        (marks-are t line home long (far h.inside) h.few h.clean)))
+        (λ d.
+        rw d ((bytes_decides _ _).1
+        (same_number_lists _ _ (long ∙ sym (far h.inside)) (λ i l. h.clean i (clean-byte t i d) (omega arith)))))))))
+        (λ v.
+        let h = g v in
+        rw v
+        (and_both _ _ (not-false (eqb t.dirty 0) h.undirty)
+        (and_both _ _ (eq-eqb t.line 0 h.line-zero)
+        ((bytes_decides _ _).1
+        (same_number_lists _ _ long (λ i l. h.zeroed i (omega arith) ∙ sym (get_or-replicate 16 i 0 0 (omega arith)))))))))
 
   invalid-tells : good ≡ true → t.valid ≡ false → Invalid
-  unfolding slot_good invalid_good zero_bytes
+  unfolding record_good invalid_good
   invalid-tells e v =
-      let g : invalid_good cache k t ≡ true = rw v at (and_right (ltb t.age f.ways) _ e) in
+      let g : invalid_good line t ≡ true = rw v at (and_right (ltb t.age f.ways) _ e) in
       let h = and_right (eqb t.dirty 0) _ g in
+      let same = (bytes_decides _ _).0 (and_right (eqb t.line 0) _ h) in
       record {
         undirty = ap not (and_left (eqb t.dirty 0) _ g);
-        line = eqb-true t.line 0 (and_left (eqb t.line 0) _ h);
-        zeroed = λ i l. eqb-true _ 0 (all-at _ 16 0 (and_right (eqb t.line 0) _ h) i (omega arith) (omega arith));
+        line-zero = eqb-true t.line 0 (and_left (eqb t.line 0) _ h);
+        zeroed = λ i l. ap (λ (b : List ℕ). get_or b i 0) same ∙ get_or-replicate 16 i 0 0 l;
       }
-
-  slot_is : t.age < f.ways → (t.valid ≡ true → Valid) → (t.valid ≡ false → Invalid) → good ≡ true
-  unfolding slot_good valid_good invalid_good zero_bytes
-  slot_is a p g =
-      and_both (ltb t.age f.ways) _ (lt-ltb t.age f.ways a)
-      (cases t.valid
-      (λ v.
-      let h = p v in
-      rw v
-      (and_both _ _ (lt-ltb (16 * t.line) size h.inside)
-      (and_both _ _ (eq-eqb (t.line % f.sets) s h.own)
-      (cases (is_dirty t)
-      (λ d. rw d (and_both (not (is_through f.policy)) _ (cases (is_through f.policy) (λ w. wrong d (h.undirty w)) (λ w. ap not w))
-      (marks-are t cache memory (16 * k) (16 * t.line) h.few h.clean)))
-      (λ d. rw d (same-is cache memory (16 * k) (16 * t.line) 16 (λ i l. h.clean i (clean-byte t i d) l)))))))
-      (λ v.
-      let h = g v in
-      rw v
-      (and_both _ _ (not-false (eqb t.dirty 0) h.undirty)
-      (and_both _ _ (eq-eqb t.line 0 h.line) (all-by _ 16 0 (λ i p q. eq-eqb _ 0 (h.zeroed i (omega arith))))))))
 
 -- ---- two records
 
@@ -188,58 +196,70 @@ zero-tells t e =
     let s = eqb-true t.age 0 (and_right (eqb t.line 0) _ g) in
     λ i. record { valid = p i; dirty = q i; line = r i; age = s i }
 
--- ---- the loop over the unused records: no flag so far, and a sum of 0, is "all zero so far"
+-- ---- the lines of the table
 
-sum-zero : (a b : ℕ) → eqb (a + b) 0 ≡ (eqb a 0 && eqb b 0)
-sum-zero a b =
-    cases (eqb a 0 && eqb b 0)
-    (λ e.
-    let p = eqb-true a 0 (and_left (eqb a 0) _ e) in
-    let q = eqb-true b 0 (and_right (eqb a 0) _ e) in
-    eq-eqb (a + b) 0 (omega arith) ∙ sym e)
-    (λ e. ne_eqb (a + b) 0 (λ z. wrong (and_both (eqb a 0) _ (eq-eqb a 0 (omega arith)) (eq-eqb b 0 (omega arith))) e) ∙ sym e)
+-- no entry before place w passes the test
+none-at : {A : Type 0} (p : A → Bool) (d : A) (w : ℕ) (xs : List A) (j : ℕ) → any p (take w xs) ≡ false → j < w → j < length xs → p (get_or xs j d) ≡ false
+unfolding any
+none-at p d zero xs j e h l = absurd (omega arith)
+none-at p d (suc w) [] j e h l = absurd (omega arith)
+none-at p d (suc w) (x ∷ xs) zero e h l = or_left (p x) _ e
+none-at p d (suc w) (x ∷ xs) (suc j) e h l = none-at p d w xs j (or_right (p x) _ e) (omega arith) (omega arith)
 
-pub nothing-next : (some : Bool) (sum : ℕ) (t : Tag) (rest : Bool) → (nothing some sum && (zero_tag t && rest)) ≡ (nothing (some || t.valid) (sum + (t.dirty + (t.line + t.age))) && rest)
-unfolding zero_tag
-nothing-next true sum t rest = refl
-nothing-next false sum t rest =
-    cases t.valid
-    (λ v. rw v (cases (eqb sum 0) (λ e. rw e) (λ e. rw e)))
-    (λ v. rw (v, sum-zero sum (t.dirty + (t.line + t.age)), sum-zero t.dirty (t.line + t.age), sum-zero t.line t.age) (moved (eqb sum 0) _))
-  where
-    moved : (a b : Bool) → (a && (b && rest)) ≡ ((a && b) && rest)
-    moved true b = refl
-    moved false b = refl
-
-module _ (tags : List Tag) where
-  -- the records from slot k on are zero
-  abbrev pub zero_from : ℕ → Bool
-  zero_from k = all_from (λ k. zero_tag (tag_at tags k)) k (256 - k)
-
-  pub zero-step :
-      (k : ℕ) (some : Bool) {more : Bool} (sum : ℕ) {r : ℕ} → k < 256 → more ≡ (some || (tag_at tags k).valid)
-      → r ≡ (tag_at tags k).dirty + ((tag_at tags k).line + (tag_at tags k).age) → (nothing some sum && zero_from k) ≡ (nothing more (sum + r) && zero_from (k + 1))
-  unfolding all_from
-  zero-step k some sum h e f =
-      let g : 256 - k ≡ suc (256 - suc k) = omega arith in
-      rw (g, add-one, e, f) (nothing-next some sum (tag_at tags k) _)
-
-  pub zero-end : (k : ℕ) {some : Bool} (sum : ℕ) → 256 ≤ k → some ≡ false → (nothing some sum && zero_from k) ≡ eqb sum 0
-  zero-end k sum h e = rw (e, all_end (λ k. zero_tag (tag_at tags k)) k 256 h) (cases (eqb sum 0) (λ t. rw t) (λ t. rw t))
-
--- ---- the tests of each slot
+none-by : {A : Type 0} (p : A → Bool) (d : A) (w : ℕ) (xs : List A) → ((j : ℕ) → j < w → p (get_or xs j d) ≡ false) → any p (take w xs) ≡ false
+unfolding any
+none-by p d zero xs h = refl
+none-by p d (suc w) [] h = refl
+none-by p d (suc w) (x ∷ xs) h = none_or (p x) _ (h 0 (omega arith)) (none-by p d w xs (λ j l. h (suc j) (omega arith)))
 
 module _ (b : Hierarchy) where
+  -- the lines of the cache and of memory
+  abbrev pub cache_lines : List (List ℕ)
+  cache_lines = first_chunks 16 (length b.cache / 16) b.cache
+
+  abbrev pub memory_lines : List (List ℕ)
+  memory_lines = first_chunks 16 (length b.memory / 16) b.memory
+
   -- the record of way w of set s
   abbrev tag : ℕ → ℕ → Tag
   tag s w = tag_at b.tags (s * b.figures.ways + w)
 
+  -- its line
+  abbrev line : ℕ → ℕ → List ℕ
+  line s w = line_at cache_lines (s * b.figures.ways + w)
+
   pub record Passed (s w : ℕ) : Type 0 where
-    pub alone : slot_good b.figures b.size b.cache b.memory s (s * b.figures.ways + w) (tag s w) ≡ true
+    pub alone : record_good b.figures memory_lines s (line s w) (tag s w) ≡ true
     pub apart : (j : ℕ) → j < w → same_age_or_line (tag s j) (tag s w) ≡ false
 
+module _ (b : Hierarchy) (fit : Fits b) where
+  as_many : length b.cache / 16 ≡ slots b
+  as_many = omega (arith, fit.cache-long)
+
+  line-long : (k : ℕ) → k < slots b → length (line_at (cache_lines b) k) ≡ 16
+  line-long k h = chunk-long 16 (length b.cache / 16) b.cache k (omega (arith, as_many)) (omega arith)
+
+  line-byte : (k i : ℕ) → k < slots b → i < 16 → get_or (line_at (cache_lines b) k) i 0 ≡ get_or b.cache (16 * k + i) 0
+  line-byte k i h l = chunk-at 16 (length b.cache / 16) b.cache k i (omega (arith, as_many)) l
+
+  home-in : (l : ℕ) → l < length (memory_lines b) → l < length b.memory / 16
+  home-in l h = omega (arith, chunks-long 16 (length b.memory / 16) b.memory)
+
+  home-long : (l : ℕ) → l < length (memory_lines b) → length (line_at (memory_lines b) l) ≡ 16
+  home-long l h = chunk-long 16 (length b.memory / 16) b.memory l (home-in l h) (omega arith)
+
+  home-byte : (l i : ℕ) → l < length (memory_lines b) → i < 16 → get_or (line_at (memory_lines b) l) i 0 ≡ get_or b.memory (16 * l + i) 0
+  home-byte l i h m = chunk-at 16 (length b.memory / 16) b.memory l i (home-in l h) m
+
+  -- a line lies in memory
+  in-size : (l : ℕ) → l < length (memory_lines b) → 16 * l < b.size
+  in-size l h = omega (arith, home-in l h, fit.memory-long)
+
+  in-lines : (l : ℕ) → 16 * l < b.size → l < length (memory_lines b)
+  in-lines l h = omega (arith, chunks-long 16 (length b.memory / 16) b.memory, fit.memory-long, fit.by_lines)
+
 -- a well-formed table passes
-module _ (b : Hierarchy) (g : Good b) (s w : ℕ) (s-in : s < b.figures.sets) (w-in : w < b.figures.ways) where
+module _ (b : Hierarchy) (fit : Fits b) (g : Good b) (s w : ℕ) (s-in : s < b.figures.sets) (w-in : w < b.figures.ways) where
   abbrev k : ℕ
   k = s * b.figures.ways + w
 
@@ -253,19 +273,22 @@ module _ (b : Hierarchy) (g : Good b) (s w : ℕ) (s-in : s < b.figures.sets) (w
   good-passes =
       record {
         alone =
-            slot_is b.figures b.size b.cache b.memory s k (tag b s w)
+            record-is b.figures (memory_lines b) s (line b s w) (tag b s w)
+            (line-long b fit k in_use) (home-long b fit (tag b s w).line)
             (ages-in.small k (omega arith) (omega arith))
-            (λ v. record {
-              inside = g.lines.inside k v;
+            (λ v.
+            let inside = in-lines b fit (tag b s w).line (g.lines.inside k v) in
+            record {
+              inside = inside;
               own = same_set _ s w b.figures.ways w-in (g.lines.own k v).0 (g.lines.own k v).1;
-              clean = λ i d l. g.clean k i v d l;
+              clean = λ i d l. line-byte b fit k i in_use l ∙ (g.clean k i v d l ∙ sym (home-byte b fit (tag b s w).line i inside l));
               undirty = λ w. g.none-dirty w k;
               few = g.four-marks k;
             })
             (λ v. record {
               undirty = (g.empty k v).0;
-              line = (g.empty k v).1;
-              zeroed = λ i l. g.zeroed k i in_use v l;
+              line-zero = (g.empty k v).1;
+              zeroed = λ i l. line-byte b fit k i in_use l ∙ g.zeroed k i in_use v l;
             });
         apart = λ j l.
             apart-is (tag b s j) (tag b s w)
@@ -282,6 +305,9 @@ module _ (b : Hierarchy) (fit : Fits b) (table : length b.tags ≡ 256) (unused 
       subst P (div-add-mod' k b.figures.ways)
       (h (k / b.figures.ways) (k % b.figures.ways) ((div-lt_iff_lt-mul fit.some-way).1 l) (mod-lt k fit.some-way))
 
+  in_table : (s w : ℕ) → s < b.figures.sets → w < b.figures.ways → s * b.figures.ways + w < slots b
+  in_table s w p q = let m = set_room s b.figures.sets b.figures.ways p in omega arith
+
   past : (k : ℕ) → slots b ≤ k → tag_at b.tags k ≡ no_tag
   past k h =
       elim (dec_lt k 256) [
@@ -295,13 +321,13 @@ module _ (b : Hierarchy) (fit : Fits b) (table : length b.tags ≡ 256) (unused 
 
   valid-at :
       (s w : ℕ) → s < b.figures.sets → w < b.figures.ways → (tag b s w).valid ≡ true
-      → Valid b.figures b.size b.cache b.memory s (s * b.figures.ways + w) (tag b s w)
-  valid-at s w p q v = valid-tells _ _ _ _ s _ _ (passes s w p q).alone v
+      → Valid b.figures (memory_lines b) s (line b s w) (tag b s w)
+  valid-at s w p q v = valid-tells _ _ s _ _ (line-long b fit _ (in_table s w p q)) (home-long b fit _) (passes s w p q).alone v
 
   invalid-at :
       (s w : ℕ) → s < b.figures.sets → w < b.figures.ways → (tag b s w).valid ≡ false
-      → Invalid b.figures b.size b.cache b.memory s (s * b.figures.ways + w) (tag b s w)
-  invalid-at s w p q v = invalid-tells _ _ _ _ s _ _ (passes s w p q).alone v
+      → Invalid b.figures (memory_lines b) s (line b s w) (tag b s w)
+  invalid-at s w p q v = invalid-tells _ _ s _ _ (passes s w p q).alone v
 
   -- two ways of a set that may not stand together are the same
   one_way :
@@ -313,7 +339,7 @@ module _ (b : Hierarchy) (fit : Fits b) (table : length b.tags ≡ 256) (unused 
   ages : (s : ℕ) → s < b.figures.sets → Ages b.tags b.figures.ways (s * b.figures.ways)
   ages s h =
       record {
-        small = λ k p q. in-set (λ k. (tag_at b.tags k).age < b.figures.ways) (λ w l. age-tells _ _ _ _ s _ _ (passes s w h l).alone) k p q;
+        small = λ k p q. in-set (λ k. (tag_at b.tags k).age < b.figures.ways) (λ w l. age-tells _ _ s _ _ (passes s w h l).alone) k p q;
         same = λ j k p q r t. in-set (λ j. (tag_at b.tags j).age ≡ (tag_at b.tags k).age → j ≡ k)
             (λ v m. in-set (λ k. (tag b s v).age ≡ (tag_at b.tags k).age → s * b.figures.ways + v ≡ k)
             (λ w n e. let z = one_way s v w h m n (same-age _ _ e) (same-age _ _ (sym e)) in omega arith) k r t)
@@ -344,7 +370,7 @@ module _ (b : Hierarchy) (fit : Fits b) (table : length b.tags ≡ 256) (unused 
         unused = past;
         recency = ages-recency b ages;
         lines = record {
-          inside = λ k v. by_way (λ k. (tag_at b.tags k).valid ≡ true → 16 * (tag_at b.tags k).line < b.size) (λ s w p q v. (valid-at s w p q v).inside) k (here k v) v;
+          inside = λ k v. by_way (λ k. (tag_at b.tags k).valid ≡ true → 16 * (tag_at b.tags k).line < b.size) (λ s w p q v. in-size b fit _ (valid-at s w p q v).inside) k (here k v) v;
           own = λ k v.
               by_way (λ k. (tag_at b.tags k).valid ≡ true → (first_slot b (tag_at b.tags k).line ≤ k) × (k < first_slot b (tag_at b.tags k).line + b.figures.ways))
               (λ s w p q v. rw (valid-at s w p q v).own (omega arith, omega arith)) k (here k v) v;
@@ -356,15 +382,17 @@ module _ (b : Hierarchy) (fit : Fits b) (table : length b.tags ≡ 256) (unused 
         };
         clean = λ k i v d l.
             by_way (λ k. (tag_at b.tags k).valid ≡ true → dirty_at (tag_at b.tags k) i ≡ false → get_or b.cache (16 * k + i) 0 ≡ get_or b.memory (16 * (tag_at b.tags k).line + i) 0)
-            (λ s w p q v d. (valid-at s w p q v).clean i d l) k (here k v) v d;
+            (λ s w p q v d.
+            let h = valid-at s w p q v in
+            sym (line-byte b fit _ i (in_table s w p q) l) ∙ (h.clean i d l ∙ home-byte b fit _ i h.inside l)) k (here k v) v d;
         empty = λ k v.
             elim (dec_lt k (slots b)) [
               | yes h ↦ by_way (λ k. (tag_at b.tags k).valid ≡ false → (is_dirty (tag_at b.tags k) ≡ false) × ((tag_at b.tags k).line ≡ 0))
-                  (λ s w p q v. ((invalid-at s w p q v).undirty, (invalid-at s w p q v).line)) k h v
+                  (λ s w p q v. ((invalid-at s w p q v).undirty, (invalid-at s w p q v).line-zero)) k h v
               | no h ↦ let q = past k (omega arith) in (ap is_dirty q ∙ no-tag-clean, ap (λ (t : Tag). t.line) q)
             ];
         zeroed = λ k i h v l.
-            by_way (λ k. (tag_at b.tags k).valid ≡ false → get_or b.cache (16 * k + i) 0 ≡ 0) (λ s w p q v. (invalid-at s w p q v).zeroed i l) k h v;
+            by_way (λ k. (tag_at b.tags k).valid ≡ false → get_or b.cache (16 * k + i) 0 ≡ 0) (λ s w p q v. sym (line-byte b fit _ i (in_table s w p q) l) ∙ (invalid-at s w p q v).zeroed i l) k h v;
         none-dirty = λ t k.
             elim (dec_lt k (slots b)) [
               | yes h ↦ by_way (λ k. is_dirty (tag_at b.tags k) ≡ false)
@@ -379,167 +407,78 @@ module _ (b : Hierarchy) (fit : Fits b) (table : length b.tags ≡ 256) (unused 
             ];
       }
 
--- ---- the answer
+-- ---- the tests of the code
 
-module _ (b : Hierarchy) where
-  pub all-passed :
-      Fits b → length b.tags ≡ 256 → every zero_tag (drop (slots b) b.tags) ≡ true
-      → ((s w : ℕ) → s < b.figures.sets → w < b.figures.ways → Passed b s w) → lines_formed b ≡ true
-  all-passed fit table unused passes = good-is b (passes-good b fit table unused passes)
+module _ (b : Hierarchy) (fit : Fits b) (table : length b.tags ≡ 256) where
+  -- the records in use
+  abbrev pub used : List Tag
+  used = take (slots b) b.tags
 
-  one-failed : (s w : ℕ) → s < b.figures.sets → w < b.figures.ways → (Passed b s w → ⊥) → lines_formed b ≡ false
-  one-failed s w p q fails = cases (lines_formed b) (λ e. absurd (fails (good-passes b (good-tells b e) s w p q))) (λ e. e)
+  used-long : length used ≡ slots b
+  used-long = length-take-le (slots b) b.tags (omega (arith, table, fit.room))
 
-  pub unused-failed : every zero_tag (drop (slots b) b.tags) ≡ false → lines_formed b ≡ false
-  unfolding lines_formed every
-  unused-failed e = cases (eqb (length b.tags) 256) (λ t. rw (t, e)) (λ t. rw t)
+  module _ (s : ℕ) (s-in : s < b.figures.sets) where
+    abbrev set : List Tag
+    set = of_set b.figures used s
 
--- ---- a record and the three before it
+    abbrev lines : List (List ℕ)
+    lines = of_set b.figures (cache_lines b) s
 
-module _ (t1 t2 t3 : Tag) (w : ℕ) (t : Tag) where
-  -- t may stand with the record that stands i places before it
-  abbrev pub Clear : ℕ → Tag → Type 0
-  Clear i u = i ≤ w → same_age_or_line u t ≡ false
+    room : s * b.figures.ways + b.figures.ways ≤ slots b
+    room = set_room s b.figures.sets b.figures.ways s-in
 
-  apart-tells : apart_from t1 t2 t3 w t ≡ true → Clear 1 t1 × Clear 2 t2 × Clear 3 t3
-  unfolding apart_from
-  apart-tells e =
-      let first : 1 ≤ w → _ ≡ true = λ h. or-then (ltb w 1) _ e (le-ltb w 1 h) in
-      let second : 2 ≤ w → _ ≡ true = λ h. or-then (ltb w 2) _ (and_right (not (same_age_or_line t1 t)) _ (first (omega arith))) (le-ltb w 2 h) in (
-        λ h. not-true _ (and_left (not (same_age_or_line t1 t)) _ (first h)),
-        λ h. not-true _ (and_left (not (same_age_or_line t2 t)) _ (second h)),
-        λ h. not-true _ (or-then (ltb w 3) _ (and_right (not (same_age_or_line t2 t)) _ (second (omega arith))) (le-ltb w 3 h)),
-      )
+    set_long : length set ≡ b.figures.ways
+    set_long = length-between used (s * b.figures.ways) (s * b.figures.ways + b.figures.ways) (omega (arith, room, used-long)) ∙ omega arith
 
-  apart_by : Clear 1 t1 → Clear 2 t2 → Clear 3 t3 → apart_from t1 t2 t3 w t ≡ true
-  unfolding apart_from
-  apart_by p q r =
-      or-by (ltb w 1) _ λ e.
-      and_both _ _ (ap not (p (ltb-false w 1 e)))
-      (or-by (ltb w 2) _ λ f.
-      and_both _ _ (ap not (q (ltb-false w 2 f)))
-      (or-by (ltb w 3) _ λ g. ap not (r (ltb-false w 3 g))))
+    set-tag : (w : ℕ) → w < b.figures.ways → tag_at set w ≡ tag b s w
+    set-tag w h = get_or-between used (s * b.figures.ways) (s * b.figures.ways + b.figures.ways) w no_tag (omega arith) ∙ get_or-take (slots b) b.tags _ no_tag (omega (arith, room))
 
--- ---- the loop over the slots: before slot k, way w of set s, the slots below k have passed
+    set-line : (w : ℕ) → w < b.figures.ways → line_at lines w ≡ line b s w
+    set-line w h = get_or-between (cache_lines b) (s * b.figures.ways) (s * b.figures.ways + b.figures.ways) w [] (omega arith)
 
-module _ (b : Hierarchy) where
-  pub record Scanned (s w k : ℕ) : Type 0 where
-    pub at : k ≡ s * b.figures.ways + w
-    pub way : w < b.figures.ways
-    pub passed : (r v : ℕ) → v < b.figures.ways → r * b.figures.ways + v < k → Passed b r v
+    way-tells : (w : ℕ) → w < b.figures.ways → way_good b.figures (memory_lines b) s set lines w ≡ true → Passed b s w
+    unfolding way_good
+    way-tells w h e =
+        let f : (record_good b.figures (memory_lines b) s (line b s w) (tag b s w) && not (any (λ u. same_age_or_line u (tag b s w)) (take w set))) ≡ true =
+        rw (set-tag w h, set-line w h) at e in
+        record {
+          alone = and_left _ _ f;
+          apart = λ j l. rw (set-tag j (omega arith)) at
+              (none-at (λ u. same_age_or_line u (tag b s w)) no_tag w set j (not-true _ (and_right (record_good b.figures (memory_lines b) s (line b s w) (tag b s w)) _ f)) l (omega (arith, set_long)));
+        }
 
-  pub scan-start : 0 < b.figures.ways → Scanned 0 0 0
-  scan-start h =
-      record {
-        at = omega arith;
-        way = h;
-        passed = λ r v p l. let no : ⊥ = omega arith in absurd no;
-      }
+    way-is : (w : ℕ) → w < b.figures.ways → Passed b s w → way_good b.figures (memory_lines b) s set lines w ≡ true
+    unfolding way_good
+    way-is w h p =
+        rw (set-tag w h, set-line w h)
+        (and_both _ _ p.alone (ap not (none-by (λ u. same_age_or_line u (tag b s w)) no_tag w set (λ j l. rw (set-tag j (omega arith)) (p.apart j l)))))
 
-module _ {b : Hierarchy} {s w k : ℕ} (h : Scanned b s w k) where
-  pub scan-end : slots b ≤ k → (r v : ℕ) → r < b.figures.sets → v < b.figures.ways → Passed b r v
-  scan-end l r v p q = let m = set_room r b.figures.sets b.figures.ways p in h.passed r v q (omega arith)
+    set-tells : set_good b.figures (memory_lines b) s set lines ≡ true → (w : ℕ) → w < b.figures.ways → Passed b s w
+    unfolding set_good
+    set-tells e w h = way-tells w h (all-at _ (length set) 0 e w (omega arith) (omega (arith, set_long)))
 
-  pub scan-set : k < slots b → s < b.figures.sets
-  scan-set l =
-      elim (dec_lt s b.figures.sets) [
-        | yes p ↦ p
-        | no p ↦
-            let m : b.figures.sets * b.figures.ways ≤ s * b.figures.ways = mul-le-mul_right b.figures.ways (omega arith) in
-            let e = h.at in
-            let no : ⊥ = omega arith in
-            absurd no
-      ]
+    set-is : ((w : ℕ) → w < b.figures.ways → Passed b s w) → set_good b.figures (memory_lines b) s set lines ≡ true
+    unfolding set_good
+    set-is p = all-by _ (length set) 0 (λ w low high. let h : w < b.figures.ways = omega (arith, set_long) in way-is w h (p w h))
 
-  -- the record that the code finds i places before slot k, counting round the table, is that of way w - i
-  before : (i m : ℕ) → i + m ≡ 256 → i ≤ w → 0 < i → k < 256 → tag_at b.tags ((k + m) % 256) ≡ tag b s (w - i)
-  before i m e l pos inside =
-      let at = h.at in
-      let f : k + m ≡ (k - i) + 256 = omega arith in
-      let z : k - i ≡ s * b.figures.ways + (w - i) = omega arith in
-      ap (tag_at b.tags) (ap (λ (n : ℕ). n % 256) f ∙ (add-mod_right (k - i) 256 ∙ (mod-eq_of_lt (omega arith) ∙ z)))
+  sets-tell : sets_good b.figures (memory_lines b) used (cache_lines b) ≡ true → (s w : ℕ) → s < b.figures.sets → w < b.figures.ways → Passed b s w
+  unfolding sets_good
+  sets-tell e s w h l = set-tells s h (all-at _ b.figures.sets 0 e s (omega arith) (omega arith)) w l
 
-  -- so it may stand with the record of slot k if and only if way w - i may
-  beside :
-      (i m : ℕ) → i + m ≡ 256 → i ≤ w → 0 < i → k < 256
-      → same_age_or_line (tag_at b.tags ((k + m) % 256)) (tag_at b.tags k) ≡ same_age_or_line (tag b s (w - i)) (tag b s w)
-  beside i m e l pos inside = ap₂ same_age_or_line (before i m e l pos inside) (ap (tag_at b.tags) h.at)
+  sets-are : ((s w : ℕ) → s < b.figures.sets → w < b.figures.ways → Passed b s w) → sets_good b.figures (memory_lines b) used (cache_lines b) ≡ true
+  unfolding sets_good
+  sets-are p = all-by _ b.figures.sets 0 (λ s low high. let h : s < b.figures.sets = omega arith in set-is s h (λ w l. p s w h l))
 
-  -- r is the answer of the test of slot k by itself, q that of the test against the records before it
-  module _ {r : Bool} (tested : r ≡ slot_good b.figures b.size b.cache b.memory s k (tag_at b.tags k)) where
-    pub scan-alone-fails : k < slots b → r ≡ false → lines_formed b ≡ false
-    scan-alone-fails l e =
-        one-failed b s w (scan-set l) h.way λ p.
-        wrong (subst (λ (k : ℕ). slot_good b.figures b.size b.cache b.memory s k (tag_at b.tags k) ≡ true) (sym h.at) p.alone) (sym tested ∙ e)
+  -- the records in use pass: the clauses hold if the unused ones are zero
+  pub lines-are : every zero_tag (drop (slots b) b.tags) ≡ true → sets_good b.figures (memory_lines b) used (cache_lines b) ≡ lines_formed b
+  lines-are unused =
+      cases (lines_formed b)
+      (λ e. sets-are (λ s w p q. good-passes b fit (good-tells b e) s w p q) ∙ sym e)
+      (λ e.
+      cases (sets_good b.figures (memory_lines b) used (cache_lines b))
+      (λ t. wrong (good-is b (passes-good b fit table unused (sets-tell t))) e)
+      (λ t. t ∙ sym e))
 
-    module _ (inside : k < 256) {q : Bool}
-        (compared : q ≡ apart_from (tag_at b.tags ((k + 255) % 256)) (tag_at b.tags ((k + 254) % 256)) (tag_at b.tags ((k + 253) % 256)) w (tag_at b.tags k)) where
-      pub scan-apart-fails : k < slots b → q ≡ false → lines_formed b ≡ false
-      scan-apart-fails l e =
-          one-failed b s w (scan-set l) h.way λ p.
-          wrong
-          (apart_by _ _ _ w _
-          (λ m. beside 1 255 refl m (omega arith) inside ∙ p.apart (w - 1) (omega arith))
-          (λ m. beside 2 254 refl m (omega arith) inside ∙ p.apart (w - 2) (omega arith))
-          (λ m. beside 3 253 refl m (omega arith) inside ∙ p.apart (w - 3) (omega arith)))
-          (sym compared ∙ e)
-
-      module _ (few : b.figures.ways ≤ 4) (alone : r ≡ true) (apart : q ≡ true) where
-        -- way j, which stands i places before way w
-        apart-at : (i m j : ℕ) → i + m ≡ 256 → 0 < i → j + i ≡ w → Clear (tag_at b.tags ((k + 255) % 256)) (tag_at b.tags ((k + 254) % 256)) (tag_at b.tags ((k + 253) % 256)) w
-            (tag_at b.tags k) i (tag_at b.tags ((k + m) % 256)) → same_age_or_line (tag b s j) (tag b s w) ≡ false
-        apart-at i m j e pos f g =
-            let l : i ≤ w = omega arith in
-            let z : w - i ≡ j = omega arith in
-            subst (λ (j : ℕ). same_age_or_line (tag b s j) (tag b s w) ≡ false) z (sym (beside i m e l pos inside) ∙ g l)
-
-        passes-here : Passed b s w
-        passes-here =
-            let clear = apart-tells _ _ _ w _ (sym compared ∙ apart) in
-            let way = h.way in
-            record {
-              alone = subst (λ (k : ℕ). slot_good b.figures b.size b.cache b.memory s k (tag_at b.tags k) ≡ true) h.at (sym tested ∙ alone);
-              apart = λ j l.
-                  elim (ℕ_discrete (j + 1) w) [
-                    | yes e ↦ apart-at 1 255 j refl (omega arith) e clear.0
-                    | no d ↦ elim (ℕ_discrete (j + 2) w) [
-                      | yes e ↦ apart-at 2 254 j refl (omega arith) e clear.1
-                      | no f ↦ apart-at 3 253 j refl (omega arith) (omega arith) clear.2
-                    ]
-                  ];
-            }
-
-        below_next : (r v : ℕ) → v < b.figures.ways → r * b.figures.ways + v < k + 1 → Passed b r v
-        below_next r v p l =
-            elim (dec_lt (r * b.figures.ways + v) k) [
-              | yes m ↦ h.passed r v p m
-              | no m ↦
-                  let e = h.at in
-                  let way = h.way in
-                  let q : r ≡ s = same_set r s w b.figures.ways way (omega arith) (omega arith) in
-                  let f : r * b.figures.ways ≡ s * b.figures.ways = ap (λ (r : ℕ). r * b.figures.ways) q in
-                  let z : v ≡ w = omega arith in
-                  subst (λ (r : ℕ). Passed b r v) (sym q) (subst (λ (v : ℕ). Passed b s v) (sym z) passes-here)
-            ]
-
-        -- the set goes on
-        pub scan-on : (w + 1 ≡ b.figures.ways → ⊥) → Scanned b s (w + 1) (k + 1)
-        scan-on more =
-            let e = h.at in
-            let way = h.way in
-            record {
-              at = omega arith;
-              way = omega arith;
-              passed = below_next;
-            }
-
-        -- the set ends
-        pub scan-wrap : w + 1 ≡ b.figures.ways → Scanned b (s + 1) 0 (k + 1)
-        scan-wrap last =
-            let e = h.at in
-            let f : (s + 1) * b.figures.ways ≡ s * b.figures.ways + b.figures.ways = ap (λ (n : ℕ). n * b.figures.ways) (add-one s) ∙ suc-mul s b.figures.ways in
-            record {
-              at = omega arith;
-              way = omega arith;
-              passed = below_next;
-            }
+pub unused-failed : (b : Hierarchy) → every zero_tag (drop (slots b) b.tags) ≡ false → lines_formed b ≡ false
+unfolding lines_formed every
+unused-failed b e = cases (eqb (length b.tags) 256) (λ t. rw (t, e)) (λ t. rw t)

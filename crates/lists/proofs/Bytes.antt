@@ -4,7 +4,7 @@ use mathlib.Core.Path.{◌≡◌, refl, sym, ◌∙◌, ap, ap₂}
 use mathlib.Core.Bool.{Bool, true, false, cond, not}
 use mathlib.Core.List.{List}
 use mathlib.Core.Option.{Option, some, none}
-use native.Mathlib.Nat.{pow-suc, pow-succ', pow-le-pow_right, div-div-eq-div-mul, div-one, div-eq_of_lt}
+use native.Mathlib.Nat.{pow-suc, pow-succ', pow-le-pow_right, div-div-eq-div-mul, div-eq_of_lt}
 use native.Mathlib.Omega.{arith}
 use lib.Dec.{ltb, leb, eqb}
 use lib.ListN.{length, get_or, length-set}
@@ -90,18 +90,6 @@ bytes-value (suc w) c a v m h l =
         let q : c + suc k ≡ suc c + k = omega arith in
         rw (p, q) at (f (suc k) (omega arith))
 
-pub put-value : (w a v : ℕ) (m : List ℕ) → a + w ≤ length m → v < 256 ^ w → value_at (put w a v m) a w ≡ v
-put-value w a v m inside small = bytes-value w 0 a v (put w a v m) stands (omega (arith, whole)) ∙ whole
-  where
-    whole : v / 256 ^ 0 ≡ v
-    whole = div-one v
-
-    stands : (k : ℕ) → k < w → get_or (put w a v m) (a + k) 0 ≡ byte_of (0 + k) v
-    stands k lt =
-        let p : (a + k) - a ≡ 0 + k = omega arith in
-        put_byte w a v m (a + k) (omega arith)
-        ∙ rw (and_both (leb a (a + k)) (ltb (a + k) (a + w)) (le-leb a (a + k) (omega arith)) (lt-ltb (a + k) (a + w) (omega arith)), p)
-
 -- ---- bytes by a shift, and covered places by a difference
 
 byte_power : (k : ℕ) → 2 ^ (8 * k) ≡ 256 ^ k
@@ -109,10 +97,6 @@ byte_power zero = refl
 byte_power (suc k) =
     let e : 8 * suc k ≡ 8 * k + 8 = omega arith in
     ap (λ (n : ℕ). 2 ^ n) e ∙ pow-add 2 (8 * k) 8 ∙ ap (λ (n : ℕ). n * 256) (byte_power k) ∙ sym (pow-suc 256 k)
-
-pub byte-shifted : (k v : ℕ) → v / 2 ^ (8 * k) % 256 ≡ byte_of k v
-unfolding byte_of
-byte-shifted k v = ap (λ (n : ℕ). v / n % 256) (byte_power k)
 
 -- a value of w bytes has no others
 pub byte_above : (w k v : ℕ) → v < 256 ^ w → w ≤ k → 0 ≡ byte_of k v
@@ -122,8 +106,3 @@ byte_above w k v h l =
     let more : 256 ^ w ≤ 256 ^ k = pow-le-pow_right some l in
     let less : v < 256 ^ k = omega arith in
     sym (ap (λ (n : ℕ). n % 256) (div-eq_of_lt less))
-
-pub among-from : (p w j : ℕ) → p ≤ j → ltb (j - p) w ≡ among p w j
-among-from p w j h = rw (le-leb p j h) (cases (ltb (j - p) w)
-    (λ e. e ∙ sym (lt-ltb j (p + w) (omega (arith, ltb-true (j - p) w e))))
-    (λ e. e ∙ sym (le-ltb j (p + w) (omega (arith, ltb-false (j - p) w e)))))

@@ -1,10 +1,10 @@
 -- Laws of `cond` and of tests.
-use Prim.Native.Nat.{ℕ, ◌≤◌, ◌<◌}
+use Prim.Native.Nat.{ℕ, ◌≤◌}
 use mathlib.Core.Path.{◌≡◌, refl, sym, ◌∙◌}
 use mathlib.Core.Bool.{Bool, true, false, cond, ◌&&◌, ◌||◌}
 use native.Mathlib.Omega.{arith}
 use lib.Dec.{T, leb}
-use borrow.Author.Tests.{le-leb, lt-leb}
+use borrow.Author.Tests.{le-leb}
 
 -- two choices by equal tests, the first the image of the second
 pub both : {A B : Type 0} (f : B → A) {s t : Bool} {x y : A} {u v : B} → s ≡ t → (t ≡ true → x ≡ f u) → (t ≡ false → y ≡ f v) → cond s x y ≡ f (cond t u v)
@@ -80,6 +80,3 @@ module _ {A : Type 0} {t : Bool} (x y : A) where
 module _ {A : Type 0} (n k : ℕ) (x y : A) where
   pub leb-then : n ≤ k → x ≡ cond (leb n k) x y
   leb-then h = cond-then x y (le-leb n k h)
-
-  pub leb-else : k < n → y ≡ cond (leb n k) x y
-  leb-else h = cond-else x y (lt-leb n k h)

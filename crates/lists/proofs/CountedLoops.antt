@@ -6,9 +6,9 @@ use mathlib.Core.Logic.{⊎_elim}
 use Prim.Native.Nat.{ℕ, zero, suc, ◌+◌, ◌-◌, ◌<◌, ◌≤◌}
 use native.Mathlib.Nat.{eq-or-lt_of_le}
 use native.Mathlib.Numerals.{add-one}
-use native.Mathlib.Decide.{ℕ_discrete, dec_lt}
+use native.Mathlib.Decide.{dec_lt}
 use native.Mathlib.Omega.{arith}
-use lib.ListN.{length, get_or, set, replicate, length-set, length-replicate, get_or-replicate}
+use lib.ListN.{length, get_or, set, length-set}
 use lib.Seq.{get_or-set_same, get_or-set_other, ext_get_or}
 use borrow.Author.Tests.{lt-ltb, le-ltb}
 use Rattle.lists.specs.Counted.{first_from, all_from, greatest_from, steps_from, each_from}
@@ -62,12 +62,6 @@ module _ (p : ℕ → Bool) where
       let e : suc i + n ≡ i + suc n = omega arith in
       ap (λ (t : Bool). p i && t) (all-last n (suc i) ∙ ap (λ (k : ℕ). all_from p (suc i) n && p k) e)
       ∙ sym (and_assoc (p i) (all_from p (suc i) n) (p (i + suc n)))
-
-  pub all-broken : (i : ℕ) → p i ≡ false → all_from p 0 (i + 1) ≡ false
-  all-broken i e = let z : 0 + i ≡ i = omega arith in rw (add-one, all-last i 0, z, e) (and-false (all_from p 0 i))
-
-  pub all-kept : (i : ℕ) → p i ≡ true → all_from p 0 (i + 1) ≡ all_from p 0 i
-  all-kept i e = let z : 0 + i ≡ i = omega arith in rw (add-one, all-last i 0, z, e) (and-true (all_from p 0 i))
 
 -- ---- the greatest
 
@@ -182,22 +176,3 @@ module _ {A : Type 0} (f : ℕ → A → A) (d : A) where
       ext_get_or d _ _ (changes-length n 0 l ∙ sym (each-length f 0 l)) (λ k b.
       let b' : k < length l = omega (arith, changes-length n 0 l) in
       changes-in n 0 l k (omega arith) (omega arith) b' ∙ sym (each_at f l d k b'))
-
--- ---- a list filled with one value
-
-module _ {A : Type 0} (x : A) where
-  -- the first i entries are x
-  abbrev pub FilledTo : List A → ℕ → Type 0
-  FilledTo l i = (k : ℕ) → k < i → get_or l k x ≡ x
-
-  pub filled_more : (l : List A) (i : ℕ) → i < length l → FilledTo l i → FilledTo (set l i x) (i + 1)
-  filled_more l i h z k b =
-      elim (ℕ_discrete k i) [
-        | yes e ↦ rw e (get_or-set_same l i x x h)
-        | no d ↦ get_or-set_other l i k x x d ∙ z k (omega arith)
-      ]
-
-  pub filled-all : (l : List A) (n : ℕ) → length l ≡ n → FilledTo l n → l ≡ replicate n x
-  filled-all l n e z =
-      ext_get_or x l (replicate n x) (e ∙ sym (length-replicate n x))
-      (λ k b. let b' : k < n = omega arith in z k b' ∙ sym (get_or-replicate n k x x b'))

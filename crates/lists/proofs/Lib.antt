@@ -8,6 +8,7 @@ pub mod Sweep
 pub mod Bytes
 pub mod Lengths
 pub mod Loops
+pub mod Library
 pub mod CountedLoops
 pub mod Total
 pub mod Cut

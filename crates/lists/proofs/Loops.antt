@@ -3,17 +3,15 @@
 -- A loop that makes a list says what it has made of the first i places. `d` is what `get_or` gives past the end.
 use Prim.Native.Nat.{ℕ, zero, suc, ◌+◌, ◌-◌, ◌≤◌, ◌<◌}
 use mathlib.Core.Path.{◌≡◌, refl, sym, ◌∙◌, ap}
-use mathlib.Core.Bool.{Bool, true, false, cond, not, ◌||◌, ◌&&◌}
+use mathlib.Core.Bool.{Bool, true, false, cond, not, ◌&&◌}
 use mathlib.Core.List.{List, [], ◌∷◌, ◌++◌, append-nil, append_assoc}
-use native.Mathlib.Nat.{not-suc-le-zero, le_of_suc-le-suc}
 use native.Mathlib.Numerals.{add-one}
 use native.Mathlib.Omega.{arith}
 use lib.Dec.{ltb, eqb}
-use lib.ListN.{length, take, drop, get_or, set, replicate, drop_of_length-le, length-append, length-take, length-drop, get_or-eq_default}
+use lib.ListN.{length, take, drop, get_or, set, replicate, drop_of_length-le, length-append, length-take, length-drop}
 use lib.Seq.{drop-cons, take_all, take-suc, set-append_seam, set_out}
-use borrow.Author.Tests.{eq-eqb, ne_eqb, lt-ltb, le-ltb, le-leb, lt-leb, ltb-true, ltb-false}
-use Rattle.lists.specs.Counted.{some_from}
-use Rattle.lists.specs.Padded.{any, every, free_last, rising, first, position, final, filter, without, shifted, placed, cut, changed}
+use borrow.Author.Tests.{eq-eqb, ne_eqb, lt-ltb, le-ltb, le-leb, lt-leb, ltb-true}
+use Rattle.lists.specs.Padded.{every, rising, position, filter, without, shifted, placed}
 use Rattle.lists.proofs.Selected.{filter-append, filter-most}
 use Rattle.lists.proofs.Cond.{either, cases, and_left, and_right}
 
@@ -30,49 +28,13 @@ module _ {A : Type 0} (p : A → Bool) (d : A) (l : List A) (i : ℕ) where
   pub rest-none : length l ≤ i → drop i l ≡ []
   rest-none h = drop_of_length-le l h
 
-  pub any-hit : i < length l → p (get_or l i d) ≡ true → any p (drop i l) ≡ true
-  unfolding any
-  any-hit h e = rw (rest-cons h, e)
-
-  pub any-miss : i < length l → p (get_or l i d) ≡ false → any p (drop i l) ≡ any p (drop (i + 1) l)
-  unfolding any
-  any-miss h e = rw (rest-cons h, e)
-
-  pub any-end : length l ≤ i → any p (drop i l) ≡ false
-  unfolding any
-  any-end h = rw (rest-none h)
-
-  pub every-hit : i < length l → p (get_or l i d) ≡ true → every p (drop i l) ≡ every p (drop (i + 1) l)
-  unfolding every
-  every-hit h e = rw (rest-cons h, e)
-
-  pub every-miss : i < length l → p (get_or l i d) ≡ false → every p (drop i l) ≡ false
-  unfolding every
-  every-miss h e = rw (rest-cons h, e)
-
   pub every-end : length l ≤ i → every p (drop i l) ≡ true
   unfolding every
   every-end h = rw (rest-none h)
 
-  pub position-hit : i < length l → p (get_or l i d) ≡ true → i + position p (drop i l) ≡ i
-  unfolding position
-  position-hit h e = rw (rest-cons h, e) (omega arith)
-
-  pub position-miss : i < length l → p (get_or l i d) ≡ false → i + position p (drop i l) ≡ i + 1 + position p (drop (i + 1) l)
-  unfolding position
-  position-miss h e = rw (rest-cons h, e) (omega arith)
-
-  pub position-end : length l ≤ i → i + position p (drop i l) ≡ i
-  unfolding position
-  position-end h = rw (rest-none h) (omega arith)
-
-  pub final-step : (x y : A) → i < length l → y ≡ cond (p (get_or l i d)) (get_or l i d) x → final p x (drop i l) ≡ final p y (drop (i + 1) l)
-  unfolding final
-  final-step x y h e = rw (rest-cons h, e)
-
-  pub final-end : (x : A) → length l ≤ i → final p x (drop i l) ≡ x
-  unfolding final
-  final-end x h = rw (rest-none h)
+-- the places from i on, as a slice gives them
+pub rest-slice : {A : Type 0} (i n : ℕ) (l : List A) → length l ≡ n → take (n - i) (drop i l) ≡ drop i l
+rest-slice i n l len = take_all (n - i) (drop i l) (omega (arith, length-drop i l))
 
 -- two tests that agree
 pub every-same : {A : Type 0} (p r : A → Bool) → ((x : A) → p x ≡ r x) → (l : List A) → every p l ≡ every r l
@@ -88,23 +50,6 @@ module _ {A : Type 0} (p : A → Bool) where
   position-high [] = omega arith
   position-high (x ∷ l) = either (λ (n : ℕ). n ≤ suc (length l)) (p x) (λ _. omega arith) (λ _. omega (arith, position-high l))
 
-  pub position-any : (l : List A) → any p l ≡ ltb (position p l) (length l)
-  unfolding position any
-  position-any [] = refl
-  position-any (x ∷ l) = cases (p x)
-      (λ e. rw e (sym (lt-ltb 0 (suc (length l)) (omega arith))))
-      (λ e. rw (e, position-any l) (shift (position p l) (length l)))
-    where
-      shift : (m n : ℕ) → ltb m n ≡ ltb (suc m) (suc n)
-      shift m n = cases (ltb m n)
-          (λ e. e ∙ sym (lt-ltb (suc m) (suc n) (omega (arith, ltb-true m n e))))
-          (λ e. e ∙ sym (le-ltb (suc m) (suc n) (omega (arith, ltb-false m n e))))
-
-  pub position_first : (d : A) (l : List A) → first p d l ≡ get_or l (position p l) d
-  unfolding position first
-  position_first d [] = refl
-  position_first d (x ∷ l) = cases (p x) (λ e. rw e) (λ e. rw e (position_first d l))
-
   pub position-placed : (y : A) (l : List A) → placed p y l ≡ set l (position p l) y
   unfolding position placed
   position-placed y [] = refl
@@ -112,17 +57,8 @@ module _ {A : Type 0} (p : A → Bool) where
 
   -- what a search that ended at place k tells
   module _ (l : List A) (n k : ℕ) (len : length l ≡ n) (e : k ≡ position p l) where
-    pub found-any : ltb k n ≡ any p l
-    found-any = rw (e, ← len) (sym (position-any l))
-
-    pub found_first : (d : A) → get_or l k d ≡ first p d l
-    found_first d = rw e (sym (position_first d l))
-
     none : n ≤ k → length l ≤ k
     none h = omega arith
-
-    pub none_first : (d : A) → n ≤ k → d ≡ first p d l
-    none_first d h = sym (position_first d l ∙ rw (← e) (get_or-eq_default l d (none h)))
 
     pub found-placed : (y : A) → set l k y ≡ placed p y l
     found-placed y = rw e (sym (position-placed y l))
@@ -130,60 +66,11 @@ module _ {A : Type 0} (p : A → Bool) where
     pub none-placed : (y : A) → n ≤ k → l ≡ placed p y l
     none-placed y h = sym (position-placed y l ∙ rw (← e) (set_out l k y (none h)))
 
-  -- the last that passes passes, if there is one
-  final-test : (x : A) (l : List A) → p (final p x l) ≡ (any p l || p x)
-  unfolding final any
-  final-test x [] = refl
-  final-test x (y ∷ l) = cases (p y)
-      (λ e. rw e (final-test y l ∙ cases (any p l) (λ t. rw t) (λ t. rw (t, e))))
-      (λ e. rw e (final-test x l))
-
-  pub final-any : (x : A) (l : List A) → p x ≡ false → any p l ≡ p (final p x l)
-  final-any x l e = sym (final-test x l ∙ cases (any p l) (λ t. rw t) (λ t. rw (t, e)))
-
--- ---- a search through numbers, below n
-
-module _ (p : ℕ → Bool) (n x : ℕ) where
-  less_one : x < n → n - x ≡ suc (n - (x + 1))
-  less_one h = omega arith
-
-  pub some-hit : x < n → p x ≡ true → some_from p x (n - x) ≡ true
-  unfolding some_from
-  some-hit h e = rw (less_one h, e)
-
-  pub some-miss : x < n → p x ≡ false → some_from p x (n - x) ≡ some_from p (x + 1) (n - (x + 1))
-  unfolding some_from
-  some-miss h e = rw (less_one h, e, add-one x)
-
-  pub some_end : n ≤ x → some_from p x (n - x) ≡ false
-  unfolding some_from
-  some_end h = let z : n - x ≡ 0 = omega arith in rw z
-
 -- ---- numbers that rise up to the free places, with a test of each entry
 
 module _ {A : Type 0} (number : A → ℕ) (d : A) (l : List A) (i : ℕ) where
   abbrev empty : A → Bool
   empty y = eqb (number y) 0
-
-  -- the places behind a free place are free
-  last-drop : (k : ℕ) (r : List A) → free_last number r ≡ true → free_last number (drop k r) ≡ true
-  unfolding free_last every
-  last-drop zero r g = g
-  last-drop (suc k) [] g = g
-  last-drop (suc k) (x ∷ r) g = cases (empty x)
-      (λ e. last-drop k r (frees r (rw e at g)))
-      (λ e. last-drop k r (rw e at g))
-    where
-      frees : (r : List A) → every empty r ≡ true → free_last number r ≡ true
-      frees [] g = refl
-      frees (y ∷ r) g = rw (and_left (empty y) _ g) (and_right (empty y) _ g)
-
-  pub free-rest : i < length l → free_last number l ≡ true → number (get_or l i d) ≡ 0 → every empty (drop i l) ≡ true
-  unfolding free_last every
-  free-rest h g e =
-      let t : empty (get_or l i d) ≡ true = eq-eqb _ 0 e in
-      let f : free_last number (get_or l i d ∷ drop (i + 1) l) ≡ true = rw (rest-cons empty d l i h) at (last-drop i l g) in
-      rw (rest-cons empty d l i h, t) (rw t at f)
 
   module _ (g : A → Bool) (m : ℕ) where
     -- the next entry is free: so are the others, and each passes
@@ -235,103 +122,11 @@ module _ {A : Type 0} (number : A → ℕ) (d : A) (l : List A) (i : ℕ) where
     unfolding rising every
     rise-end h = rw (rest-none empty d l i h)
 
--- ---- each entry that passes a test is changed in its place
-
-module _ {A : Type 0} (p : A → Bool) (g : A → A) where
-  -- the first i entries are done
-  abbrev pub done : ℕ → List A → List A
-  done i l = changed p g (take i l) ++ drop i l
-
-  -- the next entry is still as it was
-  done_at : (d : A) (i : ℕ) (l : List A) → get_or (done i l) i d ≡ get_or l i d
-  unfolding changed
-  done_at d zero l = refl
-  done_at d (suc i) [] = refl
-  done_at d (suc i) (x ∷ l) = done_at d i l
-
-  done_next : (d : A) (i : ℕ) (l : List A) → i < length l → done (suc i) l ≡ set (done i l) i (cond (p (get_or l i d)) (g (get_or l i d)) (get_or l i d))
-  unfolding changed
-  done_next d i [] h = absurd (not-suc-le-zero h)
-  done_next d zero (x ∷ l) h = refl
-  done_next d (suc i) (x ∷ l) h = ap (λ (r : List A). cond (p x) (g x) x ∷ r) (done_next d i l (le_of_suc-le-suc h))
-
-  pub done_none : (l : List A) → l ≡ done 0 l
-  unfolding changed
-  done_none l = refl
-
-  pub done-step : (d : A) (i : ℕ) (l out : List A) (r : A) → i < length l → out ≡ done i l → r ≡ cond (p (get_or out i d)) (g (get_or out i d)) (get_or out i d) → set out i r ≡ done (i + 1) l
-  done-step d i l out r h e f = rw (f, e, done_at d i l, add-one i) (sym (done_next d i l h))
-
-  pub done_all : (i : ℕ) (l : List A) → length l ≤ i → done i l ≡ changed p g l
-  done_all i l h = rw (take_all i l h, drop_of_length-le l h) (append-nil (changed p g l))
-
--- ---- entries laid down one after the other, before free places
-
-module _ {A : Type 0} (free : A) where
-  -- the first i entries, and n free places
-  abbrev pub laid : ℕ → ℕ → List A → List A
-  laid i n l = take i l ++ replicate n free
-
-  laid_next : (d : A) (i n : ℕ) (l : List A) → i < length l → set (laid i (suc n) l) i (get_or l i d) ≡ laid (suc i) n l
-  laid_next d i n [] h = absurd (not-suc-le-zero h)
-  laid_next d zero n (x ∷ l) h = refl
-  laid_next d (suc i) n (x ∷ l) h = ap (λ (r : List A). x ∷ r) (laid_next d i n l (le_of_suc-le-suc h))
-
-  -- the first entry is left out: entry i + 1 goes to place i
-  pub moved-step :
-      (d : A) (i n : ℕ) (l out : List A) → length l ≡ n → i + 1 < n → out ≡ laid i (n - i) (drop 1 l)
-      → set out i (get_or l (i + 1) d) ≡ laid (i + 1) (n - (i + 1)) (drop 1 l)
-  moved-step d i n [] out len h e = let no : ⊥ = omega arith in absurd no
-  moved-step d i n (x ∷ l) out len h e =
-      let room : n - i ≡ suc (n - suc i) = omega arith in
-      rw (e, add-one i, room) (laid_next d i (n - suc i) l (omega arith))
-
-  pub moved_all : (i n : ℕ) (l out : List A) → length l ≡ n → 0 < n → i + 1 ≡ n → out ≡ laid i (n - i) (drop 1 l) → out ≡ shifted free l
-  unfolding shifted
-  moved_all i n [] out len pos h e = let no : ⊥ = omega arith in absurd no
-  moved_all i n (x ∷ l) out len pos h e =
-      let one : n - i ≡ 1 = omega arith in
-      rw (one, take_all i l (omega arith)) at e
-
--- ---- the entries before the first that passes a test are laid down before free places
-
-module _ {A : Type 0} (p : A → Bool) (free : A) where
-  -- the first i entries were laid down, and none of them passes
-  pub record Cutting (n : ℕ) (l : List A) (i : ℕ) (out : List A) : Type 0 where
-    pub laid-down : out ≡ laid free i (n - i) l
-    pub left : cut p free l ≡ take i l ++ cut p free (drop i l)
-
-  pub cutting-none : (n : ℕ) (l : List A) → Cutting n l 0 (replicate n free)
-  cutting-none n l = let z : n - 0 ≡ n = omega arith in record { laid-down = rw z; left = refl }
-
-  module _ (d : A) {n : ℕ} {l : List A} {i : ℕ} {out : List A} (len : length l ≡ n) (g : Cutting n l i out) where
-    -- the next entry fails the test, and is laid down
-    pub cutting-next : i < n → p (get_or l i d) ≡ false → Cutting n l (i + 1) (set out i (get_or l i d))
-    unfolding cut
-    cutting-next h t =
-        let h' : i < length l = omega arith in
-        let room : n - i ≡ suc (n - suc i) = omega arith in
-        record {
-          laid-down = rw (g.laid-down, add-one i, room) (laid_next free d i (n - suc i) l h');
-          left =
-              g.left
-              ∙ rw (rest-cons p d l i h', t, add-one i, take-suc l i d h')
-              (sym (append_assoc (take i l) (get_or l i d ∷ []) (cut p free (drop (suc i) l))));
-        }
-
-    -- it passes
-    pub cutting-stop : i < n → p (get_or l i d) ≡ true → out ≡ cut p free l
-    unfolding cut
-    cutting-stop h t =
-        let h' : i < length l = omega arith in
-        let room : n - i ≡ suc (length (drop (i + 1) l)) = omega (arith, length-drop (i + 1) l) in
-        g.laid-down ∙ rw room (sym (g.left ∙ rw (rest-cons p d l i h', t)))
-
-    pub cutting-end : n ≤ i → out ≡ cut p free l
-    unfolding cut
-    cutting-end h =
-        let none : n - i ≡ 0 = omega arith in
-        g.laid-down ∙ rw none (sym (g.left ∙ rw (rest-none p d l i (omega arith))))
+-- ---- the entries behind the first were copied before a free place
+pub shifted-copy : {A : Type 0} (free : A) (n : ℕ) (l out : List A) → length l ≡ n + 1 → out ≡ take n (drop 1 l) → out ++ free ∷ [] ≡ shifted free l
+unfolding shifted
+shifted-copy free n [] out len e = absurd (omega arith)
+shifted-copy free n (x ∷ l) out len e = rw (e, take_all n l (omega arith))
 
 -- ---- the entries that fail a test are packed to the front of free places
 

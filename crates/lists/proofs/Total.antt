@@ -1,11 +1,9 @@
 -- What `total` says: of two lists, of numbers that are all zero, and of what is left to add from place k on.
-use Prim.Native.Nat.{ℕ, suc, ◌+◌, ◌<◌, ◌≤◌}
+use Prim.Native.Nat.{ℕ, suc, ◌+◌, ◌<◌}
 use mathlib.Core.Path.{◌≡◌, refl}
 use mathlib.Core.List.{List, [], ◌∷◌, ◌++◌}
-use native.Mathlib.Numerals.{add-one}
 use native.Mathlib.Omega.{arith}
-use lib.ListN.{length, get_or, drop, drop_of_length-le}
-use lib.Seq.{drop-cons}
+use lib.ListN.{length, get_or}
 use Rattle.lists.specs.Padded.{total}
 
 module _ {A : Type 0} (f : A → ℕ) where
@@ -18,11 +16,3 @@ module _ {A : Type 0} (f : A → ℕ) where
   unfolding total
   total-zero d [] h = refl
   total-zero d (x ∷ l) h = omega (arith, h 0 (omega arith), total-zero d l (λ k lt. h (suc k) (omega arith)))
-
-  pub total-next : (l : List A) (k : ℕ) (d : A) → k < length l → total f (drop k l) ≡ f (get_or l k d) + total f (drop (k + 1) l)
-  unfolding total
-  total-next l k d h = rw (add-one, drop-cons l k d h)
-
-  pub total-end : (l : List A) (k : ℕ) → length l ≤ k → total f (drop k l) ≡ 0
-  unfolding total
-  total-end l k h = rw (drop_of_length-le l h)

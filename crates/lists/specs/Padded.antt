@@ -1,9 +1,13 @@
 -- Lists of fixed length whose unused places, at the end, hold one value, `free`: tests, selections, a sum, and the changes of a queue.
 -- No definition here looks at what an entry is; each change keeps the length.
-use Rattle.std.specs.Prelude.{Bool, true, false, cond, ◌||◌, ◌&&◌, List, [], ◌∷◌, ◌++◌, ℕ, suc, ◌+◌, eqb, ltb, leb, length, replicate}
+use Rattle.std.specs.Prelude.{◌≡◌, Bool, true, false, cond, ◌||◌, ◌&&◌, List, [], ◌∷◌, ◌++◌, ℕ, suc, ◌+◌, eqb, ltb, leb, length, replicate}
 
 module _ {A : Type 0} where
   -- ---- tests
+
+  -- an answer to an entry (the first place: what may be answered to what) is what the test says of it
+  abbrev pub AnswersAs : (A → Bool → Type 0) → (A → Bool) → Type 0
+  AnswersAs answers p = (x : A) (r : Bool) → answers x r → r ≡ p x
 
   -- some entry passes the test
   unfoldable pub any : (A → Bool) → List A → Bool

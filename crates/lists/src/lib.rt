@@ -1,26 +1,42 @@
-// Lists with free places, loops that count, and bytes of numbers: definitions (specs/) and laws (proofs/). Its code makes bytes and numbers zero.
+// Lists with free places, loops that count, and bytes of numbers: definitions (specs/) and laws (proofs/). Its code changes arrays with free
+// places, of any entries: which are meant, the caller says by a test.
 #![tactic(auto)]
 
-ghost use Rattle.std.specs.Prelude.{◌≡◌, length, replicate};
+ghost use Rattle.std.specs.Prelude.{◌≡◌, Bool};
+ghost use Rattle.lists.specs.Padded.{AnswersAs, placed, without};
 
-// Makes every byte zero.
-pub fn zero_bytes(bytes: &mut [u8])
-    ensures { bytes.new ≡ replicate (length bytes.old) 0 }
+// The entry stands in the first place that passes the test; where none does, the places stay as they are.
+pub fn placed<T: Copy, const N: usize, F: Fn(T) -> bool>(
+    places: [T; N],
+    entry: T,
+    is_free: F,
+) -> [T; N]
+    requires { F.IsAlwaysCallable is_free }
+    ensures { (test : T → Bool) → AnswersAs (F.post is_free) test → result ≡ placed test entry places }
 {
-    let mut i: usize = 0;
-    while i < bytes.len() {
-        bytes[i] = 0;
-        i += 1;
+    let mut next = places;
+    if let Some(i) = places.iter().position(|e| is_free(*e)) {
+        next[i] = entry;
     }
+    next
 }
 
-// Makes every number zero.
-pub fn zero_numbers(numbers: &mut [u32])
-    ensures { numbers.new ≡ replicate (length numbers.old) 0 }
+// The entries that pass the test are taken out, the others move up, and free places follow.
+pub fn without<T: Copy, const N: usize, F: Fn(T) -> bool>(
+    places: [T; N],
+    free: T,
+    leaves: F,
+) -> [T; N]
+    requires { F.IsAlwaysCallable leaves }
+    ensures { (test : T → Bool) → AnswersAs (F.post leaves) test → result ≡ without test free places }
 {
-    let mut i: usize = 0;
-    while i < numbers.len() {
-        numbers[i] = 0;
-        i += 1;
+    let mut next = [free; N];
+    let mut to: usize = 0;
+    for e in places {
+        if !leaves(e) {
+            next[to] = e;
+            to += 1;
+        }
     }
+    next
 }

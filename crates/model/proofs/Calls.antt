@@ -3,41 +3,49 @@ use Prim.Native.Nat.{ℕ, ◌^◌}
 use mathlib.Core.Path.{◌≡◌, refl, sym, ◌∙◌, ap}
 use mathlib.Core.Bool.{Bool, true, false, not, ◌&&◌}
 use mathlib.Core.List.{List, [], ◌∷◌, ◌++◌}
-use native.Mathlib.Omega.{arith}
-use lib.Dec.{ltb, eqb}
+use lib.Dec.{ltb}
 use borrow.Author.Tests.{ltb-true, ltb-false, le-leb, lt-leb, eq-eqb, ne_eqb}
 use Rattle.lists.proofs.Cond.{cases, and_left}
 use Rattle.rules.specs.Shape.{Queues, Hierarchy, fits, top_number, is_free_store, is_free_load}
-use Rattle.lists.specs.Padded.{any}
-use Rattle.rules.specs.Calls.{Call, Check, load, store, retry, commit, abort, idle, reply, flush, show, checkpoint, restore, preview, refused, check, number_check, load_rule, store_rule, checkpoint_rule, restore_rule, guarded, passes, unchanged, access_checks, early_checks, call_checks, rule}
+use Rattle.lists.specs.Padded.{any, every}
+use Rattle.rules.specs.Calls.{Call, Answer, Check, load, store, retry, commit, abort, idle, reply, flush, show, checkpoint, restore, preview, refused, check, number_check, load_rule, store_rule, checkpoint_rule, restore_rule, guarded, passes, unchanged, access_checks, early_checks, call_checks, rule}
 use Rattle.rules.specs.Checkpoints.{name_allowed, in_use}
 use Rattle.rules.specs.WellFormed.{lines_formed, queues_formed, checkpoints_formed, well_formed}
 use Rattle.rules.specs.Runs.{state_checks, refusal, outcome}
 use Rattle.rules.proofs.Checks.{EachPasses, shut, malformed, opened, checked, guarded-append, guarded-passes}
 use Rattle.access.specs.AccessChecks.{sized, checked_access}
-use Rattle.access.proofs.AccessChecks.{checks-refuse, checks-pass}
-use Rattle.model.specs.State.{store_rest}
+use Rattle.access.proofs.AccessChecks.{numbered-ok, checks-ok, checks-refuse, checks-pass}
+use Rattle.model.specs.State.{checked_state, store_rest}
 use Rattle.access.specs.declared.Access.{Access}
-use Rattle.access.specs.declared.Checked.TheVariants.{Passed, Failed}
+use Rattle.rules.specs.declared.Refusal.{Refusal}
+use Rattle.rules.specs.RefusalNumbers.{numbered}
+use Rattle.std.specs.Bool.{⊤}
+use Rattle.std.proofs.Common.{Result, Ok, Err, is_ok}
 
--- where the number of checks 1 and 10 is 0 the state is well formed
-pub state-formed : (q : Queues) (b : Hierarchy) (k : ℕ) → k ≡ guarded (state_checks q b) (λ j. j) 0 → k ≡ 0 → well_formed q b ≡ true
-unfolding guarded
-state-formed q b k e n =
-    cases (well_formed q b) (λ g. g)
-    (λ g. cases (fits b)
-    (λ f. let z : k ≡ 10 = rw (f, g) at e in let no : ⊥ = omega arith in absurd no)
-    (λ f. let z : k ≡ 1 = rw f at e in let no : ⊥ = omega arith in absurd no))
-
--- and only there
-pub state-judged : (q : Queues) (b : Hierarchy) (k : ℕ) → k ≡ guarded (state_checks q b) (λ j. j) 0 → eqb k 0 ≡ well_formed q b
-unfolding guarded well_formed
-state-judged q b k e =
+-- checks 1 and 10 pass exactly if the state is well formed
+pub state-passes : (q : Queues) (b : Hierarchy) → passes (state_checks q b) ≡ well_formed q b
+unfolding every well_formed
+state-passes q b =
     cases (fits b)
-    (λ f. cases (lines_formed b && (queues_formed q b && checkpoints_formed q.committed q.last q.checkpoints))
-    (λ g. let z : k ≡ 0 = rw (f, g) at e in rw (z, f, g))
-    (λ g. let z : k ≡ 10 = rw (f, g) at e in rw (z, f, g)))
-    (λ f. let z : k ≡ 1 = rw f at e in rw (z, f))
+    (λ f. cases (lines_formed b && (queues_formed q b && checkpoints_formed q.committed q.last q.checkpoints)) (λ g. rw (f, g)) (λ g. rw (f, g)))
+    (λ f. rw f)
+
+-- what is found by them where they pass
+pub state-formed : (q : Queues) (b : Hierarchy) → Ok tt ≡ checked_state q b → well_formed q b ≡ true
+state-formed q b e = sym (state-passes q b) ∙ (checks-pass (state_checks q b) (tt {0}) (tt {0}) (sym e)).0
+
+pub state-judged : (q : Queues) (b : Hierarchy) (r : Result ⊤ Refusal) → numbered r ≡ checked_state q b → is_ok r ≡ well_formed q b
+state-judged q b r e = numbered-ok r ∙ ap is_ok e ∙ checks-ok (state_checks q b) tt ∙ state-passes q b
+
+-- the number of the one that refuses
+pub state-number : (q : Queues) (b : Hierarchy) (k : ℕ) → k ≡ guarded (state_checks q b) (λ j. j) 0 → (k ≡ 0 → ⊥) → Err k ≡ checked_state q b
+unfolding guarded
+state-number q b k e n =
+    cases (fits b)
+    (λ f. cases (well_formed q b)
+    (λ g. let z : k ≡ 0 = rw (f, g) at e in absurd (n z))
+    (λ g. let z : k ≡ 10 = rw (f, g) at e in rw (f, g, z)))
+    (λ f. let z : k ≡ 1 = rw f at e in rw (f, z))
 
 module _ (c : Call) (q : Queues) (b : Hierarchy) where
   -- checks 1 and 10 pass
@@ -46,15 +54,19 @@ module _ (c : Call) (q : Queues) (b : Hierarchy) where
     pub formed : well_formed q b ≡ true
     pub does : outcome c q b ≡ checked c q b
 
-  -- what the number of checks 1 and 10 tells of a call whose early checks pass: the refusal
-  pub state-refuses : (k : ℕ) → k ≡ guarded (state_checks q b) (λ j. j) 0 → (k ≡ 0 → ⊥) → EachPasses (early_checks c b) → outcome c q b ≡ unchanged (refusal c k) q b
+  -- and where one refuses a call whose early checks pass
+  pub state-refuses : (k : ℕ) → Err k ≡ checked_state q b → EachPasses (early_checks c b) → outcome c q b ≡ unchanged (refusal c k) q b
   unfolding guarded
-  state-refuses k e n early =
+  state-refuses k e early =
       cases (fits b)
       (λ f. cases (well_formed q b)
-      (λ g. let z : k ≡ 0 = rw (f, g) at e in absurd (n z))
-      (λ g. let z : k ≡ 10 = rw (f, g) at e in rw z (malformed c q b early f g)))
-      (λ f. let z : k ≡ 1 = rw f at e in rw z (shut c q b f))
+      (λ g. let z : ◌≡◌ {A = Result ⊤ ℕ} (Err k) (Ok tt) = rw (f, g) at e in cc)
+      (λ g. let z : ◌≡◌ {A = Result ⊤ ℕ} (Err k) (Err 10) = rw (f, g) at e in let y : k ≡ 10 = cc in rw y (malformed c q b early f g)))
+      (λ f. let z : ◌≡◌ {A = Result ⊤ ℕ} (Err k) (Err 1) = rw f at e in let y : k ≡ 1 = cc in rw y (shut c q b f))
+
+  -- what a call does that names no refusal, on any other state
+  pub unformed-refuses : (r : Answer) → ((k : ℕ) → refusal c k ≡ r) → well_formed q b ≡ false → EachPasses (early_checks c b) → outcome c q b ≡ unchanged r q b
+  unformed-refuses r same g early = cases (fits b) (λ f. malformed c q b early f g ∙ ap (λ (a : Answer). unchanged a q b) (same 10)) (λ f. shut c q b f ∙ ap (λ (a : Answer). unchanged a q b) (same 1))
 
   -- a well-formed state passes both
   pub formed-opens : well_formed q b ≡ true → EachPasses (early_checks c b) → Open
@@ -85,11 +97,11 @@ module _ (c : Call) (q : Queues) (b : Hierarchy) (a w : ℕ) (rest : List Check)
       ap (λ (ks : List Check). guarded ks (λ k. unchanged (refusal c k) q b) (rule c q b)) starts
       ∙ guarded-append (λ k. unchanged (refusal c k) q b) (access_checks b a w) rest (rule c q b)
 
-  pub access-refuses : (k : ℕ) → checked_access b.size a w ≡ Failed k → outcome c q b ≡ unchanged (refusal c k) q b
+  pub access-refuses : (k : ℕ) → checked_access b.size a w ≡ Err k → outcome c q b ≡ unchanged (refusal c k) q b
   unfolding checked_access
   access-refuses k e = o.does ∙ after-access ∙ checks-refuse _ _ (access_checks b a w) (record { address = a; width = w }) k e
 
-  pub access-goes : (x : Access) → checked_access b.size a w ≡ Passed x → outcome c q b ≡ guarded rest (λ k. unchanged (refusal c k) q b) (rule c q b)
+  pub access-goes : (x : Access) → checked_access b.size a w ≡ Ok x → outcome c q b ≡ guarded rest (λ k. unchanged (refusal c k) q b) (rule c q b)
   unfolding checked_access
   access-goes x e =
       o.does ∙ after-access
@@ -97,7 +109,7 @@ module _ (c : Call) (q : Queues) (b : Hierarchy) (a w : ℕ) (rest : List Check)
 
 -- ---- load
 
-module _ (a w : ℕ) (q : Queues) (b : Hierarchy) (o : Open (load a w) q b) (x : Access) (e : checked_access b.size a w ≡ Passed x) where
+module _ (a w : ℕ) (q : Queues) (b : Hierarchy) (o : Open (load a w) q b) (x : Access) (e : checked_access b.size a w ≡ Ok x) where
   rest-of-load : outcome (load a w) q b ≡ guarded (number_check q ∷ check 12 (not (any is_free_load q.loads)) ∷ []) (λ k. unchanged (refused k) q b) (load_rule a w q b)
   rest-of-load = access-goes (load a w) q b a w _ refl o x e
 
@@ -170,7 +182,7 @@ module _ (x : ℕ) (q : Queues) (b : Hierarchy) (o : Open (restore x) q b) where
 -- ---- a store's checks after the access
 
 module _ (a w v : ℕ) (q : Queues) (b : Hierarchy) where
-  pub store_goes : (o : Open (store a w v) q b) (x : Access) → checked_access b.size a w ≡ Passed x → store_rest a w v q b ≡ outcome (store a w v) q b
+  pub store_goes : (o : Open (store a w v) q b) (x : Access) → checked_access b.size a w ≡ Ok x → store_rest a w v q b ≡ outcome (store a w v) q b
   unfolding store_rest
   store_goes o x e = sym (access-goes (store a w v) q b a w _ refl o x e)
 
@@ -193,7 +205,7 @@ module _ (a w v : ℕ) (q : Queues) (b : Hierarchy) where
       rest-does t = rw (lt-leb (256 ^ w) v (ltb-true v (256 ^ w) s), ne_eqb q.last top_number n, t)
 
 -- the access that passed is the one that was checked
-pub passed-access : (size a w : ℕ) (x : Access) → checked_access size a w ≡ Passed x → (passes (access_checks (sized size) a w) ≡ true) × (x ≡ record { address = a; width = w })
+pub passed-access : (size a w : ℕ) (x : Access) → checked_access size a w ≡ Ok x → (passes (access_checks (sized size) a w) ≡ true) × (x ≡ record { address = a; width = w })
 unfolding checked_access
 passed-access size a w x e =
     let p = checks-pass (access_checks (sized size) a w) (record { address = a; width = w }) x e in (p.0, sym p.1)

@@ -6,10 +6,11 @@ use mathlib.Core.Bool.{Bool, true, false, ◌&&◌}
 use mathlib.Core.List.{List, [], ◌∷◌, ◌++◌}
 use lib.ListN.{length}
 use borrow.Author.Tests.{le-leb, eq-eqb}
-use native.Mathlib.Omega.{arith}
 use Rattle.lists.specs.Padded.{every}
 use Rattle.lists.proofs.Cond.{cases}
-use Rattle.line_checks.specs.Refusal.{lines_refusal}
+use Rattle.line_checks.specs.Refusal.{checked_lines}
+use Rattle.std.specs.Bool.{⊤}
+use Rattle.std.proofs.Common.{Result, Ok, Err}
 use Rattle.rules.specs.declared.Request.{Request}
 use Rattle.rules.specs.declared.WritePolicy.{WritePolicy}
 use Rattle.rules.specs.declared.Request.TheVariants.{Free, Line}
@@ -17,23 +18,22 @@ use Rattle.rules.specs.Lines.{slot_of, present, use_line}
 use Rattle.rules.specs.Shape.{Queues, Hierarchy, fits, top_number}
 use Rattle.rules.specs.Calls.{guarded, store_ready}
 use Rattle.rules.specs.WellFormed.{free_zero, free_places_last, committed_up_to_last, numbers_rise, numbers_up_to_last, numbers_apart, accesses_pass, committed_wait, waiting_uncovered, forwarded_answered, store_passes, load_passes, request_absent, request_inside, request_wanted, lines_formed, queues_formed, checkpoints_formed, well_formed}
-use Rattle.rules.specs.Runs.{state_checks}
 use Rattle.queue_checks.specs.Good.{queues_good, queues_with}
 use Rattle.access.specs.AccessChecks.{sized}
 use Rattle.records.specs.Records.{tabled, used_tags}
 use Rattle.records.proofs.Answers.{used-line}
-use Rattle.model.specs.State.{queues_of, hierarchy_of}
+use Rattle.model.specs.State.{queues_of, hierarchy_of, checked_state}
 use Rattle.model.specs.declared.State.{State}
 
 -- the lines pass
-pub lines_fit : (b : Hierarchy) → lines_refusal b ≡ 0 → fits b ≡ true
-unfolding lines_refusal
-lines_fit b e = cases (fits b) (λ t. t) (λ t. let z : ◌≡◌ {A = ℕ} 1 0 = rw t at e in let no : ⊥ = omega arith in absurd no)
+pub lines_fit : (b : Hierarchy) → Ok tt ≡ checked_lines b → fits b ≡ true
+unfolding checked_lines
+lines_fit b e = cases (fits b) (λ t. t) (λ t. let z : ◌≡◌ {A = Result ⊤ ℕ} (Ok tt) (Err 1) = rw t at e in cc)
 
-lines-formed : (b : Hierarchy) → lines_refusal b ≡ 0 → lines_formed b ≡ true
-unfolding lines_refusal
+lines-formed : (b : Hierarchy) → Ok tt ≡ checked_lines b → lines_formed b ≡ true
+unfolding checked_lines
 lines-formed b e = cases (lines_formed b) (λ t. t)
-    (λ t. let z : ◌≡◌ {A = ℕ} 10 0 = rw (lines_fit b e, t) at e in let no : ⊥ = omega arith in absurd no)
+    (λ t. let z : ◌≡◌ {A = Result ⊤ ℕ} (Ok tt) (Err 10) = rw (lines_fit b e, t) at e in cc)
 
 every-join : (xs ys : List Bool) → every (λ t. t) (xs ++ ys) ≡ (every (λ t. t) xs && every (λ t. t) ys)
 unfolding every
@@ -55,11 +55,11 @@ request_good q b = request_absent q.request b && (request_inside q.request b && 
 abbrev pub checkpoints_good : Queues → Bool
 checkpoints_good q = checkpoints_formed q.committed q.last q.checkpoints
 
--- the number of checks 1 and 10, by what the code finds in the lines
-pub state-lines : (q : Queues) (b : Hierarchy) (k : ℕ) → k ≡ lines_refusal b → (k ≡ 0 → ⊥) → k ≡ guarded (state_checks q b) (λ k. k) 0
-unfolding lines_refusal well_formed guarded
-state-lines q b k e n = cases (fits b)
-    (λ f. cases (lines_formed b) (λ l. absurd (n (rw (f, l) at e))) (λ l. (rw (f, l) at e) ∙ rw (f, l)))
+-- what checks 1 and 10 find where the lines are refused
+pub state-lines : (q : Queues) (b : Hierarchy) (k : ℕ) → Err k ≡ checked_lines b → Err k ≡ checked_state q b
+unfolding checked_lines well_formed guarded
+state-lines q b k e = cases (fits b)
+    (λ f. cases (lines_formed b) (λ l. let z : ◌≡◌ {A = Result ⊤ ℕ} (Err k) (Ok tt) = rw (f, l) at e in cc) (λ l. (rw (f, l) at e) ∙ rw (f, l)))
     (λ f. (rw f at e) ∙ rw f)
 
 module _ (q : Queues) (b : Hierarchy) (ss : length q.stores ≡ 16) (ls : length q.loads ≡ 8) (top : q.last ≤ top_number) where
@@ -93,13 +93,13 @@ module _ (q : Queues) (b : Hierarchy) (ss : length q.stores ≡ 16) (ls : length
   unfolding well_formed
   formed-parted f l = rw (f, l) (ap (λ (t : Bool). t && checkpoints_good q) queues-parted)
 
-  -- the number of checks 1 and 10, by what the code finds in the queues, the register and the checkpoints, where the lines pass
-  module _ (e : lines_refusal b ≡ 0) where
-    state-fits : rest_good ≡ true → 0 ≡ guarded (state_checks q b) (λ k. k) 0
+  -- what checks 1 and 10 find where the lines pass, by the queues, the register and the checkpoints
+  module _ (e : Ok tt ≡ checked_lines b) where
+    state-fits : rest_good ≡ true → Ok tt ≡ checked_state q b
     unfolding guarded
     state-fits g = rw (lines_fit b e, formed-parted (lines_fit b e) (lines-formed b e) ∙ g)
 
-    state-malformed : rest_good ≡ false → 10 ≡ guarded (state_checks q b) (λ k. k) 0
+    state-malformed : rest_good ≡ false → Err 10 ≡ checked_state q b
     unfolding guarded
     state-malformed g = rw (lines_fit b e, formed-parted (lines_fit b e) (lines-formed b e) ∙ g)
 
@@ -129,43 +129,39 @@ module _ (s : State) (cache memory : List ℕ) where
   unfolding store_ready
   ready_at = refl
 
-  pub present-at : (l : ℕ) → present (tabled s.figures s.tags) l ≡ present (hierarchy_of s cache memory) l
-  unfolding present slot_of
-  present-at l = refl
-
   -- the records of a used line
   pub used-at : (l : ℕ) → use_line l (hierarchy_of s cache memory) ≡ record { figures = s.figures; size = s.size; tags = used_tags s.figures l s.tags; cache = cache; memory = memory }
   used-at l = used-line l (hierarchy_of s cache memory)
 
 -- ---- what the code finds, in the order in which it looks
 
-module _ (s : State) (cache memory : List ℕ) (ss : length s.stores ≡ 16) (ls : length s.loads ≡ 8) (top : s.last ≤ top_number) (k : ℕ)
-    (e : k ≡ lines_refusal (hierarchy_of s cache memory)) (z : k ≡ 0) (good : Bool)
+module _ (s : State) (cache memory : List ℕ) (ss : length s.stores ≡ 16) (ls : length s.loads ≡ 8) (top : s.last ≤ top_number)
+    (e : Ok tt ≡ checked_lines (hierarchy_of s cache memory)) (good : Bool)
     (g : good ≡ queues_good (record { last = s.last; committed = s.committed; request = Free; stores = s.stores; loads = s.loads; checkpoints = [] }) (sized s.size)) where
-  abbrev pub Judged : ℕ → Type 0
-  Judged n = n ≡ guarded (state_checks (queues_of s) (hierarchy_of s cache memory)) (λ k. k) 0
+  abbrev pub Judged : Result ⊤ ℕ → Type 0
+  Judged r = r ≡ checked_state (queues_of s) (hierarchy_of s cache memory)
 
   entries : good ≡ queues_good (queues_of s) (hierarchy_of s cache memory)
   entries = g ∙ entries_at s cache memory
 
-  pub found-entries : good ≡ false → Judged 10
+  pub found-entries : good ≡ false → Judged (Err 10)
   found-entries t =
-      state-malformed (queues_of s) (hierarchy_of s cache memory) ss ls top (sym e ∙ z) (rw (sym entries ∙ t))
+      state-malformed (queues_of s) (hierarchy_of s cache memory) ss ls top e (rw (sym entries ∙ t))
 
   module _ (t : good ≡ true) (asked : Bool)
       (r : asked ≡ (request_absent s.request (tabled s.figures s.tags) && (request_inside s.request (sized s.size) && request_wanted s.request (queues_of s) s.figures.policy))) where
     register : asked ≡ request_good (queues_of s) (hierarchy_of s cache memory)
     register = r ∙ request-at s cache memory s.request
 
-    pub found-request : asked ≡ false → Judged 10
+    pub found-request : asked ≡ false → Judged (Err 10)
     found-request f =
-        state-malformed (queues_of s) (hierarchy_of s cache memory) ss ls top (sym e ∙ z) (rw (sym entries ∙ t, sym register ∙ f))
+        state-malformed (queues_of s) (hierarchy_of s cache memory) ss ls top e (rw (sym entries ∙ t, sym register ∙ f))
 
     module _ (f : asked ≡ true) (marks : Bool) (m : marks ≡ checkpoints_good (queues_of s)) where
-      pub found-checkpoints : marks ≡ false → Judged 10
+      pub found-checkpoints : marks ≡ false → Judged (Err 10)
       found-checkpoints g =
-          state-malformed (queues_of s) (hierarchy_of s cache memory) ss ls top (sym e ∙ z) (rw (sym entries ∙ t, sym register ∙ f, sym m ∙ g))
+          state-malformed (queues_of s) (hierarchy_of s cache memory) ss ls top e (rw (sym entries ∙ t, sym register ∙ f, sym m ∙ g))
 
-      pub found_nothing : marks ≡ true → Judged 0
+      pub found_nothing : marks ≡ true → Judged (Ok tt)
       found_nothing g =
-          state-fits (queues_of s) (hierarchy_of s cache memory) ss ls top (sym e ∙ z) (rw (sym entries ∙ t, sym register ∙ f, sym m ∙ g))
+          state-fits (queues_of s) (hierarchy_of s cache memory) ss ls top e (rw (sym entries ∙ t, sym register ∙ f, sym m ∙ g))

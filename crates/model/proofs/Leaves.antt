@@ -45,27 +45,27 @@ pub record Chosen (b : Hierarchy) (l f v : ℕ) : Type 0 where
   pub slot : v ≡ victim b l
 
 module _ (b : Hierarchy) (room : has_room b.figures ≡ true) (l f : ℕ)
-    (first : f ≡ cond (has_room b.figures) ((l % b.figures.sets) * b.figures.ways) 0) where
+    (first : f ≡ cond (has_room b.figures) ((l % b.figures.sets) * b.figures.ways) 0) (n : ℕ) (ways : n ≡ b.figures.ways) where
   pub located :
       (r : Request) (found : Lookup)
-      → found ≡ cond (in_table f b.figures.ways) (lookup_in r b.tags f b.figures.ways l) Miss → Located r b l f found
+      → found ≡ cond (in_table f n) (lookup_in r b.tags f n l) Miss → Located r b l f found
   unfolding lookup way_of present slot_of
   located r found e =
       record {
         first = at_first b.figures l f room first;
         within = set-in-use b.figures l f room first;
         room = (room-bounds b.figures room).in_all;
-        says = found-lookup b.figures l f room first b.tags r found e;
-        here = found-present b.figures l f room first b.tags r found e;
-        way = found-way b.figures l f room first b.tags r found e;
-        slot = found-slot b.figures l f room first b.tags r found e;
+        says = found-lookup b.figures l f room first n ways b.tags r found e;
+        here = found-present b.figures l f room first n ways b.tags r found e;
+        way = found-way b.figures l f room first n ways b.tags r found e;
+        slot = found-slot b.figures l f room first n ways b.tags r found e;
       }
 
-  pub chosen : (v : ℕ) → v ≡ cond (in_table f b.figures.ways && ltb 0 b.figures.ways) (victim_in b.tags f b.figures.ways) 0 → Chosen b l f v
+  pub chosen : (v : ℕ) → v ≡ cond (in_table f n && ltb 0 n) (victim_in b.tags f n) 0 → Chosen b l f v
   unfolding victim victim_in
   chosen v e =
       let r = room-bounds b.figures room in
-      let found = victim-known b.tags f b.figures.ways v (set-in-table b.figures l f room first) r.some-way e in
+      let found = victim-known b.tags f b.figures.ways v (set-in-table b.figures l f room first) r.some-way (rw ways at e) in
       let i = victim-inside b.tags f b.figures.ways r.some-way in
       record {
         first = at_first b.figures l f room first;

@@ -22,8 +22,6 @@ use Rattle.rules.specs.declared.Request.{Request}
 use Rattle.rules.specs.declared.Request.TheVariants.{Free, Line}
 use Rattle.rules.specs.declared.Lookup.{Lookup}
 use Rattle.rules.specs.declared.Lookup.TheVariants.{Hit}
-use Rattle.rules.specs.declared.WritePolicy.{WritePolicy}
-use Rattle.rules.specs.declared.WritePolicy.TheVariants.{WriteBack}
 use Rattle.rules.specs.Shape.{Queues, Hierarchy, holding, no_store, no_load, is_free_load, line_of, slots, first_slot, tag_at, with_dirty, is_through}
 use Rattle.rules.specs.Lines.{slot_of, present, place_of, aged_at, use_slot, marked, written_through_at, stored_memory, put_store, write_store, written_back_at, write_back_slot, copied_at, install, victim, fill_line, write_back_all}
 use Rattle.rules.specs.Calls.{Outcome, wants_line, oldest_store, store_ready, store_needs_line, request_line, drain_oldest, unchanged, idled, idle_rule, reply_rule, show_rule, shown, empty_part, use_each}
@@ -36,7 +34,7 @@ use Rattle.line_bytes.specs.Writes.{flushed_memory, line_written, line_filled, s
 use Rattle.line_bytes.proofs.Writing.{written-inside, written-length, fill-copies, put-inside, drained-inside}
 use Rattle.records.proofs.Answers.{used-line}
 use Rattle.model.proofs.Leaves.{Located, Chosen, slot-in-set, flushed-all}
-use Rattle.model.specs.State.{bytes_from, queues_of, hierarchy_of, with_register, with_records, world_of, outcome_of, Fillable, idle_request}
+use Rattle.model.specs.State.{bytes_from, queues_of, hierarchy_of, world_of, outcome_of, Fillable, idle_request}
 use Rattle.model.specs.Shows.{part_in, shown_part}
 use Rattle.model.specs.declared.State.{State}
 use Rattle.model.specs.declared.show_line.Part.{Part}
@@ -78,9 +76,6 @@ wanting-none b h ls e = cases (any (wants_line b h) ls)
 -- the oldest store's line is present, or the store is written through
 abbrev pub writes : State → Bool
 writes s = is_through s.figures.policy || present (tabled s.figures s.tags) (line_of (oldest_store (queues_of s)).address)
-
-pub back-writes : (p : WritePolicy) (t : Bool) → p ≡ WriteBack → (is_through p || t) ≡ t
-back-writes p t e = rw e
 
 pub writes-known :
     (s : State) (r : Bool) → has_room s.figures ≡ true
@@ -173,12 +168,12 @@ fill-parts b l v e =
 
 -- the fill, from what each function made
 pub filled-whole :
-    (b : Hierarchy) (l f v : ℕ) (tags : List Tag) (cache memory : List ℕ) → Fillable b.figures b.tags l (length b.cache) (length b.memory) → Chosen b l f v
+    (b : Hierarchy) (l f n v : ℕ) (tags : List Tag) (cache memory : List ℕ) → Fillable b.figures b.tags l (length b.cache) (length b.memory) → Chosen b l f v → n ≡ b.figures.ways
     → memory ≡ line_written (tag_at b.tags v) v b.cache b.memory
     → cache ≡ line_filled v (take (16 * l + 16 - 16 * l) (drop (16 * l) memory)) b.cache
-    → tags ≡ cond (in_set f b.figures.ways v && ltb l 65536) (installed_in f b.figures.ways v l b.tags) b.tags
+    → tags ≡ cond (in_set f n v && ltb l 65536) (installed_in f n v l b.tags) b.tags
     → holding b tags cache memory ≡ fill_line l b
-filled-whole b l f v tags cache memory g h m c t =
+filled-whole b l f n v tags cache memory g h ways m c t =
     let e : 16 * l + 16 - 16 * l ≡ 16 = omega arith in
     let slot : 16 * v + 16 ≤ length b.cache = omega (arith, h.high, h.within, g.cache-long) in
     let written : memory ≡ each_from (written_back_at (tag_at b.tags v) b.cache v) 0 b.memory =
@@ -187,7 +182,7 @@ filled-whole b l f v tags cache memory g h m c t =
     let copied : cache ≡ each_from (copied_at memory v l) 0 b.cache = c ∙ rw e (fill-copies memory v l b.cache slot long) in
     let in-range : (in_set f b.figures.ways v && ltb l 65536) ≡ true =
     and_both _ _ (slot-in-set b f v h.within h.room h.low h.high) (lt-ltb l 65536 (omega (arith, g.low))) in
-    let installed : tags ≡ installed_in f b.figures.ways v l b.tags = t ∙ sym (cond-then _ _ in-range) in
+    let installed : tags ≡ installed_in f b.figures.ways v l b.tags = (rw ways at t) ∙ sym (cond-then _ _ in-range) in
     rw (fill-parts b l v h.slot, installed, copied, written, ← h.first)
 
 -- the memory length plays no part in a fill
@@ -203,7 +198,7 @@ pub filled-state :
     (s : State) (cache memory : List ℕ) (l : ℕ) (tags : List Tag) (cache' memory' : List ℕ)
     → s.request ≡ Line l
     → hierarchy s.figures 0 tags cache' memory' ≡ fill_line l (hierarchy s.figures 0 s.tags cache memory)
-    → outcome_of (record { answer = Filled (l * 16); next = with_records tags (with_register Free s) }) cache' memory'
+    → outcome_of (record { answer = Filled (l * 16); next = record s { request = Free; tags = tags } }) cache' memory'
     ≡ reply_rule (queues_of s) (hierarchy_of s cache memory)
 unfolding reply_rule
 filled-state s cache memory l tags cache' memory' r e =
@@ -248,22 +243,22 @@ unwritten r b e f found h missed none =
 
 -- the bytes and the records of a store that is written to its line, from what each function made
 pub written-whole :
-    (r : Request) (b : Hierarchy) (e : StoreEntry) (f w : ℕ) (found : Lookup) (table used : List Tag) (cache : List ℕ)
-    → Located r b (line_of e.address) f found → found ≡ Hit w
+    (r : Request) (b : Hierarchy) (e : StoreEntry) (f n w : ℕ) (found : Lookup) (table used : List Tag) (cache : List ℕ)
+    → Located r b (line_of e.address) f found → n ≡ b.figures.ways → found ≡ Hit w
     → e.width ≤ 4 → e.address % 16 + e.width ≤ 16 → length b.cache ≡ slots b * 16
     → cache ≡ store_put (16 * (f + w) + e.address % 16) e.width e.value b.cache
     → table ≡ set b.tags (f + w) (marked b.figures.policy e (tag_at b.tags (f + w)))
-    → used ≡ cond (in_set f b.figures.ways (f + w)) (each_from (aged_at f b.figures.ways (f + w) (tag_at table (f + w)).age) 0 table) table
+    → used ≡ cond (in_set f n (f + w)) (each_from (aged_at f n (f + w) (tag_at table (f + w)).age) 0 table) table
     → holding b used cache (stored_memory e b) ≡ write_store e b
 unfolding write_store put_store use_slot
-written-whole r b e f w found table used cache h hit narrow one_line long c d u =
+written-whole r b e f n w found table used cache h ways hit narrow one_line long c d u =
     let v = f + w in
     let way = h.way w hit in
     let here : present b (line_of e.address) ≡ true = sym h.here ∙ ap is_hit hit in
     let put : cache ≡ each_from (overlaid (16 * v + e.address % 16) e.width e.value) 0 b.cache =
     c ∙ put-inside _ _ _ b.cache narrow (omega (arith, h.within)) in
     let aged : used ≡ each_from (aged_at f b.figures.ways v (tag_at table v).age) 0 table =
-    u ∙ sym (cond-then _ _ (slot-in-set b f v h.within h.room (omega arith) (omega arith))) in
+    (rw ways at u) ∙ sym (cond-then _ _ (slot-in-set b f v h.within h.room (omega arith) (omega arith))) in
     rw (here, aged, d, put, h.slot w hit, h.first)
 
 -- ---- flush
@@ -331,9 +326,9 @@ module _ (a : ℕ) (s : State) (cache memory : List ℕ) where
       ap (λ (bs : List ℕ). unchanged (shown p.start bs) (queues_of s) (hierarchy_of s cache memory)) (bytes-from p.start p.length cache h)
       ∙ rw e (sym show-step)
 
-  pub show-refused : (k : ℕ) → outcome (rules.show a) (queues_of s) (hierarchy_of s cache memory) ≡ unchanged empty_part (queues_of s) (hierarchy_of s cache memory) → record { start = 0; length = 0 } ≡ shown_part a (world_of s cache memory)
+  pub show-refused : outcome (rules.show a) (queues_of s) (hierarchy_of s cache memory) ≡ unchanged empty_part (queues_of s) (hierarchy_of s cache memory) → record { start = 0; length = 0 } ≡ shown_part a (world_of s cache memory)
   unfolding shown_part answer
-  show-refused k e = sym (ap (λ (o : Outcome). part_in o.answer) e)
+  show-refused e = sym (ap (λ (o : Outcome). part_in o.answer) e)
 
   module _ (does : outcome (rules.show a) (queues_of s) (hierarchy_of s cache memory) ≡ show_rule a (queues_of s) (hierarchy_of s cache memory)) where
     pub show-outside : s.size ≤ a → record { start = 0; length = 0 } ≡ shown_part a (world_of s cache memory)

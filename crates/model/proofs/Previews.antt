@@ -24,8 +24,8 @@ use Rattle.model.specs.declared.Answer.TheVariants.{Previewed}
 use Rattle.model.proofs.Facts.{fit-figures}
 
 module _ (s : State) (cache memory : List ℕ) (formed : Formed s cache memory) (l f : ℕ) (asked : s.request ≡ Line l)
-    (first : f ≡ cond (has_room s.figures) ((l % s.figures.sets) * s.figures.ways) 0) (p : code.Preview)
-    (told : preview_given p ≡ cond (in_table f s.figures.ways && ltb 0 s.figures.ways) (preview_in s.tags f s.figures.ways) no_preview) where
+    (first : f ≡ cond (has_room s.figures) ((l % s.figures.sets) * s.figures.ways) 0) (n : ℕ) (ways : n ≡ s.figures.ways) (p : code.Preview)
+    (told : preview_given p ≡ cond (in_table f n && ltb 0 n) (preview_in s.tags f n) no_preview) where
   abbrev b : Hierarchy
   b = hierarchy_of s cache memory
 
@@ -36,7 +36,7 @@ module _ (s : State) (cache memory : List ℕ) (formed : Formed s cache memory) 
       let fig = fit-figures s cache memory view.fit in
       let room = has_room_lem g fig.some-set fig.some-way fig.room in
       let at = at_first g l f room first in
-      told
+      (rw ways at told)
       ∙ (sym (cond-then _ _ (and_both (in_table f g.ways) _ (set-in-table g l f room first) (lt-ltb 0 g.ways fig.some-way)))
       ∙ (ap (λ (f : ℕ). preview_in s.tags f g.ways) at
       ∙ preview-is b l fig.some-way (omega (arith, set-in-use g l f room first, at, fig.room, (good-tells b view.lines).table))))

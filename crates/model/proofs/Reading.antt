@@ -3,7 +3,8 @@ use Prim.Native.Nat.{ℕ, zero, suc, ◌+◌, ◌*◌, ◌-◌, ◌%◌, ◌<◌
 use mathlib.Core.Path.{◌≡◌, refl, sym, ◌∙◌, ap, ap₂}
 use mathlib.Core.Bool.{Bool, true, false}
 use mathlib.Core.List.{List}
-use mathlib.Core.Option.{Option, some, none}
+use Rattle.std.proofs.Math.Option as math
+use Rattle.std.proofs.Common.{Option, MatchOption, is_some, not}
 use native.Mathlib.Omega.{arith}
 use lib.ListN.{length}
 use Rattle.lists.specs.Bytes.{add_byte, gather}
@@ -14,20 +15,21 @@ use Rattle.rules.specs.declared.Lookup.TheVariants.{Hit, Pending, Miss}
 use Rattle.rules.specs.Shape.{Queues, Hierarchy, line_of, slots}
 use Rattle.rules.specs.Lines.{slot_of, present, place_of, cached_byte}
 use Rattle.rules.specs.Forward.{load_byte, load_value, all_forwarded}
-use Rattle.rules.specs.Calls.{wait_answer, load_answer}
+use Rattle.rules.specs.Calls.{wait_answer, load_answer, is_none}
 use Rattle.records.specs.Records.{is_hit}
-use Rattle.line_bytes.specs.declared.Read.{Read}
-use Rattle.line_bytes.specs.Reads.{read_of, is_forwarded, byte_from, bytes_read}
+use Rattle.line_bytes.specs.declared.Loaded.{Loaded}
+use Rattle.line_bytes.specs.Reads.{read_of, byte_from, bytes_read}
 use Rattle.rules.proofs.Entries.{none-forwarded}
-use Rattle.line_bytes.proofs.Reading.{is-readable, read-inside, forwarded-read}
+use Rattle.line_bytes.proofs.Reading.{is-readable, read-inside, lacking-read, forwarded-read}
 use Rattle.model.specs.State.{InOneLine, answer_of}
+use Rattle.model.specs.declared.read.Reading.{Reading}
 use Rattle.model.specs.Reads.{place_in, reading_of, wait_of, answer_to}
 use Rattle.model.proofs.Leaves.{Located}
 
 -- ---- the value
 
 -- bytes that agree give the same value
-gather-same : (f g : ℕ → Option ℕ) (w a : ℕ) → ((x : ℕ) → a ≤ x → x < a + w → f x ≡ g x) → gather f a w ≡ gather g a w
+gather-same : (f g : ℕ → math.Option ℕ) (w a : ℕ) → ((x : ℕ) → a ≤ x → x < a + w → f x ≡ g x) → gather f a w ≡ gather g a w
 unfolding gather
 gather-same f g zero a h = refl
 gather-same f g (suc w) a h =
@@ -75,14 +77,8 @@ module _ (q : Queues) (b : Hierarchy) (i a w : ℕ) (f : InOneLine a w) (g : ℕ
   pub read-located :
       record { found = found; read = bytes_read i a w q.stores b.cache (place_in g found a) (is_hit found) } ≡ reading_of i a w q b
   read-located =
-      rw (← h.says) (ap (λ (r : Read). record { found = found; read = r })
+      rw (← h.says) (ap (λ (r : Option (Loaded ℕ)). record { found = found; read = r })
       (read_told i a w q.stores b f (place_in g found a) (is_hit found) h.here (λ t. sym (place_is t).0) place-low (λ t. (place_is t).1)))
-
--- where the line was not found
-pub place_none : (g a : ℕ) (x : Lookup) → is_hit x ≡ false → 0 ≡ place_in g x a
-place_none g a (Hit w) e = wrong refl e
-place_none g a Pending e = refl
-place_none g a Miss e = refl
 
 -- ---- a load's answer
 
@@ -91,12 +87,14 @@ wait-read i (Hit w) cache = refl
 wait-read i Pending cache = refl
 wait-read i Miss cache = refl
 
-pub answer-read : (i : ℕ) (f : Lookup) (t : Bool) (o : Option ℕ) (cache : List ℕ) → answer_of (answer_to i f (read_of t o)) cache ≡ load_answer i f o
-answer-read i f t none cache = wait-read i f cache
-answer-read i f t (some v) cache = refl
+pub answer-read : (i : ℕ) (f : Lookup) (t : Bool) (o : math.Option ℕ) (cache : List ℕ) → answer_of (answer_to i f (read_of t o)) cache ≡ load_answer i f o
+answer-read i f t math.none cache = wait-read i f cache
+answer-read i f t (math.some v) cache = refl
 
--- what is listed of it
-pub forwarded-is :
-    (i a w : ℕ) (ss : List StoreEntry) (b : Hierarchy)
-    → is_forwarded (read_of (all_forwarded i ss a w) (load_value i a w ss b)) ≡ all_forwarded i ss a w
-forwarded-is i a w ss b = forwarded-read (all_forwarded i ss a w) (load_value i a w ss b) (none-forwarded i ss b w a)
+-- what is listed of it, by what was read
+module _ (i a w : ℕ) (q : Queues) (b : Hierarchy) (r : Reading) (e : r ≡ reading_of i a w q b) where
+  pub waiting-is : (x : Bool) → is_some r.read ≡ not x → x ≡ is_none (load_value i a w q.stores b)
+  waiting-is x h = lacking-read (all_forwarded i q.stores a w) (load_value i a w q.stores b) x (rw e at h)
+
+  pub forwarded-is : (x : Bool) → MatchOption r.read (x ≡ false) (λ l. x ≡ l.forwarded) → x ≡ all_forwarded i q.stores a w
+  forwarded-is x h = forwarded-read (all_forwarded i q.stores a w) (load_value i a w q.stores b) (none-forwarded i q.stores b w a) x (rw e at h)

@@ -1,13 +1,12 @@
 -- What a load reads and answers, in the code's types, by what the tag lookup says of its line.
-use Rattle.std.specs.Prelude.{ℕ, ◌+◌, ◌*◌, ◌%◌}
+use Rattle.std.specs.Prelude.{ℕ, ◌+◌, ◌*◌, ◌%◌, Option, Some, None}
 use Rattle.rules.specs.declared.Lookup.{Lookup}
 use Rattle.rules.specs.declared.Lookup.TheVariants.{Hit, Pending, Miss}
 use Rattle.rules.specs.Shape.{Queues, Hierarchy, line_bytes, line_of}
 use Rattle.rules.specs.Lines.{lookup}
 use Rattle.rules.specs.Forward.{load_value, all_forwarded}
 use Rattle.line_bytes.specs.Reads.{read_of}
-use Rattle.line_bytes.specs.declared.Read.{Read}
-use Rattle.line_bytes.specs.declared.Read.TheVariants.{Whole, Lacking}
+use Rattle.line_bytes.specs.declared.Loaded.{Loaded}
 use Rattle.model.specs.declared.read.Reading.{Reading}
 use Rattle.model.specs.declared.Answer.{Answer}
 use Rattle.model.specs.declared.Answer.TheVariants.{Value, Waits, WaitsRequested}
@@ -29,6 +28,6 @@ wait_of i Pending = WaitsRequested i
 wait_of i Miss = Waits i
 
 -- what load i answers to what it read
-abbrev pub answer_to : ℕ → Lookup → Read → Answer
-answer_to i f (Whole v t) = Value i v
-answer_to i f Lacking = wait_of i f
+abbrev pub answer_to : ℕ → Lookup → Option (Loaded ℕ) → Answer
+answer_to i f (Some l) = Value i l.value
+answer_to i f None = wait_of i f

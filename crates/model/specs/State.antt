@@ -1,18 +1,18 @@
 -- The state as a struct, beside the two halves of the rules; answers and calls of the code as those of the rules.
-use Rattle.std.specs.Prelude.{ℕ, ◌+◌, ◌*◌, ◌-◌, ◌%◌, ◌<◌, ◌≤◌, ◌≡◌, Bool, true, false, cond, not, List, [], ◌∷◌, get_or, replicate}
+use Rattle.std.specs.Prelude.{ℕ, ◌+◌, ◌*◌, ◌-◌, ◌%◌, ◌<◌, ◌≤◌, ◌≡◌, true, cond, not, List, [], ◌∷◌, get_or, replicate, Result, ⊤}
 use Rattle.lists.specs.Counted.{each_from}
 use Rattle.lists.specs.Padded.{any, first}
 use Rattle.rules.specs.declared.Figures.{Figures}
 use Rattle.rules.specs.declared.Tag.{Tag}
 use Rattle.rules.specs.declared.StoreEntry.{StoreEntry}
 use Rattle.rules.specs.declared.Checkpoint.{Checkpoint as Mark}
-use Rattle.rules.specs.declared.Request.{Request}
 use Rattle.rules.specs.declared.Request.TheVariants.{Free}
 use Rattle.rules.specs.Shape.{Queues, Hierarchy, World, world, table_size, store_places, load_places, checkpoint_places, no_store, no_load, no_checkpoint, no_tag, no_figures, is_free_store}
 use Rattle.rules.specs.Calls.{Outcome, waiting_at, guarded}
 use Rattle.rules.specs.Calls as rules
 use Rattle.rules.specs.WellFormed.{well_formed}
-use Rattle.rules.specs.Runs.{outcome}
+use Rattle.rules.specs.Runs.{state_checks, outcome}
+use Rattle.rules.specs.RefusalNumbers.{found_by}
 use Rattle.records.specs.Records.{has_room, preview_given}
 use Rattle.line_bytes.specs.Writes.{DirtyInside}
 use Rattle.model.specs.declared.State.{State}
@@ -62,34 +62,6 @@ no_state = record {
   loads = replicate load_places no_load;
   checkpoints = replicate checkpoint_places no_checkpoint;
   tags = replicate table_size no_tag;
-}
-
--- the same state with another register
-abbrev pub with_register : Request → State → State
-with_register r s = record {
-  figures = s.figures;
-  size = s.size;
-  last = s.last;
-  committed = s.committed;
-  request = r;
-  stores = s.stores;
-  loads = s.loads;
-  checkpoints = s.checkpoints;
-  tags = s.tags;
-}
-
--- the same state with other records
-abbrev pub with_records : List Tag → State → State
-with_records tags s = record {
-  figures = s.figures;
-  size = s.size;
-  last = s.last;
-  committed = s.committed;
-  request = s.request;
-  stores = s.stores;
-  loads = s.loads;
-  checkpoints = s.checkpoints;
-  tags = tags;
 }
 
 -- ---- answers, with 01's numbers and values for each case
@@ -153,20 +125,10 @@ call_of (Checkpoint x) = rules.checkpoint x
 call_of (Restore x) = rules.restore x
 call_of Preview = rules.preview
 
--- the call is one of those that `read_formed` makes: they only read the lent bytes (a setting and a return do not look at them)
-abbrev pub reads_only : Call → Bool
-reads_only (Load a w) = true
-reads_only (Store a w v) = true
-reads_only (Retry i) = true
-reads_only (Commit k) = true
-reads_only (Abort n) = true
-reads_only Idle = false
-reads_only Reply = false
-reads_only Flush = false
-reads_only (Show a) = true
-reads_only (Checkpoint x) = false
-reads_only (Restore x) = false
-reads_only Preview = true
+-- ---- checks 1 and 10: nothing, or the refusal's number
+
+abbrev pub checked_state : Queues → Hierarchy → Result ⊤ ℕ
+checked_state q b = found_by (state_checks q b) tt
 
 -- ---- what check 1 and the access checks leave to the functions behind them
 

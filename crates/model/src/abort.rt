@@ -4,28 +4,25 @@ ghost use Rattle.rules.specs.Calls.{abort_rule};
 ghost use Rattle.rules.specs.Calls as rules;
 ghost use Rattle.model.specs.State.{queues_of, hierarchy_of, outcome_of, Squashes, Does, DoesWith, world_of};
 
-use crate::{Answer, Call, State, Step};
-use checkpoints::Change;
-use rules::{BAD_ABORT, CHECKPOINT_PLACES, Checkpoint};
+use crate::{Answer, State, Step};
+use rules::{CHECKPOINT_PLACES, Checkpoint, Refusal};
 
 impl State {
     // "removes every store and load numbered n or more and sets last to n − 1", with the checkpoints that are left
-    pub(crate) fn squash(mut self, n: u32, left: [Checkpoint; CHECKPOINT_PLACES]) -> Step
+    pub(crate) fn squash(self, n: u32, left: [Checkpoint; CHECKPOINT_PLACES]) -> Step
         requires { 0 < n }
         ensures { Squashes self n left result }
     {
-        let loads = self.loads;
-        let stores = self.stores;
-        let held = store_queue::squash_stores(stores, n);
-        let listed = load_queue::squash_loads(loads, n);
         let last = n - 1;
-        self.last = last;
-        self.stores = held;
-        self.loads = listed;
-        self.checkpoints = left;
         Step {
             answer: Answer::Kept(last),
-            next: self,
+            next: State {
+                last,
+                stores: store_queue::squash_stores(self.stores, n),
+                loads: load_queue::squash_loads(self.loads, n),
+                checkpoints: left,
+                ..self
+            },
         }
     }
 
@@ -34,8 +31,7 @@ impl State {
         requires { 0 < n }
         ensures { (c m : List ℕ) → outcome_of result c m ≡ abort_rule n (queues_of self) (hierarchy_of self c m) }
     {
-        let marks = self.checkpoints;
-        let left = checkpoints::changed(marks, Change::Above(n));
+        let left = checkpoints::forget_above(self.checkpoints, n);
         self.squash(n, left)
     }
 
@@ -44,10 +40,10 @@ impl State {
         ensures { (c : List ℕ) → DoesWith (rules.abort n) self result c }
     {
         if n <= self.committed {
-            return self.refused(BAD_ABORT);
+            return self.refused(Refusal::BadAbort);
         }
         if self.last < n - 1 {
-            return self.refused(BAD_ABORT);
+            return self.refused(Refusal::BadAbort);
         }
         self.abort_accepted(n)
     }
@@ -56,6 +52,9 @@ impl State {
     pub fn abort(self, cache: &[u8], memory: &[u8], n: u32) -> Step
         ensures { Does (rules.abort n) (world_of self cache.now memory.now) result cache.now memory.now }
     {
-        self.read_checked(Call::Abort(n), cache, memory)
+        if let Err(why) = self.check_state(cache, memory) {
+            return self.refused(why);
+        }
+        self.abort_formed(n)
     }
 }

@@ -6,22 +6,22 @@ ghost use Rattle.rules.specs.Calls as rules;
 ghost use Rattle.model.specs.State.{queues_of, hierarchy_of, outcome_of, Does, DoesWith, world_of};
 
 use crate::{Answer, State, Step};
-use checkpoints::Change;
-use rules::{BAD_NAME, CHECKPOINT_UNAVAILABLE, NAME_IN_USE, TOP_NUMBER};
+use rules::{Refusal, TOP_NUMBER};
 
 impl State {
     // It "remembers the next operation number"; "Setting answers that number"
-    fn checkpoint_accepted(mut self, name: u32) -> Step
+    fn checkpoint_accepted(self, name: u32) -> Step
         requires { self.last < top_number }
         ensures { (c m : List ℕ) → outcome_of result c m ≡ checkpoint_rule name (queues_of self) (hierarchy_of self c m) }
     {
-        let marks = self.checkpoints;
         let number = self.last + 1;
-        let with_mark = checkpoints::changed(marks, Change::Add(name, number));
-        self.checkpoints = with_mark;
+        let with_mark = checkpoints::add(self.checkpoints, name, number);
         Step {
             answer: Answer::Checkpointed(number),
-            next: self,
+            next: State {
+                checkpoints: with_mark,
+                ..self
+            },
         }
     }
 
@@ -30,14 +30,13 @@ impl State {
         ensures { (c : List ℕ) → DoesWith (rules.checkpoint name) self result c }
     {
         if !checkpoints::is_name(name) {
-            return self.refused(BAD_NAME);
+            return self.refused(Refusal::BadName);
         }
-        let marks = self.checkpoints;
-        if checkpoints::in_use(marks, name) {
-            return self.refused(NAME_IN_USE);
+        if checkpoints::in_use(self.checkpoints, name) {
+            return self.refused(Refusal::NameInUse);
         }
         if self.last == TOP_NUMBER {
-            return self.refused(CHECKPOINT_UNAVAILABLE);
+            return self.refused(Refusal::CheckpointUnavailable);
         }
         self.checkpoint_accepted(name)
     }
@@ -46,9 +45,8 @@ impl State {
     pub fn checkpoint(self, cache: &[u8], memory: &[u8], name: u32) -> Step
         ensures { Does (rules.checkpoint name) (world_of self cache.now memory.now) result cache.now memory.now }
     {
-        let k = self.state_refusal(cache, memory);
-        if k != 0 {
-            return self.refused(k);
+        if let Err(why) = self.check_state(cache, memory) {
+            return self.refused(why);
         }
         self.checkpoint_formed(name)
     }

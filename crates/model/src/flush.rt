@@ -6,7 +6,7 @@ ghost use Rattle.line_checks.specs.Refusal.{hierarchy};
 ghost use Rattle.model.specs.State.{Flushable, Does, world_of, Formed};
 
 use crate::{Answer, State, Step};
-use rules::{COMMITTED_STORE_HELD, Figures, TAG_RECORDS, Tag};
+use rules::{Figures, Refusal, TAG_RECORDS, Tag};
 
 // 02, card 2: "Eviction and flush write marked words only": every dirty word goes to memory, and the records are clean. (Of any lines
 // whose dirty ones lie in memory, well formed or not.)
@@ -27,22 +27,19 @@ fn flush_lines(
 impl State {
     // A flush on a well-formed state: check 18, then "Flush writes every dirty line to memory, marks it clean .. Ages stay." 02, card 2:
     // "flush answers the count of words".
-    pub(crate) fn flush_formed(mut self, cache: &[u8], memory: &mut [u8]) -> Step
+    pub(crate) fn flush_formed(self, cache: &[u8], memory: &mut [u8]) -> Step
         requires { Formed self cache.now memory.old }
         ensures { Does rules.flush (world_of self cache.now memory.old) result cache.now memory.new }
     {
-        let stores = self.stores;
-        if store_queue::has_committed_store(stores, self.committed) {
-            return self.refused(COMMITTED_STORE_HELD);
+        if store_queue::has_committed_store(self.stores, self.committed) {
+            return self.refused(Refusal::CommittedStoreHeld);
         }
-        let tags = self.tags;
-        let figures = self.figures;
-        let written = records::dirty_count(tags);
-        let clean = flush_lines(tags, figures, cache, memory);
-        self.tags = clean;
         Step {
-            answer: Answer::Flushed(written),
-            next: self,
+            answer: Answer::Flushed(records::dirty_count(self.tags)),
+            next: State {
+                tags: flush_lines(self.tags, self.figures, cache, memory),
+                ..self
+            },
         }
     }
 
@@ -50,9 +47,8 @@ impl State {
     pub fn flush(self, cache: &[u8], memory: &mut [u8]) -> Step
         ensures { Does rules.flush (world_of self cache.now memory.old) result cache.now memory.new }
     {
-        let k = self.state_refusal(cache, memory);
-        if k != 0 {
-            return self.refused(k);
+        if let Err(why) = self.check_state(cache, memory) {
+            return self.refused(why);
         }
         self.flush_formed(cache, memory)
     }

@@ -17,8 +17,7 @@ use rules::{
 fn can_write(tags: [Tag; TAG_RECORDS], figures: Figures, line: u32) -> bool
     ensures { result ≡ (is_through figures.policy || (has_room figures && present (tabled figures tags) line)) }
 {
-    let policy = figures.policy;
-    match policy {
+    match figures.policy {
         WritePolicy::WriteBack => records::is_present(tags, figures, line),
         WritePolicy::WriteThrough => true,
     }
@@ -34,39 +33,33 @@ fn write_store(
     requires { Writable figures s (length cache.old) }
     ensures { hierarchy figures 0 result cache.new [] ≡ write_store s (hierarchy figures 0 tags cache.old []) }
 {
-    let n = figures.ways as usize;
     let line = s.address / LINE_BYTES;
-    let first = records::first_slot(figures, line);
-    let found = records::lookup(tags, first, n, Request::Free, line);
+    let set = records::set_of(figures, line);
+    let found = records::lookup(tags, set, Request::Free, line);
     let Lookup::Hit(way) = found else {
         return tags;
     };
-    let slot = first + way;
+    let slot = set.first + way;
     let at = LINE_LENGTH * slot + (s.address % LINE_BYTES) as usize;
     line_bytes::put_store(cache, at, s.width, s.value);
-    let policy = figures.policy;
-    let marked = records::mark_written(tags, policy, s, slot);
-    records::use_slot(marked, first, n, slot)
+    let marked = records::mark_written(tags, figures.policy, s, slot);
+    records::use_slot(marked, set, slot)
 }
 
 impl State {
     // (a) ".. remove the store": s is the oldest store. With write-through it goes to memory too.
-    fn drain_oldest(mut self, cache: &mut [u8], memory: &mut [u8], s: StoreEntry) -> Step
+    fn drain_oldest(self, cache: &mut [u8], memory: &mut [u8], s: StoreEntry) -> Step
         requires { Shaped self (length cache.old) × InOneLine s.address s.width × (s.address + s.width ≤ length memory.old) × (s ≡ oldest_store (queues_of self)) }
         ensures { outcome_of result cache.new memory.new ≡ drain_oldest (queues_of self) (hierarchy_of self cache.old memory.old) }
     {
-        let tags = self.tags;
-        let stores = self.stores;
-        let figures = self.figures;
-        let policy = figures.policy;
-        line_bytes::write_through(policy, s, memory);
-        let used = write_store(tags, figures, s, cache);
-        let rest = store_queue::pop_store(stores);
-        self.stores = rest;
-        self.tags = used;
+        line_bytes::write_through(self.figures.policy, s, memory);
         Step {
             answer: Answer::Drained(s.number),
-            next: self,
+            next: State {
+                stores: store_queue::pop_store(self.stores),
+                tags: write_store(self.tags, self.figures, s, cache),
+                ..self
+            },
         }
     }
 
@@ -77,7 +70,10 @@ impl State {
         let line = address / LINE_BYTES;
         Step {
             answer: Answer::Requested(line * LINE_BYTES),
-            next: self.with_request(Request::Line(line)),
+            next: State {
+                request: Request::Line(line),
+                ..self
+            },
         }
     }
 
@@ -86,17 +82,13 @@ impl State {
         requires { Shaped self (self.figures.sets * self.figures.ways * 16) × (address ≡ (oldest_store (queues_of self)).address) × (missing ≡ store_needs_line (queues_of self) (tabled self.figures self.tags)) }
         ensures { (c m : List ℕ) → outcome_of result c m ≡ idle_request (queues_of self) (hierarchy_of self c m) }
     {
-        let request = self.request;
-        if let Request::Line(_) = request {
+        if let Request::Line(_) = self.request {
             return Step {
                 answer: Answer::Idled,
                 next: self,
             };
         }
-        let tags = self.tags;
-        let figures = self.figures;
-        let loads = self.loads;
-        let l = records::lowest_wanting(tags, figures, self.committed, loads);
+        let l = records::lowest_wanting(self.tags, self.figures, self.committed, self.loads);
         if l.number != 0 {
             return self.request_line(l.address);
         }
@@ -114,16 +106,10 @@ impl State {
         requires { Formed self cache.old memory.old }
         ensures { Does rules.idle (world_of self cache.old memory.old) result cache.new memory.new }
     {
-        let stores = self.stores;
-        let loads = self.loads;
-        let s = stores[0];
-        let ready = queue_checks::store_ready(stores, loads, self.committed);
-        if ready {
-            let tags = self.tags;
-            let figures = self.figures;
-            if can_write(tags, figures, s.address / LINE_BYTES) {
-                return self.drain_oldest(cache, memory, s);
-            }
+        let s = self.stores[0];
+        let ready = queue_checks::store_ready(self.stores, self.loads, self.committed);
+        if ready && can_write(self.tags, self.figures, s.address / LINE_BYTES) {
+            return self.drain_oldest(cache, memory, s);
         }
         self.idle_request(ready, s.address)
     }

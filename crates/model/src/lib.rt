@@ -1,11 +1,13 @@
 // The load/store unit: its state by value, and its calls as methods.
 // Each call takes any state, buffers of any length and numbers of any size, refuses what is bad by the paper's number and then
 // changes nothing. `answer_of` in specs/State.antt gives the paper's number and values for each answer.
+// (Each call's method tests the state and then makes its step, in the same lines: one function for them would take the step as a closure, and
+// promise of the closure what each method now promises plainly.)
 #![tactic(auto)]
 
 use records::Preview;
 use rules::{
-    CHECKPOINT_PLACES, Checkpoint, Figures, LOAD_PLACES, LoadEntry, Request, STORE_PLACES,
+    CHECKPOINT_PLACES, Checkpoint, Figures, LOAD_PLACES, LoadEntry, Refusal, Request, STORE_PLACES,
     StoreEntry, TAG_RECORDS, Tag,
 };
 
@@ -26,8 +28,9 @@ mod start;
 mod steps;
 mod store;
 
-// The state. A free place of a list and an unused record are all zero.
-#[derive(Clone, Copy)]
+// The state. A free place of a list and an unused record are all zero. (It has no invariant: every call takes any state. What holds of a
+// well-formed one is said by the words `Shaped`, `Sound` and `Formed` where a private function asks for it.)
+#[derive(Clone, Copy, PartialEq, Eq)]
 pub struct State {
     // sets and ways
     pub figures: Figures,
@@ -48,24 +51,17 @@ pub struct State {
     pub tags: [Tag; TAG_RECORDS],
 }
 
-// What a start answers: ready, or the refusal's number.
-#[derive(Clone, Copy)]
-pub enum StartAnswer {
-    Ready,
-    NotAllowed(u32),
-}
-
-// What a start hands back. The state of a refused start is all zero.
-#[derive(Clone, Copy)]
+// What a start hands back: ready or its refusal, and the state, which is all zero after a refusal.
+#[derive(Clone, Copy, PartialEq, Eq)]
 pub struct Started {
-    pub answer: StartAnswer,
+    pub answer: Result<(), Refusal>,
     pub state: State,
 }
 
 // What a call answers, with the paper's numbers.
-#[derive(Clone, Copy)]
+#[derive(Clone, Copy, PartialEq, Eq)]
 pub enum Answer {
-    // the refusal's number (`rules` has a name for each)
+    // the refusal's number (`Refusal` of `rules` names each; a number here, since `write_answer` of `script_text` takes any answer)
     Refused(u32),
     // the operation number
     Stored(u32),
@@ -98,14 +94,14 @@ pub enum Answer {
 }
 
 // What a call hands back: its answer and the next state.
-#[derive(Clone, Copy)]
+#[derive(Clone, Copy, PartialEq, Eq)]
 pub struct Step {
     pub answer: Answer,
     pub next: State,
 }
 
-// The calls of a run.
-#[derive(Clone, Copy)]
+// The calls of a run. (An enum and no closures: a call is data, which a line of a script or a number from C names.)
+#[derive(Clone, Copy, PartialEq, Eq)]
 pub enum Call {
     // address, width
     Load(u32, u32),

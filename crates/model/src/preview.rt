@@ -3,23 +3,21 @@ ghost use Rattle.std.specs.Prelude.{List, ℕ};
 ghost use Rattle.rules.specs.Calls as rules;
 ghost use Rattle.model.specs.State.{Does, DoesWith, world_of};
 
-use crate::{Answer, Call, State, Step};
-use rules::{NOTHING_REQUESTED, Request};
+use crate::{Answer, State, Step};
+use rules::{Refusal, Request};
 
 impl State {
     // A preview on a well-formed state: check 17, then what the records of the requested line's set tell. No byte is looked at.
     pub(crate) fn preview_formed(self) -> Step
         ensures { (c : List ℕ) → DoesWith rules.preview self result c }
     {
-        let request = self.request;
-        let Request::Line(line) = request else {
-            return self.refused(NOTHING_REQUESTED);
+        let Request::Line(line) = self.request else {
+            return self.refused(Refusal::NothingRequested);
         };
         let tags = self.tags;
         let figures = self.figures;
-        let ways = figures.ways as usize;
-        let first = records::first_slot(figures, line);
-        let told = records::preview_fill(tags, first, ways);
+        let set = records::set_of(figures, line);
+        let told = records::preview_fill(tags, set);
         Step {
             answer: Answer::Previewed(told),
             next: self,
@@ -30,6 +28,9 @@ impl State {
     pub fn preview(self, cache: &[u8], memory: &[u8]) -> Step
         ensures { Does rules.preview (world_of self cache.now memory.now) result cache.now memory.now }
     {
-        self.read_checked(Call::Preview, cache, memory)
+        if let Err(why) = self.check_state(cache, memory) {
+            return self.refused(why);
+        }
+        self.preview_formed()
     }
 }

@@ -4,14 +4,14 @@ ghost use Rattle.model.specs.State.{queues_of, hierarchy_of, Shaped, InOneLine};
 ghost use Rattle.model.specs.Reads.{place_in, reading_of, wait_of, answer_to};
 
 use crate::{Answer, State};
-use line_bytes::Read;
+use line_bytes::Loaded;
 use rules::{LINE_BYTES, LINE_LENGTH, Lookup};
 
-// What the lookup says of a load's line, and what the load reads.
+// What the lookup says of a load's line, and what the load reads, if no byte is lacking.
 #[derive(Clone, Copy)]
 pub struct Reading {
     pub found: Lookup,
-    pub read: Read,
+    pub read: Option<Loaded<u32>>,
 }
 
 // 02, card 4: "'waits' becomes 'waits-requested' when the lookup says requested": what load i answers, when it waits.
@@ -29,12 +29,10 @@ pub(crate) fn wait_answer(i: u32, found: Lookup) -> Answer
 pub(crate) fn answer_to(i: u32, r: Reading) -> Answer
     ensures { result ≡ answer_to i r.found r.read }
 {
-    let read = r.read;
-    let found = r.found;
-    let Read::Whole(v, _) = read else {
-        return wait_answer(i, found);
-    };
-    Answer::Value(i, v)
+    match r.read {
+        Some(l) => Answer::Value(i, l.value),
+        None => wait_answer(i, r.found),
+    }
 }
 
 // Where in the cache the byte at the address stands, if its line was found in a way of the set from slot `first` on; else 0.
@@ -56,15 +54,13 @@ impl State {
     {
         let line = address / LINE_BYTES;
         let tags = self.tags;
-        let stores = self.stores;
         let figures = self.figures;
         let request = self.request;
-        let ways = figures.ways as usize;
-        let first = records::first_slot(figures, line);
-        let found = records::lookup(tags, first, ways, request, line);
-        let place = place_of(first, found, address);
+        let set = records::set_of(figures, line);
+        let found = records::lookup(tags, set, request, line);
+        let place = place_of(set.first, found, address);
         let here = records::is_hit(found);
-        let read = line_bytes::read_bytes(stores, i, address, width, cache, place, here);
+        let read = line_bytes::read_bytes(self.stores, i, address, width, cache, place, here);
         Reading { found, read }
     }
 }

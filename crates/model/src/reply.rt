@@ -6,7 +6,7 @@ ghost use Rattle.line_checks.specs.Refusal.{hierarchy};
 ghost use Rattle.model.specs.State.{Fillable, Does, world_of, Formed};
 
 use crate::{Answer, Call, State, Step};
-use rules::{Figures, LINE_BYTES, LINE_LENGTH, NOTHING_REQUESTED, Request, TAG_RECORDS, Tag};
+use rules::{Figures, LINE_BYTES, LINE_LENGTH, Refusal, Request, TAG_RECORDS, Tag};
 
 // A line comes from memory; the dirty words of the victim are first written to memory.
 fn fill_line(
@@ -19,9 +19,8 @@ fn fill_line(
     requires { Fillable figures tags line (length cache.old) (length memory.old) }
     ensures { hierarchy figures 0 result cache.new memory.new ≡ fill_line line (hierarchy figures 0 tags cache.old memory.old) }
 {
-    let ways = figures.ways as usize;
-    let first = records::first_slot(figures, line);
-    let v = records::victim(tags, first, ways);
+    let set = records::set_of(figures, line);
+    let v = records::victim(tags, set);
     let old = tags[v];
     line_bytes::write_back(old, v, cache, memory);
     let l = line as usize;
@@ -30,7 +29,7 @@ fn fill_line(
         v,
         &memory[LINE_LENGTH * l..LINE_LENGTH * l + LINE_LENGTH],
     );
-    records::install(tags, first, ways, v, line)
+    records::install(tags, set, v, line)
 }
 
 impl State {
@@ -39,18 +38,16 @@ impl State {
         requires { Formed self cache.old memory.old }
         ensures { Does rules.reply (world_of self cache.old memory.old) result cache.new memory.new }
     {
-        let request = self.request;
-        let Request::Line(line) = request else {
-            return self.refused(NOTHING_REQUESTED);
+        let Request::Line(line) = self.request else {
+            return self.refused(Refusal::NothingRequested);
         };
-        let tags = self.tags;
-        let figures = self.figures;
-        let table = fill_line(tags, figures, line, cache, memory);
-        let mut next = self.with_request(Request::Free);
-        next.tags = table;
         Step {
             answer: Answer::Filled(line * LINE_BYTES),
-            next,
+            next: State {
+                request: Request::Free,
+                tags: fill_line(self.tags, self.figures, line, cache, memory),
+                ..self
+            },
         }
     }
 

@@ -6,8 +6,7 @@ ghost use Rattle.rules.specs.Calls as rules;
 ghost use Rattle.model.specs.State.{queues_of, hierarchy_of, outcome_of, Does, DoesWith, world_of};
 
 use crate::{State, Step};
-use checkpoints::Change;
-use rules::{BAD_NAME, CHECKPOINT_UNAVAILABLE};
+use rules::Refusal;
 
 impl State {
     // "Returning to it does what an abort at that number does, and forgets that mark and all set later."
@@ -15,9 +14,8 @@ impl State {
         requires { in_use name self.checkpoints ≡ true }
         ensures { (c m : List ℕ) → outcome_of result c m ≡ restore_rule name (queues_of self) (hierarchy_of self c m) }
     {
-        let marks = self.checkpoints;
-        let number = checkpoints::number_of(marks, name);
-        let left = checkpoints::changed(marks, Change::From(name));
+        let number = checkpoints::number_of(self.checkpoints, name);
+        let left = checkpoints::forget_from(self.checkpoints, name);
         self.squash(number, left)
     }
 
@@ -26,11 +24,10 @@ impl State {
         ensures { (c : List ℕ) → DoesWith (rules.restore name) self result c }
     {
         if !checkpoints::is_name(name) {
-            return self.refused(BAD_NAME);
+            return self.refused(Refusal::BadName);
         }
-        let marks = self.checkpoints;
-        if !checkpoints::in_use(marks, name) {
-            return self.refused(CHECKPOINT_UNAVAILABLE);
+        if !checkpoints::in_use(self.checkpoints, name) {
+            return self.refused(Refusal::CheckpointUnavailable);
         }
         self.restore_accepted(name)
     }
@@ -39,9 +36,8 @@ impl State {
     pub fn restore(self, cache: &[u8], memory: &[u8], name: u32) -> Step
         ensures { Does (rules.restore name) (world_of self cache.now memory.now) result cache.now memory.now }
     {
-        let k = self.state_refusal(cache, memory);
-        if k != 0 {
-            return self.refused(k);
+        if let Err(why) = self.check_state(cache, memory) {
+            return self.refused(why);
         }
         self.restore_formed(name)
     }

@@ -6,29 +6,26 @@ ghost use Rattle.rules.specs.Calls.{waiting_at, answer_load, retry_rule};
 ghost use Rattle.rules.specs.Calls as rules;
 ghost use Rattle.model.specs.State.{queues_of, hierarchy_of, outcome_of, Shaped, InOneLine, Does, DoesWith, world_of, Sound};
 
-use crate::{Answer, Call, State, Step, read};
-use line_bytes::Read;
-use rules::{LINE_BYTES, LoadEntry, NO_WAITING_LOAD};
+use crate::{Answer, State, Step, read};
+use rules::{LINE_BYTES, LoadEntry, Refusal};
 
 impl State {
     // "Once answered, a committed load leaves the list and uses its line if present; an uncommitted one is marked answered."
-    fn answer_load(mut self, i: u32, l: LoadEntry) -> State
+    fn answer_load(self, i: u32, l: LoadEntry) -> State
         requires { Shaped self (self.figures.sets * self.figures.ways * 16) }
         ensures { (v : ℕ) (c m : List ℕ) → outcome_of (record { answer = Answer.Value i v; next = result }) c m ≡ answer_load i v l (queues_of self) (hierarchy_of self c m) }
     {
-        let loads = self.loads;
         if i <= self.committed {
-            let tags = self.tags;
-            let figures = self.figures;
-            let rest = load_queue::remove_waiting(loads, i);
-            let used = records::use_line(tags, figures, l.address / LINE_BYTES);
-            self.loads = rest;
-            self.tags = used;
-            return self;
+            return State {
+                loads: load_queue::remove_waiting(self.loads, i),
+                tags: records::use_line(self.tags, self.figures, l.address / LINE_BYTES),
+                ..self
+            };
         }
-        let marked = load_queue::answer_waiting(loads, i);
-        self.loads = marked;
-        self
+        State {
+            loads: load_queue::answer_waiting(self.loads, i),
+            ..self
+        }
     }
 
     // "tries a waiting load again by the same rule"
@@ -37,16 +34,14 @@ impl State {
         ensures { (m : List ℕ) → outcome_of result cache.now m ≡ retry_rule i (queues_of self) (hierarchy_of self cache.now m) }
     {
         let r = self.read(cache, i, l.address, l.width);
-        let bytes = r.read;
-        let Read::Whole(v, _) = bytes else {
-            let found = r.found;
+        let Some(loaded) = r.read else {
             return Step {
-                answer: read::wait_answer(i, found),
+                answer: read::wait_answer(i, r.found),
                 next: self,
             };
         };
         Step {
-            answer: Answer::Value(i, v),
+            answer: Answer::Value(i, loaded.value),
             next: self.answer_load(i, l),
         }
     }
@@ -56,18 +51,20 @@ impl State {
         requires { Sound self (length cache.now) }
         ensures { DoesWith (rules.retry i) self result cache.now }
     {
-        let loads = self.loads;
-        if load_queue::has_waiting(loads, i) {
-            let l = load_queue::waiting_load(loads, i);
-            return self.retry_accepted(cache, i, l);
+        if !load_queue::has_waiting(self.loads, i) {
+            return self.refused(Refusal::NoWaitingLoad);
         }
-        self.refused(NO_WAITING_LOAD)
+        let l = load_queue::waiting_load(self.loads, i);
+        self.retry_accepted(cache, i, l)
     }
 
     // Inquiry about number i: a waiting load is tried again. Refused: 1, 10, 14.
     pub fn retry(self, cache: &[u8], memory: &[u8], i: u32) -> Step
         ensures { Does (rules.retry i) (world_of self cache.now memory.now) result cache.now memory.now }
     {
-        self.read_checked(Call::Retry(i), cache, memory)
+        if let Err(why) = self.check_state(cache, memory) {
+            return self.refused(why);
+        }
+        self.retry_formed(cache, i)
     }
 }

@@ -8,7 +8,7 @@ use crate::{Answer, State, Step};
 use rules::{LINE_BYTES, LINE_LENGTH, Lookup, Request};
 
 // A part of the cache: where it begins, and its length, 16 or 0.
-#[derive(Clone, Copy)]
+#[derive(Clone, Copy, PartialEq, Eq)]
 pub struct Part {
     pub start: usize,
     pub length: usize,
@@ -30,15 +30,14 @@ impl State {
         }
         let tags = self.tags;
         let figures = self.figures;
-        let ways = figures.ways as usize;
         let line = address / LINE_BYTES;
-        let first = records::first_slot(figures, line);
-        let found = records::lookup(tags, first, ways, Request::Free, line);
+        let set = records::set_of(figures, line);
+        let found = records::lookup(tags, set, Request::Free, line);
         let Lookup::Hit(way) = found else {
             return EMPTY_PART;
         };
         Part {
-            start: LINE_LENGTH * (first + way),
+            start: LINE_LENGTH * (set.first + way),
             length: LINE_LENGTH,
         }
     }
@@ -47,7 +46,7 @@ impl State {
     pub(crate) fn show_part(self, cache: &[u8], memory: &[u8], address: u32) -> Part
         ensures { (result ≡ shown_part address (world_of self cache.now memory.now)) × (result.start + result.length ≤ length cache.now) }
     {
-        if self.state_refusal(cache, memory) != 0 {
+        if !self.is_formed(cache, memory) {
             return EMPTY_PART;
         }
         self.part_formed(address)
@@ -58,9 +57,7 @@ impl State {
         ensures { PartOf cache.entry (shown_part address (world_of self cache.now memory.now)) result }
     {
         let p = self.show_part(cache, memory, address);
-        let a = p.start;
-        let e = a + p.length;
-        &cache[a..e]
+        &cache[p.start..p.start + p.length]
     }
 
     // Show line as a step on a well-formed state.

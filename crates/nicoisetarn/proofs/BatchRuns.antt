@@ -3,7 +3,7 @@ use Prim.Native.Nat.{ℕ, ◌*◌, ◌/◌, ◌%◌}
 use mathlib.Core.Path.{◌≡◌, refl, sym, ◌∙◌, ap, ap₂}
 use mathlib.Core.Bool.{Bool, true, false, ◌&&◌}
 use mathlib.Core.List.{List, [], ◌∷◌, ◌++◌, map}
-use mathlib.Core.Option.{Option, some, none}
+use Rattle.std.specs.Prelude.{Option, Some, None}
 use native.Mathlib.Omega.{arith}
 use lib.Dec.{eqb}
 use lib.ListN.{length}
@@ -16,7 +16,7 @@ use Rattle.rules.specs.WellFormed.{well_formed}
 use Rattle.rules.specs.Runs.{state_checks, refusal, outcome, answer, next, answers, after}
 use Rattle.model.specs.State.{queues_of, hierarchy_of, world_of}
 use Rattle.model.specs.declared.State.{State}
-use Rattle.model.proofs.Calls.{state-refuses, early}
+use Rattle.model.proofs.Calls.{state-number, state-refuses, early}
 use Rattle.images.specs.declared.Image.{Image}
 use Rattle.images.specs.Images.{opened_with, opened_of, imaged_of, stands_for}
 use Rattle.images.proofs.Standing.{images-stand}
@@ -58,7 +58,7 @@ left_at w told = record {
 module _ (c : rules.Call) (s : State) (cache memory : List ℕ) where
   -- a call on the image of a state
   called-state :
-      called (some c) (imaged_of s) cache memory
+      called (Some c) (imaged_of s) cache memory
       ≡ leaves (imaged_answer (answer c (world_of s cache memory))) (next c (world_of s cache memory)).queues (next c (world_of s cache memory)).hierarchy
   unfolding called outcome_from answer next
   called-state =
@@ -69,8 +69,8 @@ on-state : (os : List (Option rules.Call)) (s : State) (cache memory : List ℕ)
     → left_at (batch_end os (world_of s cache memory)) (batch_answers os (world_of s cache memory)) ≡ called_all os (imaged_of s) cache memory
 unfolding called_all batch_answers batch_end called
 on-state [] s cache memory = refl
-on-state (none ∷ os) s cache memory = ap (then (numbers_of no_such_call)) (on-state os s cache memory)
-on-state (some c ∷ os) s cache memory =
+on-state (None ∷ os) s cache memory = ap (then (numbers_of no_such_call)) (on-state os s cache memory)
+on-state (Some c ∷ os) s cache memory =
     let w = next c (world_of s cache memory) in
     ap (then (numbers_of (imaged_answer (answer c (world_of s cache memory))))) (on-state os (state_of w.queues w.hierarchy) w.hierarchy.cache w.hierarchy.memory)
     ∙ ap (λ (l : Left). then (numbers_of l.answer) (called_all os l.image l.cache l.memory)) (sym (called-state c s cache memory))
@@ -85,17 +85,17 @@ on-image os i cache memory stands = on-state os (opened_of i) cache memory ∙ a
 -- a state that is not well formed refuses every call with one number, and stays
 module _ (w : World) (k : ℕ) (e : k ≡ guarded (state_checks w.queues w.hierarchy) (λ j. j) 0) (n : k ≡ 0 → ⊥) where
   all-refused : (c : rules.Call) → outcome c w.queues w.hierarchy ≡ rules.unchanged (refusal c k) w.queues w.hierarchy
-  all-refused c = state-refuses c w.queues w.hierarchy k e n (early c w.hierarchy)
+  all-refused c = state-refuses c w.queues w.hierarchy k (state-number w.queues w.hierarchy k e n) (early c w.hierarchy)
 
   stays : (o : Option rules.Call) → listed_next o w ≡ w
   unfolding next
-  stays none = refl
-  stays (some c) = ap (λ (o : rules.Outcome). world o.queues o.hierarchy) (all-refused c)
+  stays None = refl
+  stays (Some c) = ap (λ (o : rules.Outcome). world o.queues o.hierarchy) (all-refused c)
 
   refuses : (o : Option rules.Call) → listed_answer o w ≡ listed_refusal k o
   unfolding answer
-  refuses none = refl
-  refuses (some c) = ap (λ (o : rules.Outcome). imaged_answer o.answer) (all-refused c)
+  refuses None = refl
+  refuses (Some c) = ap (λ (o : rules.Outcome). imaged_answer o.answer) (all-refused c)
 
   stuck-end : (os : List (Option rules.Call)) → batch_end os w ≡ w
   unfolding batch_end
@@ -116,8 +116,8 @@ module _ (i : Image) (cache memory : List ℕ) where
   no-state : stands_for i ≡ false → (os : List (Option rules.Call)) → called_all os i cache memory ≡ refused_left (batch_refusals (image_refusal i cache memory) os) i cache memory
   unfolding called_all batch_refusals called
   no-state stands [] = refl
-  no-state stands (none ∷ os) = ap (then (numbers_of no_such_call)) (no-state stands os)
-  no-state stands (some c ∷ os) = rw stands (ap (then (numbers_of (listed_refusal (image_refusal i cache memory) (some c)))) (no-state stands os))
+  no-state stands (None ∷ os) = ap (then (numbers_of no_such_call)) (no-state stands os)
+  no-state stands (Some c ∷ os) = rw stands (ap (then (numbers_of (listed_refusal (image_refusal i cache memory) (Some c)))) (no-state stands os))
 
   -- its state is not well formed: the refusal is the number of checks 1 and 10
   refusal_is :
@@ -184,22 +184,22 @@ unformed i cache memory s o f =
 
 -- ---- known calls
 
-answered : (run : List rules.Call) (w : World) → batch_answers (map some run) w ≡ answers_numbered (answers run w)
+answered : (run : List rules.Call) (w : World) → batch_answers (map Some run) w ≡ answers_numbered (answers run w)
 unfolding batch_answers answers_numbered answers
 answered [] w = refl
 answered (c ∷ run) w = ap (λ (l : List ℕ). numbers_of (imaged_answer (answer c w)) ++ l) (answered run (next c w))
 
-ended : (run : List rules.Call) (w : World) → batch_end (map some run) w ≡ after run w
+ended : (run : List rules.Call) (w : World) → batch_end (map Some run) w ≡ after run w
 unfolding batch_end after
 ended [] w = refl
 ended (c ∷ run) w = ended run (next c w)
 
 by-rules : (run : List rules.Call) (i : Image) (cache memory : List ℕ) → stands_for i ≡ true
-    → called_all (map some run) i cache memory ≡ run_left run (world_of (opened_of i) cache memory)
+    → called_all (map Some run) i cache memory ≡ run_left run (world_of (opened_of i) cache memory)
 unfolding run_left
 by-rules run i cache memory stands =
     let w = world_of (opened_of i) cache memory in
-    sym (on-image (map some run) i cache memory stands) ∙ ap₂ left_at (ended run w) (answered run w)
+    sym (on-image (map Some run) i cache memory stands) ∙ ap₂ left_at (ended run w) (answered run w)
 
 module _ (calls answers : List ℕ) (i : Image) (cache memory : List ℕ) where
   unfit : batch_fits calls answers ≡ false → ran calls answers i cache memory ≡ record { answer = no_such_call; image = i; answers = answers; cache = cache; memory = memory }

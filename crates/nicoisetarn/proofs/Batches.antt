@@ -2,10 +2,12 @@
 use Prim.Native.Nat.{ℕ, suc, ◌+◌, ◌*◌, ◌-◌, ◌≤◌, ◌<◌}
 use mathlib.Core.Path.{◌≡◌, refl, sym, ◌∙◌, ap, subst}
 use mathlib.Core.List.{List, [], ◌∷◌, ◌++◌, append-nil, append_assoc}
-use mathlib.Core.Option.{Option, some, none}
+use Rattle.std.specs.Prelude.{Option, Some, None}
 use native.Mathlib.Omega.{arith}
-use lib.ListN.{length, get_or, set, take, drop, length-append}
-use lib.Seq.{sets, sets-eq, get_or-drop, take_at, take_all, drop-drop, length-take-le}
+use lib.ListN.{length, get_or, take, drop, length-append}
+use lib.Seq.{sets, sets-eq, get_or-take, take_at, take_all, drop-drop, length-take-le}
+use borrow.Rule.Slice.PartMut.{put_mid}
+use Rattle.std.proofs.lemmas.Slice.{put_mid-paste}
 use borrow.Author.Tests.{eq-eqb, ne_eqb}
 use Rattle.rules.specs.Shape.{World, world}
 use Rattle.rules.specs.Calls as rules
@@ -41,41 +43,34 @@ no_call n calls = let e : n - n ≡ 0 = omega arith in rw e
 all-calls : (n : ℕ) (calls : List ℕ) → calls_left n 0 calls ≡ calls_listed n calls
 all-calls n calls = let e : n - 0 ≡ n = omega arith in rw e
 
--- the call at a place, as the code reads it
-module _ (calls : List ℕ) (at : ℕ) where
+-- the call at the front, by the first six numbers
+module _ (l : List ℕ) (n : ℕ) (six : n ≡ 6) where
   abbrev number : ℕ → ℕ
-  number k = get_or calls (at + k) 0
+  number k = get_or (take n l) k 0
 
-  pub listed-fifth : (number 4 ≡ 0 → ⊥) → none ≡ call_listed (drop at calls)
+  first : (k : ℕ) → k < 6 → number k ≡ get_or l k 0
+  first k h = get_or-take n l k 0 (omega arith)
+
+  pub listed-fifth : (number 4 ≡ 0 → ⊥) → None ≡ call_listed l
   unfolding call_listed
-  listed-fifth h = rw (get_or-drop at calls 4 0, ne_eqb (number 4) 0 h)
+  listed-fifth h = rw (sym (first 4 (omega arith)), ne_eqb (number 4) 0 h)
 
   module _ (e : number 4 ≡ 0) where
-    pub listed-sixth : (number 5 ≡ 0 → ⊥) → none ≡ call_listed (drop at calls)
+    pub listed-sixth : (number 5 ≡ 0 → ⊥) → None ≡ call_listed l
     unfolding call_listed
-    listed-sixth h = rw (get_or-drop at calls 4 0, get_or-drop at calls 5 0, eq-eqb (number 4) 0 e, ne_eqb (number 5) 0 h)
+    listed-sixth h = rw (sym (first 4 (omega arith)), sym (first 5 (omega arith)), eq-eqb (number 4) 0 e, ne_eqb (number 5) 0 h)
 
-    pub listed-known :
-        number 5 ≡ 0 → (o : Option rules.Call) → o ≡ call_numbered (get_or calls at 0) (number 1) (number 2) (number 3) → o ≡ call_listed (drop at calls)
+    pub listed-known : number 5 ≡ 0 → (o : Option rules.Call) → o ≡ call_numbered (number 0) (number 1) (number 2) (number 3) → o ≡ call_listed l
     unfolding call_listed
     listed-known f o is =
-        let zeroth : at + 0 ≡ at = omega arith in
         is
-        ∙ rw (get_or-drop at calls 0 0, get_or-drop at calls 1 0, get_or-drop at calls 2 0, get_or-drop at calls 3 0, get_or-drop at calls 4 0, get_or-drop at calls 5 0, eq-eqb (number 4) 0 e, eq-eqb (number 5) 0 f, zeroth)
+        ∙ rw (first 0 (omega arith), first 1 (omega arith), first 2 (omega arith), first 3 (omega arith), sym (first 4 (omega arith)), sym (first 5 (omega arith)), eq-eqb (number 4) 0 e, eq-eqb (number 5) 0 f)
 
 -- ---- the answers: those that are there, then the others
 
--- six numbers, put one by one
-pub put_six :
-    (l : List ℕ) (at a b c d e f : ℕ)
-    → set (set (set (set (set (set l at a) (at + 1) b) (at + 2) c) (at + 3) d) (at + 4) e) (at + 5) f ≡ sets l at (a ∷ b ∷ c ∷ d ∷ e ∷ f ∷ [])
-put_six l at a b c d e f =
-    let p1 : at + 1 ≡ suc at = omega arith in
-    let p2 : at + 2 ≡ suc (suc at) = omega arith in
-    let p3 : at + 3 ≡ suc (suc (suc at)) = omega arith in
-    let p4 : at + 4 ≡ suc (suc (suc (suc at))) = omega arith in
-    let p5 : at + 5 ≡ suc (suc (suc (suc (suc at)))) = omega arith in
-    rw (p1, p2, p3, p4, p5)
+-- six numbers, put in the place of six
+pub put_six : (l ys : List ℕ) (at k : ℕ) (a : AnswerImage) → at + 6 ≤ length l → k ≡ 6 → ys ≡ numbers_of a → put_mid at k l ys ≡ sets l at (numbers_of a)
+put_six l ys at k a room e y = put_mid-paste at k l ys (numbers_of a) 6 y (sym e) refl ∙ sym (sets-eq (numbers_of a) l at room)
 
 -- none is there yet
 answers-none : (answers tail : List ℕ) → tail ≡ take (6 * 0) answers ++ tail
@@ -172,25 +167,25 @@ module _ (n : ℕ) (calls : List ℕ) (from : World) where
   module _ (i : ℕ) (s : State) (cache memory answers : List ℕ) (more : i < n) (room : 6 * (i + 1) ≤ length answers) (g : Going i s cache memory answers) where
     -- a call was made
     pub going-call :
-        (c : rules.Call) (r : Step) (a : AnswerImage) (cache' memory' answers' : List ℕ) → some c ≡ call_listed (drop (6 * i) calls)
+        (c : rules.Call) (r : Step) (a : AnswerImage) (cache' memory' answers' : List ℕ) → Some c ≡ call_listed (drop (6 * i) calls)
         → outcome_of r cache' memory' ≡ outcome c (queues_of s) (hierarchy_of s cache memory) → a ≡ imaged_answer (answer_of r.answer [])
         → answers' ≡ sets answers (6 * i) (numbers_of a) → Going (i + 1) r.next cache' memory' answers'
     unfolding answer next
     going-call c r a cache' memory' answers' at did is put =
         let w = world_of s cache memory in
         let goes : world_of r.next cache' memory' ≡ next c w = ap (λ (o : rules.Outcome). world o.queues o.hierarchy) did in
-        let said : a ≡ listed_answer (some c) w = image-over a r.answer cache' is ∙ ap (λ (o : rules.Outcome). imaged_answer o.answer) did in
+        let said : a ≡ listed_answer (Some c) w = image-over a r.answer cache' is ∙ ap (λ (o : rules.Outcome). imaged_answer o.answer) did in
         record {
           formed = subst (λ (v : World). Kept.Formed v) (sym goes) (next-kept c w g.formed);
-          made = made_more n calls from i w _ answers answers' (some c) a more room at said goes put g.made;
+          made = made_more n calls from i w _ answers answers' (Some c) a more room at said goes put g.made;
         }
 
     -- there was no such call
     pub going-none :
-        (a : AnswerImage) (answers' : List ℕ) → none ≡ call_listed (drop (6 * i) calls) → a ≡ no_such_call
+        (a : AnswerImage) (answers' : List ℕ) → None ≡ call_listed (drop (6 * i) calls) → a ≡ no_such_call
         → answers' ≡ sets answers (6 * i) (numbers_of a) → Going (i + 1) s cache memory answers'
     going-none a answers' at is put =
         record {
           formed = g.formed;
-          made = made_more n calls from i (world_of s cache memory) _ answers answers' none a more room at is refl put g.made;
+          made = made_more n calls from i (world_of s cache memory) _ answers answers' None a more room at is refl put g.made;
         }

@@ -3,7 +3,7 @@ use Prim.Native.Nat.{ℕ, ◌≤◌}
 use mathlib.Core.Path.{◌≡◌, refl, sym, ◌∙◌, ap}
 use mathlib.Core.Bool.{Bool, true, false}
 use mathlib.Core.List.{List, [], map}
-use mathlib.Core.Option.{Option, some, none}
+use Rattle.std.specs.Prelude.{Option, Some, None, option_map}
 use native.Mathlib.Omega.{arith}
 use borrow.Author.Tests.{le-leb, lt-leb}
 use Rattle.lists.proofs.Cond.{cases, wrong}
@@ -18,16 +18,17 @@ use Rattle.model.specs.declared.Call.{Call}
 use Rattle.model.specs.declared.State.{State}
 use Rattle.model.specs.declared.Step.{Step}
 use Rattle.model.specs.declared.Started.{Started}
-use Rattle.model.specs.declared.StartAnswer.TheVariants.{Ready, NotAllowed}
+use Rattle.std.specs.Bool.{⊤}
+use Rattle.std.proofs.Common.{Ok, Err}
+use Rattle.rules.specs.declared.Refusal.{Refusal}
+use Rattle.rules.specs.RefusalNumbers.{refusal_number}
 use Rattle.images.specs.declared.Image.{Image}
 use Rattle.images.specs.declared.TagImage.{TagImage}
 use Rattle.nicoisetarn.specs.declared.AnswerImage.{AnswerImage}
 use Rattle.nicoisetarn.specs.declared.ImageStep.{ImageStep}
-use Rattle.nicoisetarn.specs.declared.answers.Numbered.{Numbered}
-use Rattle.nicoisetarn.specs.declared.answers.Numbered.TheVariants.{Known, Unknown}
 use Rattle.images.specs.Images.{is_profile, imaged_tag, figures_with, opened_of, imaged_with, imaged_of, stands_for}
 use Rattle.images.proofs.Standing.{imaged-opened}
-use Rattle.nicoisetarn.specs.Answers.{call_numbered, numbered_of, coded, imaged_answer, ready_answer, no_such_call}
+use Rattle.nicoisetarn.specs.Answers.{call_numbered, coded, imaged_answer, ready_answer, no_such_call}
 use Rattle.nicoisetarn.specs.Steps.{Left, left_of, kept, leaves, started_by, started_with, started, image_refusal, outcome_from, called, stepped, line_shown, changes_records, next_image}
 use Rattle.nicoisetarn.specs.Claims.{Keeps, RefusedImagesKept, UnknownCallsKept, LooksKept}
 use Rattle.nicoisetarn.proofs.CallNumbers.{no_number, some_number}
@@ -82,7 +83,7 @@ module _ (c : rules.Call) (i : Image) (cache memory : List ℕ) where
   -- the state that the image stands for is stepped
   pub state-stepped :
       (r : Step) (cache' memory' : List ℕ) (s : State) → outcome_of r cache' memory' ≡ outcome_at s → (t : ImageStep) → t.answer ≡ imaged_answer (answer_of r.answer [])
-      → s ≡ opened_of i → stands_for i ≡ true → t.next ≡ next_image c i r.next → left_of t cache' memory' ≡ called (some c) i cache memory
+      → s ≡ opened_of i → stands_for i ≡ true → t.next ≡ next_image c i r.next → left_of t cache' memory' ≡ called (Some c) i cache memory
   unfolding called outcome_from
   state-stepped r cache' memory' s e t answer o stands next =
       (λ j. record {
@@ -96,7 +97,7 @@ module _ (c : rules.Call) (i : Image) (cache memory : List ℕ) where
   -- the image stands for none: refused, and it stays
   pub image-refused :
       stands_for i ≡ false → (k : ℕ) → k ≡ image_refusal i cache memory → (t : ImageStep) → t.answer ≡ imaged_answer (refusal c k) → t.next ≡ i
-      → left_of t cache memory ≡ called (some c) i cache memory
+      → left_of t cache memory ≡ called (Some c) i cache memory
   unfolding called
   image-refused stands k e t answer next =
       (λ j. record { answer = (answer ∙ ap (λ (k : ℕ). imaged_answer (refusal c k)) e) j; image = next j; cache = cache; memory = memory })
@@ -104,16 +105,16 @@ module _ (c : rules.Call) (i : Image) (cache memory : List ℕ) where
 
 -- ---- a call by its number
 
-module _ (call x y z : ℕ) (i : Image) (cache memory : List ℕ) (n : Numbered) (e : numbered_of n ≡ call_numbered call x y z) where
-  pub known-stepped : (c : Call) → n ≡ Known c → (l : Left) → l ≡ called (some (call_of c)) i cache memory → l ≡ stepped call x y z i cache memory
+module _ (call x y z : ℕ) (i : Image) (cache memory : List ℕ) (n : Option Call) (e : option_map call_of n ≡ call_numbered call x y z) where
+  pub known-stepped : (c : Call) → n ≡ Some c → (l : Left) → l ≡ called (Some (call_of c)) i cache memory → l ≡ stepped call x y z i cache memory
   unfolding stepped
-  known-stepped c f l g = g ∙ ap (λ (o : Option rules.Call). called o i cache memory) (sym (ap numbered_of f) ∙ e)
+  known-stepped c f l g = g ∙ ap (λ (o : Option rules.Call). called o i cache memory) (sym (ap (option_map call_of) f) ∙ e)
 
-  pub unknown-stepped : n ≡ Unknown → (t : ImageStep) → t.answer ≡ no_such_call → t.next ≡ i → left_of t cache memory ≡ stepped call x y z i cache memory
+  pub unknown-stepped : n ≡ None → (t : ImageStep) → t.answer ≡ no_such_call → t.next ≡ i → left_of t cache memory ≡ stepped call x y z i cache memory
   unfolding called stepped
   unknown-stepped f t answer next =
       (λ j. record { answer = answer j; image = next j; cache = cache; memory = memory })
-      ∙ ap (λ (o : Option rules.Call). called o i cache memory) (sym (ap numbered_of f) ∙ e)
+      ∙ ap (λ (o : Option rules.Call). called o i cache memory) (sym (ap (option_map call_of) f) ∙ e)
 
 -- ---- start
 
@@ -125,20 +126,20 @@ module _ (f : Figures) (i : Image) (cache memory : List ℕ) where
       (λ t. rw t)
 
   module _ (r : Started) (cache' : List ℕ) (a : start_answer_of r.answer ≡ start_answer f cache memory) (w : world_of r.state cache' memory ≡ start_world f cache memory) (t : ImageStep) where
-    pub start-ready : r.answer ≡ Ready → t.answer ≡ ready_answer → t.next ≡ imaged_of r.state → left_of t cache' memory ≡ started_with f i cache memory
+    pub start-ready : (u : ⊤) → r.answer ≡ Ok u → t.answer ≡ ready_answer → t.next ≡ imaged_of r.state → left_of t cache' memory ≡ started_with f i cache memory
     unfolding started_with
-    start-ready told answer next =
+    start-ready u told answer next =
         (λ j. record { answer = answer j; image = next j; cache = cache'; memory = memory })
         ∙ (λ j. started_by ((sym (ap start_answer_of told) ∙ a) j) (w j) i cache memory)
 
-    pub start-refused : (k : ℕ) → r.answer ≡ NotAllowed k → t.answer ≡ coded 0 k 0 → t.next ≡ i → left_of t cache' memory ≡ started_with f i cache memory
+    pub start-refused : (why : Refusal) → r.answer ≡ Err why → t.answer ≡ coded 0 (refusal_number why) 0 → t.next ≡ i → left_of t cache' memory ≡ started_with f i cache memory
     unfolding started_with
-    start-refused k told answer next =
-        let b : start_refused k ≡ start_answer f cache memory = sym (ap start_answer_of told) ∙ a in
+    start-refused why told answer next =
+        let b : start_refused (refusal_number why) ≡ start_answer f cache memory = sym (ap start_answer_of told) ∙ a in
         (λ j. record {
           answer = answer j;
           image = next j;
-          cache = (ap (λ (v : World). v.hierarchy.cache) w ∙ refused-cache k b) j;
+          cache = (ap (λ (v : World). v.hierarchy.cache) w ∙ refused-cache _ b) j;
           memory = memory;
         })
         ∙ (λ j. started_by (b j) (w j) i cache memory)
@@ -188,8 +189,8 @@ module _ (i : Image) (cache memory : List ℕ) where
 
   called-keeps : (o : Option rules.Call) → Keeps (called o i cache memory) i cache memory
   unfolding called
-  called-keeps none = λ e. (refl, refl, refl)
-  called-keeps (some c) = cases (stands_for i) (λ t. rw t (state-keeps c t)) (λ t. rw t (λ e. (refl, refl, refl)))
+  called-keeps None = λ e. (refl, refl, refl)
+  called-keeps (Some c) = cases (stands_for i) (λ t. rw t (state-keeps c t)) (λ t. rw t (λ e. (refl, refl, refl)))
 
   with-keeps : (f : Figures) → Keeps (started_with f i cache memory) i cache memory
   unfolding started_with start_answer
@@ -228,14 +229,14 @@ kind-known (rules.checkpointed n) = omega arith
 kind-known (rules.previewed p) = omega arith
 
 module _ (i : Image) (cache memory : List ℕ) where
-  called-known : (o : Option rules.Call) → (called o i cache memory).answer ≡ no_such_call → o ≡ none
+  called-known : (o : Option rules.Call) → (called o i cache memory).answer ≡ no_such_call → o ≡ None
   unfolding called
-  called-known none e = refl
-  called-known (some c) e = cases (stands_for i)
+  called-known None e = refl
+  called-known (Some c) e = cases (stands_for i)
       (λ t. no (outcome_from c i cache memory).answer (rw t at e))
       (λ t. no (refusal c (image_refusal i cache memory)) (rw t at e))
     where
-      no : (a : rules.Answer) → imaged_answer a ≡ no_such_call → some c ≡ none
+      no : (a : rules.Answer) → imaged_answer a ≡ no_such_call → Some c ≡ None
       no a f = let w : ⊥ = omega (arith, kind-known a, ap (λ (r : AnswerImage). r.kind) f) in absurd w
 
   -- no start with these figures answers so

@@ -1,36 +1,29 @@
 -- Calls and answers by numbers.
 use Rattle.std.specs.Prelude.{ℕ, ◌≤◌, cond, eqb, length}
+use Rattle.std.specs.Prelude as std
 use Rattle.std.proofs.Math.Option.{Option, some, none}
 use Rattle.lists.specs.Bytes.{value_at}
 use Rattle.rules.specs.Shape.{top_number, most_ways}
 use Rattle.rules.specs.Lines.{Preview}
 use Rattle.rules.specs.Calls as rules
-use Rattle.model.specs.State.{call_of}
 use Rattle.model.specs.Shows.{part_in}
 use Rattle.nicoisetarn.specs.declared.AnswerImage.{AnswerImage}
-use Rattle.nicoisetarn.specs.declared.answers.Numbered.{Numbered}
-use Rattle.nicoisetarn.specs.declared.answers.Numbered.TheVariants.{Known, Unknown}
 
 -- the call of a number, with its operands
-unfoldable pub call_numbered : ℕ → ℕ → ℕ → ℕ → Option rules.Call
+unfoldable pub call_numbered : ℕ → ℕ → ℕ → ℕ → std.Option rules.Call
 call_numbered call x y z =
-    cond (eqb call 0) (some (rules.load x y))
-    (cond (eqb call 1) (some (rules.store x y z))
-    (cond (eqb call 2) (some (rules.retry x))
-    (cond (eqb call 3) (some (rules.commit x))
-    (cond (eqb call 4) (some (rules.abort x))
-    (cond (eqb call 5) (some rules.idle)
-    (cond (eqb call 6) (some rules.reply)
-    (cond (eqb call 7) (some rules.flush)
-    (cond (eqb call 8) (some (rules.show x))
-    (cond (eqb call 9) (some (rules.checkpoint x))
-    (cond (eqb call 10) (some (rules.restore x))
-    (cond (eqb call 11) (some rules.preview) none)))))))))))
-
--- the same, as the code has it
-abbrev pub numbered_of : Numbered → Option rules.Call
-numbered_of (Known c) = some (call_of c)
-numbered_of Unknown = none
+    cond (eqb call 0) (std.Some (rules.load x y))
+    (cond (eqb call 1) (std.Some (rules.store x y z))
+    (cond (eqb call 2) (std.Some (rules.retry x))
+    (cond (eqb call 3) (std.Some (rules.commit x))
+    (cond (eqb call 4) (std.Some (rules.abort x))
+    (cond (eqb call 5) (std.Some rules.idle)
+    (cond (eqb call 6) (std.Some rules.reply)
+    (cond (eqb call 7) (std.Some rules.flush)
+    (cond (eqb call 8) (std.Some (rules.show x))
+    (cond (eqb call 9) (std.Some (rules.checkpoint x))
+    (cond (eqb call 10) (std.Some (rules.restore x))
+    (cond (eqb call 11) (std.Some rules.preview) std.None)))))))))))
 
 -- an answer with at most two numbers beside its kind
 abbrev pub coded : ℕ → ℕ → ℕ → AnswerImage

@@ -1,6 +1,5 @@
 -- A batch: a list of calls by numbers, made one after the other on an image, and the list of their answers.
-use Rattle.std.specs.Prelude.{ℕ, zero, suc, ◌*◌, ◌/◌, ◌%◌, ◌≡◌, Bool, cond, ◌&&◌, List, [], ◌∷◌, ◌++◌, eqb, length, get_or, drop}
-use Rattle.std.proofs.Math.Option.{Option, some, none}
+use Rattle.std.specs.Prelude.{ℕ, zero, suc, ◌*◌, ◌/◌, ◌%◌, ◌≡◌, Bool, cond, ◌&&◌, List, [], ◌∷◌, ◌++◌, eqb, length, get_or, drop, Option, Some, None}
 use Rattle.rules.specs.Shape.{World}
 use Rattle.rules.specs.Calls as rules
 use Rattle.rules.specs.Runs.{refusal, answer, next}
@@ -23,7 +22,7 @@ answer_stride = 6
 -- there is no such call
 unfoldable pub call_listed : List ℕ → Option rules.Call
 call_listed l =
-    cond (eqb (get_or l 4 0) 0 && eqb (get_or l 5 0) 0) (call_numbered (get_or l 0 0) (get_or l 1 0) (get_or l 2 0) (get_or l 3 0)) none
+    cond (eqb (get_or l 4 0) 0 && eqb (get_or l 5 0) 0) (call_numbered (get_or l 0 0) (get_or l 1 0) (get_or l 2 0) (get_or l 3 0)) None
 
 -- the first n calls of a list
 unfoldable pub calls_listed : ℕ → List ℕ → List (Option rules.Call)
@@ -82,12 +81,12 @@ batch_left_of r answers cache memory =
 
 -- what a call of the list answers at a world, and the world after it
 abbrev pub listed_answer : Option rules.Call → World → AnswerImage
-listed_answer none w = no_such_call
-listed_answer (some c) w = imaged_answer (answer c w)
+listed_answer None w = no_such_call
+listed_answer (Some c) w = imaged_answer (answer c w)
 
 abbrev pub listed_next : Option rules.Call → World → World
-listed_next none w = w
-listed_next (some c) w = next c w
+listed_next None w = w
+listed_next (Some c) w = next c w
 
 -- the numbers of the answers to all of them, and the world after all
 unfoldable pub batch_answers : List (Option rules.Call) → World → List ℕ
@@ -105,8 +104,8 @@ pub record MakesCalls (os : List (Option rules.Call)) (before after : World) (an
 
 -- what a call of the list answers where checks 1 and 10 refuse with k, and the numbers of the answers to all of them
 abbrev pub listed_refusal : ℕ → Option rules.Call → AnswerImage
-listed_refusal k none = no_such_call
-listed_refusal k (some c) = imaged_answer (refusal c k)
+listed_refusal k None = no_such_call
+listed_refusal k (Some c) = imaged_answer (refusal c k)
 
 unfoldable pub batch_refusals : ℕ → List (Option rules.Call) → List ℕ
 batch_refusals k [] = []

@@ -1,6 +1,5 @@
 -- What is claimed of calls on images, each closed.
-use Rattle.std.specs.Prelude.{ℕ, ◌<◌, ◌≤◌, ◌≡◌, Bool, true, false, ◌&&◌, List, [], ◌∷◌, ◌++◌, map}
-use Rattle.std.proofs.Math.Option.{Option, some}
+use Rattle.std.specs.Prelude.{ℕ, ◌<◌, ◌≤◌, ◌≡◌, Bool, true, false, ◌&&◌, List, [], ◌∷◌, ◌++◌, map, Option, Some}
 use Rattle.rules.specs.Shape.{World}
 use Rattle.rules.specs.Calls as rules
 use Rattle.rules.specs.WellFormed.{well_formed}
@@ -63,7 +62,7 @@ pub record BatchesAreRuns : Type 0 where
   -- from an image that stands for a state: the rules' answers to the list of calls, and what they leave
   pub by-rules :
       (run : List rules.Call) (i : Image) (cache memory : List ℕ) → stands_for i ≡ true
-      → called_all (map some run) i cache memory ≡ run_left run (world_of (opened_of i) cache memory)
+      → called_all (map Some run) i cache memory ≡ run_left run (world_of (opened_of i) cache memory)
   -- from any other, and from one whose state is not well formed: every call gets the refusal 1 or 10 (show line the empty part, an
   -- unknown call its own answer), and image, cache and memory stay
   pub refused :

@@ -1,6 +1,5 @@
 -- What a start and a call on an image leave, and what show line answers, by the rules.
-use Rattle.std.specs.Prelude.{ℕ, Bool, true, false, cond, List, []}
-use Rattle.std.proofs.Math.Option.{Option, some, none}
+use Rattle.std.specs.Prelude.{ℕ, Bool, true, false, cond, List, [], Option, Some, None}
 use Rattle.rules.specs.declared.Figures.{Figures}
 use Rattle.rules.specs.Shape.{Queues, Hierarchy, World, fits}
 use Rattle.rules.specs.Calls as rules
@@ -75,8 +74,8 @@ outcome_from c i cache memory = outcome c (queues_of (opened_of i)) (hierarchy_o
 
 -- a call, if there is one of that number; a refused one changes nothing, and on an image that stands for no state every call is refused
 unfoldable pub called : Option rules.Call → Image → List ℕ → List ℕ → Left
-called none i cache memory = kept no_such_call i cache memory
-called (some c) i cache memory =
+called None i cache memory = kept no_such_call i cache memory
+called (Some c) i cache memory =
     let o = outcome_from c i cache memory in
     cond (stands_for i) (leaves (imaged_answer o.answer) o.queues o.hierarchy)
     (kept (imaged_answer (refusal c (image_refusal i cache memory))) i cache memory)

@@ -1,31 +1,27 @@
 // A batch: a list of calls by numbers, made one after the other on an image that is opened and tested once.
-ghost use Rattle.std.specs.Prelude.{◌≡◌, true, ◌&&◌, ◌+◌, ◌*◌, ◌/◌, ◌%◌, ◌≤◌, eqb, length, drop};
+ghost use Rattle.std.specs.Prelude.{◌≡◌, true, ◌&&◌, ◌+◌, ◌*◌, ◌/◌, ◌%◌, ◌≤◌, eqb, length, drop, option_map};
 ghost use Rattle.std.proofs.lemmas.List.Edits.{sets};
-ghost use Rattle.model.specs.State.{world_of, Formed};
-ghost use Rattle.nicoisetarn.specs.Answers.{numbered_of};
-ghost use Rattle.nicoisetarn.specs.Batch.{call_stride, answer_stride, call_listed, calls_listed, numbers_of, listed_refusal, batch_refusals, batch_fits, batch_left_of, ran, MakesCalls};
+ghost use Rattle.rules.specs.RefusalNumbers.{refusal_number};
+ghost use Rattle.model.specs.State.{call_of, world_of, Formed};
+ghost use Rattle.nicoisetarn.specs.Batch.{call_stride, answer_stride, call_listed, calls_listed, numbers_of, batch_refusals, batch_fits, batch_left_of, ran, MakesCalls, listed_refusal};
 
-use crate::answers::Numbered;
-use crate::{
-    ANSWER_STRIDE, AnswerImage, CALL_STRIDE, ImageStep, KIND_NO_SUCH_CALL, KIND_RAN, answers, steps,
-};
+use crate::answers::NO_SUCH_CALL;
+use crate::{ANSWER_STRIDE, AnswerImage, CALL_STRIDE, ImageStep, KIND_RAN, answers, steps};
 use images::Image;
-use model::State;
+use model::{Call, State};
+use rules::Refusal;
 
 // ---- the lists
 
 // The call at a place of the list.
-fn listed_call(calls: &[u32], at: usize) -> Numbered
+fn listed_call(calls: &[u32], at: usize) -> Option<Call>
     requires { at + call_stride ≤ length calls.now }
-    ensures { numbered_of result ≡ call_listed (drop at calls.now) }
+    ensures { option_map call_of result ≡ call_listed (drop at calls.now) }
 {
-    if calls[at + 4] != 0 {
-        return Numbered::Unknown;
-    }
-    if calls[at + 5] != 0 {
-        return Numbered::Unknown;
-    }
-    answers::call_numbered(calls[at], calls[at + 1], calls[at + 2], calls[at + 3])
+    let &[call, x, y, z, 0, 0] = &calls[at..at + CALL_STRIDE] else {
+        return None;
+    };
+    answers::call_numbered(call, x, y, z)
 }
 
 // The numbers of an answer, at a place of the answers.
@@ -33,37 +29,32 @@ fn put_answer(answers: &mut [u32], at: usize, a: AnswerImage)
     requires { at + answer_stride ≤ length answers.old }
     ensures { answers.new ≡ sets answers.old at (numbers_of a) }
 {
-    answers[at] = a.kind;
-    answers[at + 1] = a.first;
-    answers[at + 2] = a.second;
-    answers[at + 3] = a.third;
-    answers[at + 4] = a.fourth;
-    answers[at + 5] = a.fifth;
+    answers[at..at + ANSWER_STRIDE].copy_from_slice(&[
+        a.kind, a.first, a.second, a.third, a.fourth, a.fifth,
+    ]);
 }
 
 // ---- checks 1 and 10 refuse
 
-// What a call of the list answers where they refuse with k.
-fn refused_answer(n: Numbered, k: u32) -> AnswerImage
-    ensures { result ≡ listed_refusal k (numbered_of n) }
+// What a call of the list answers where they refuse.
+fn refused_answer(call: Option<Call>, refusal: Refusal) -> AnswerImage
+    ensures { result ≡ listed_refusal (refusal_number refusal) (option_map call_of call) }
 {
-    match n {
-        Numbered::Known(c) => steps::refused_with(c, k),
-        Numbered::Unknown => answers::coded(KIND_NO_SUCH_CALL, 0, 0),
+    match call {
+        Some(call) => steps::refused_with(call, refusal),
+        None => NO_SUCH_CALL,
     }
 }
 
 // Answers n calls so.
-fn refuse_calls(k: u32, n: usize, calls: &[u32], answers: &mut [u32])
+fn refuse_calls(refusal: Refusal, n: usize, calls: &[u32], answers: &mut [u32])
     requires { (length calls.now ≡ call_stride * n) × (length answers.old ≡ answer_stride * n) }
-    ensures { answers.new ≡ batch_refusals k (calls_listed n calls.now) }
+    ensures { answers.new ≡ batch_refusals (refusal_number refusal) (calls_listed n calls.now) }
 {
-    let mut i: usize = 0;
-    while i < n {
+    for i in 0..n {
         let call = listed_call(calls, CALL_STRIDE * i);
-        let a = refused_answer(call, k);
+        let a = refused_answer(call, refusal);
         put_answer(answers, ANSWER_STRIDE * i, a);
-        i += 1;
     }
 }
 
@@ -84,24 +75,16 @@ fn make_calls(
         (world_of result cache.new memory.new) answers.new }
 {
     let mut at = state;
-    let mut i: usize = 0;
-    while i < n {
-        let numbered = listed_call(calls, CALL_STRIDE * i);
-        match numbered {
-            Numbered::Known(call) => {
+    for i in 0..n {
+        let a = match listed_call(calls, CALL_STRIDE * i) {
+            Some(call) => {
                 let r = at.step_formed(call, cache, memory);
-                let answer = r.answer;
-                let next = r.next;
-                at = next;
-                let a = answers::answer_image(answer);
-                put_answer(answers, ANSWER_STRIDE * i, a);
+                at = r.next;
+                answers::answer_image(r.answer)
             }
-            Numbered::Unknown => {
-                let a = answers::coded(KIND_NO_SUCH_CALL, 0, 0);
-                put_answer(answers, ANSWER_STRIDE * i, a);
-            }
-        }
-        i += 1;
+            None => NO_SUCH_CALL,
+        };
+        put_answer(answers, ANSWER_STRIDE * i, a);
     }
     at
 }
@@ -131,8 +114,8 @@ fn run_fitting(
             };
         }
     }
-    let k = steps::image_refusal(image, cache, memory);
-    refuse_calls(k, n, calls, answers);
+    let refusal = steps::image_refusal(image, cache, memory);
+    refuse_calls(refusal, n, calls, answers);
     ImageStep {
         answer: answers::coded(KIND_RAN, 0, 0),
         next: image,
@@ -143,10 +126,7 @@ fn run_fitting(
 fn batch_fits(calls: usize, answers: usize) -> bool
     ensures { result ≡ (eqb (calls % call_stride) 0 && eqb answers (answer_stride * (calls / call_stride))) }
 {
-    if calls % CALL_STRIDE != 0 {
-        return false;
-    }
-    answers == ANSWER_STRIDE * (calls / CALL_STRIDE)
+    calls % CALL_STRIDE == 0 && answers == ANSWER_STRIDE * (calls / CALL_STRIDE)
 }
 
 // A batch by its lists; where their lengths do not fit nothing is looked at.
@@ -159,11 +139,11 @@ pub(crate) fn run_image(
 ) -> ImageStep
     ensures { batch_left_of result answers.new cache.new memory.new ≡ ran calls.now answers.old image cache.old memory.old }
 {
-    if batch_fits(calls.len(), answers.len()) {
-        return run_fitting(image, calls, answers, cache, memory);
+    if !batch_fits(calls.len(), answers.len()) {
+        return ImageStep {
+            answer: NO_SUCH_CALL,
+            next: image,
+        };
     }
-    ImageStep {
-        answer: answers::coded(KIND_NO_SUCH_CALL, 0, 0),
-        next: image,
-    }
+    run_fitting(image, calls, answers, cache, memory)
 }

@@ -16,7 +16,7 @@ mod answers;
 mod batch;
 mod steps;
 
-// ---- calls by numbers, each with its operands (specs/Answers.antt)
+// ---- calls by numbers, each with its operands (specs/Answers.antt). Numbers and no enum: the C interface, over which any number may come.
 
 // address, width
 pub const CALL_LOAD: u32 = 0;
@@ -44,7 +44,7 @@ pub const CALL_RESTORE: u32 = 10;
 // 02, card 7: preview of a reply
 pub const CALL_PREVIEW: u32 = 11;
 
-// ---- answers by numbers
+// ---- answers by numbers: the C interface
 
 // An answer: its kind and the papers' numbers, the others 0.
 #[repr(C)]

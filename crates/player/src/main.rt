@@ -16,13 +16,6 @@ const CACHE_BYTES: usize = 4096;
 // The largest memory, and what a chunk prints at most.
 const LARGE_BYTES: usize = 65536;
 
-// What a read gave: whether there may be more, and the player after it.
-#[derive(Clone, Copy)]
-struct Reading {
-    more: bool,
-    player: Player,
-}
-
 // Writes the first n bytes.
 fn write_front(rt: &impl Print, out: &[u8], n: usize) -> io::Result<()> {
     if n <= out.len() {
@@ -38,32 +31,8 @@ fn read_some(rt: &HostRuntime, input: &mut [u8]) -> io::Result<usize>
     rt.stdin().read(input)
 }
 
-// Reads once, plays what came and writes what it prints.
-fn read_and_play(
-    rt: &HostRuntime,
-    player: Player,
-    input: &mut [u8],
-    cache: &mut [u8],
-    memory: &mut [u8],
-    out: &mut [u8],
-) -> io::Result<Reading> {
-    let n = read_some(rt, input)?;
-    if n == 0 {
-        return Ok(Reading {
-            more: false,
-            player,
-        });
-    }
-    let r = player.play(&input[..n], cache, memory, out);
-    write_front(rt, out, r.written)?;
-    let next = r.player;
-    Ok(Reading {
-        more: true,
-        player: next,
-    })
-}
-
-// Until a read gives nothing. A proved loop ends, and nothing says that the input does: no run makes so many reads.
+// Plays what comes and writes what it prints, until a read gives nothing. A proved loop ends, and nothing says that the input does: no
+// run makes so many reads.
 fn run(
     rt: &HostRuntime,
     input: &mut [u8],
@@ -71,17 +40,17 @@ fn run(
     memory: &mut [u8],
     out: &mut [u8],
 ) -> io::Result<Player> {
-    let mut reading = Reading {
-        more: true,
-        player: Player::new(),
-    };
+    let mut player = Player::new();
     for _ in 0..u64::MAX {
-        reading = read_and_play(rt, reading.player, input, cache, memory, out)?;
-        if !reading.more {
+        let n = read_some(rt, input)?;
+        if n == 0 {
             break;
         }
+        let r = player.play(&input[..n], cache, memory, out);
+        write_front(rt, out, r.written)?;
+        player = r.player;
     }
-    Ok(reading.player)
+    Ok(player)
 }
 
 // Lends the player its buffers, and writes what the end of the input prints. A read or a write that fails ends the program.

@@ -1,24 +1,26 @@
 -- Well-formed queues, as the code tests them: one entry in use, one free place, the rest of a queue; and that the tests of both
 -- queues are the clauses of well-formed.
-use Prim.Native.Nat.{ℕ, ◌+◌, ◌%◌, ◌^◌, ◌≤◌, ◌<◌}
+use Prim.Native.Nat.{ℕ, zero, suc, ◌+◌, ◌%◌, ◌^◌, ◌≤◌, ◌<◌}
+use native.Mathlib.Numerals.{add-one}
+use Rattle.std.specs.List.{list_any, range_with_len}
 use mathlib.Core.Path.{◌≡◌, refl, sym, ◌∙◌, ap}
-use mathlib.Core.Bool.{Bool, true, false, not, ◌&&◌, ◌||◌, and-false, or-true}
+use mathlib.Core.Bool.{Bool, true, false, cond, not, ◌&&◌, ◌||◌, and-false}
 use mathlib.Core.List.{List}
 use native.Mathlib.Omega.{arith}
 use lib.Dec.{eqb, ltb, leb}
 use lib.ListN.{length, get_or, drop}
-use borrow.Author.Tests.{eqb-true, ltb-true, ltb-false, lt-ltb, le-ltb, le-leb, lt-leb, ne_eqb, not-true, eq-eqb}
-use Rattle.lists.specs.Padded.{any, every, ascending, free_last, rising}
-use Rattle.lists.proofs.Cond.{cases, and_left, and_right, and_both, or-one}
+use borrow.Author.Tests.{eqb-true, ltb-true, ltb-false, le-leb, lt-leb, ne_eqb, not-true}
+use Rattle.lists.specs.Counted.{some_from}
+use Rattle.lists.specs.Padded.{every, ascending, free_last, rising}
+use Rattle.lists.proofs.Cond.{cases, and_left, and_right, and_both}
 use Rattle.lists.proofs.Every.{every-imp}
-use Rattle.lists.proofs.Some.{none-every}
 use Rattle.lists.proofs.Rising.{rising-both, rising-last, rising-ascends}
 use Rattle.lists.proofs.Loops.{every-same, rise-free}
 use Rattle.rules.specs.declared.StoreEntry.{StoreEntry}
 use Rattle.rules.specs.declared.LoadEntry.{LoadEntry}
-use Rattle.rules.specs.Shape.{Queues, Hierarchy, no_store, no_load, is_free_load}
-use Rattle.rules.specs.Forward.{older_covers, some_uncovered}
-use Rattle.rules.specs.Calls.{width_allowed, passes, access_checks, value_check}
+use Rattle.rules.specs.Shape.{Queues, Hierarchy, no_store, no_load}
+use Rattle.rules.specs.Forward.{some_uncovered}
+use Rattle.rules.specs.Calls.{width_allowed, passes, access_checks}
 use Rattle.rules.specs.WellFormed.{free_zero, free_places_last, committed_up_to_last, numbers_rise, numbers_up_to_last, numbers_apart, accesses_pass, committed_wait, waiting_uncovered, forwarded_answered, free_store_zero, free_load_zero, store_passes, load_passes, committed_wait_at, waiting_uncovered_at, forwarded_answered_at, alone}
 use Rattle.rules.proofs.QueueView.{good_store, good_load, stores-join, loads-join, store-zero, store_given, store-passes, load-zero, load_given, load-passes, load-waits, load-exposed, load_told}
 use Rattle.access.specs.AccessChecks.{sized}
@@ -34,6 +36,12 @@ iff : (a b : Bool) → (a ≡ true → b ≡ true) → (b ≡ true → a ≡ tru
 iff true b f g = sym (f refl)
 iff false true f g = g refl
 iff false false f g = refl
+
+-- some of the numbers from i on passes the test
+pub some-list : (p : ℕ → Bool) (i n : ℕ) → list_any p (range_with_len i n) ≡ some_from p i n
+unfolding some_from
+some-list p i zero = refl
+some-list p i (suc n) = rw (add-one i, some-list p (suc i) n) refl
 
 -- ---- accesses
 
@@ -58,70 +66,30 @@ used : {m n : ℕ} → m < n → eqb n 0 ≡ false
 used {m} {n} h = ne_eqb n 0 (λ z. omega arith)
 
 -- what is asked of a held store, test by test
-module _ (last size m : ℕ) (s : StoreEntry) where
-  abbrev good_store_above : Bool
-  good_store_above = ltb m s.number && store_good last size s
-
-  pub store_low : s.number ≤ m → false ≡ good_store_above
-  store_low h = rw (le-ltb m s.number h)
-
-  module _ (above : m < s.number) where
-    store-used :
-        good_store_above
-        ≡ (leb s.number last
-        && (passes (access_checks (sized size) s.address s.width) && not (value_check s.width s.value).applies))
-    unfolding store_good free_store_zero store_passes
-    store-used = rw (lt-ltb m s.number above, used above)
-
-    pub store-late : last < s.number → false ≡ good_store_above
-    store-late h = sym (store-used ∙ rw (lt-leb s.number last h))
-
-    module _ (low : s.number ≤ last) where
-      pub store-astray : passes (access_checks (sized size) s.address s.width) ≡ false → false ≡ good_store_above
-      store-astray e = sym (store-used ∙ rw (le-leb s.number last low, e))
-
-      pub store-by-value :
-          passes (access_checks (sized size) s.address s.width) ≡ true → ltb s.value (256 ^ s.width) ≡ good_store_above
-      store-by-value e =
-          below-leb s.value (256 ^ s.width) ∙ sym (store-used ∙ rw (le-leb s.number last low, e))
+pub store-tests : (last size m : ℕ) (s : StoreEntry)
+    → (ltb m s.number && store_good last size s)
+    ≡ (ltb m s.number && (leb s.number last && (passes (access_checks (sized size) s.address s.width) && ltb s.value (256 ^ s.width))))
+unfolding store_good free_store_zero store_passes
+store-tests last size m s = cases (ltb m s.number)
+    (λ e. rw (e, used (ltb-true m s.number e), below-leb s.value (256 ^ s.width)))
+    (λ e. rw e)
 
 -- what is asked of a listed load, test by test
-module _ (last h size m : ℕ) (ss : List StoreEntry) (l : LoadEntry) where
-  abbrev good_load_above : Bool
-  good_load_above = ltb m l.number && load_good last h size ss l
-
-  pub load_low : l.number ≤ m → false ≡ good_load_above
-  load_low p = rw (le-ltb m l.number p)
-
-  module _ (above : m < l.number) where
-    load-used :
-        good_load_above
-        ≡ (leb l.number last
-        && (passes (access_checks (sized size) l.address l.width)
-        && ((l.waiting || ltb h l.number)
-        && ((not l.waiting || some_uncovered l.number ss l.address l.width) && (not l.forwarded || not l.waiting)))))
-    unfolding load_good free_load_zero load_passes committed_wait_at waiting_uncovered_at forwarded_answered_at
-    load-used = rw (lt-ltb m l.number above, used above)
-
-    pub load-late : last < l.number → false ≡ good_load_above
-    load-late p = sym (load-used ∙ rw (lt-leb l.number last p))
-
-    module _ (low : l.number ≤ last) where
-      pub load-astray : passes (access_checks (sized size) l.address l.width) ≡ false → false ≡ good_load_above
-      load-astray e = sym (load-used ∙ rw (le-leb l.number last low, e))
-
-      module _ (pass : passes (access_checks (sized size) l.address l.width) ≡ true) where
-        pub load-untold : l.waiting ≡ true → l.forwarded ≡ true → false ≡ good_load_above
-        load-untold w f =
-            sym (load-used ∙ rw (le-leb l.number last low, pass, w, f) (and-false (some_uncovered l.number ss l.address l.width)))
-
-        pub load-waiting : l.waiting ≡ true → l.forwarded ≡ false → some_uncovered l.number ss l.address l.width ≡ good_load_above
-        load-waiting w f =
-            sym (load-used ∙ rw (le-leb l.number last low, pass, w, f) (and-true (some_uncovered l.number ss l.address l.width)))
-
-        pub load-answered : l.waiting ≡ false → ltb h l.number ≡ good_load_above
-        load-answered w =
-            sym (load-used ∙ rw (le-leb l.number last low, pass, w) (ap (λ (t : Bool). ltb h l.number && t) (or-true (not l.forwarded)) ∙ and-true (ltb h l.number)))
+pub load-tests : (last h size m : ℕ) (ss : List StoreEntry) (l : LoadEntry)
+    → (ltb m l.number && load_good last h size ss l)
+    ≡ (ltb m l.number && (leb l.number last && (passes (access_checks (sized size) l.address l.width) && cond l.waiting (not l.forwarded && some_uncovered l.number ss l.address l.width) (ltb h l.number))))
+unfolding load_good free_load_zero load_passes committed_wait_at waiting_uncovered_at forwarded_answered_at
+load-tests last h size m ss l = cases (ltb m l.number)
+    (λ e.
+    rw (e, used (ltb-true m l.number e))
+    (ap (λ (t : Bool). leb l.number last && (passes (access_checks (sized size) l.address l.width) && t)) (told l.waiting l.forwarded (ltb h l.number) (some_uncovered l.number ss l.address l.width))))
+    (λ e. rw e)
+  where
+    told : (w f a u : Bool) → ((w || a) && ((not w || u) && (not f || not w))) ≡ cond w (not f && u) a
+    told true true a u = and-false u
+    told true false a u = and-true u
+    told false true a u = and-true a
+    told false false a u = and-true a
 
 -- ---- one free place
 
@@ -149,16 +117,6 @@ zero-load last h size ss l = cases (eqb l.number 0)
     rw (e, low) (neither (eqb l.address 0) (eqb l.width 0) (not l.waiting) (not l.forwarded)))
     (λ e. rw e)
 
--- flag by flag
-module _ (l : LoadEntry) where
-  pub zero-waiting : l.waiting ≡ true → false ≡ zero_load l
-  unfolding zero_load
-  zero-waiting w = sym (rw w (rw (and-false (eqb l.width 0)) (rw (and-false (eqb l.address 0)) (and-false (is_free_load l)))))
-
-  pub zero_flags : l.number ≡ 0 → l.address ≡ 0 → l.width ≡ 0 → l.waiting ≡ false → not l.forwarded ≡ zero_load l
-  unfolding zero_load
-  zero_flags n a w f = sym (rw (eq-eqb l.number 0 n, eq-eqb l.address 0 a, eq-eqb l.width 0 w, f))
-
 -- ---- from a free place on
 
 pub stores-free :
@@ -177,39 +135,11 @@ loads-free last h size m ss ls i p e =
     rise-free (λ l. l.number) no_load ls i (load_good last h size ss) m p e
     ∙ every-same _ zero_load (zero-load last h size ss) (drop i ls)
 
--- no free place covers a byte
-pub covered_none : (i a : ℕ) (r : List StoreEntry) → every (λ s. eqb s.number 0) r ≡ true → any (older_covers i a) r ≡ false
-unfolding older_covers
-covered_none i a r e = none-every (λ s. eqb s.number 0) (older_covers i a) (λ s t. rw t) r e
-
--- no free place has the number n
-pub listed-none : (n : ℕ) → 0 < n → (r : List LoadEntry) → every (λ l. eqb l.number 0) r ≡ true → any (λ l. eqb l.number n) r ≡ false
-listed-none n h r e =
-    none-every (λ l. eqb l.number 0) (λ l. eqb l.number n)
-    (λ l t. ne_eqb l.number n (λ z. omega (arith, eqb-true l.number 0 t))) r e
-
--- a free place has no number in common with a load
-pub alone-free : (ls : List LoadEntry) (r : List StoreEntry) → every (λ s. eqb s.number 0) r ≡ true → every (alone ls) r ≡ true
-unfolding alone
-alone-free ls r e = every-imp (λ s. eqb s.number 0) (alone ls) (λ s t. or-one (eqb s.number 0) _ t) r e
-
--- a store in use
-pub alone-used : (ls : List LoadEntry) (s : StoreEntry) → (s.number ≡ 0 → ⊥) → alone ls s ≡ not (any (λ l. eqb l.number s.number) ls)
-unfolding alone
-alone-used ls s n = rw (ne_eqb s.number 0 n)
-
 -- ---- both queues
 
-pub stores-last : (last size : ℕ) (ss : List StoreEntry) → stores_good last size 0 ss ≡ true → free_last (λ s. s.number) ss ≡ true
-unfolding stores_good
-stores-last last size ss e = rising-last (λ s. s.number) 0 ss (and_left _ _ e)
-
-pub loads-last : (last h size : ℕ) (ss : List StoreEntry) (ls : List LoadEntry) → loads_good last h size ss 0 ls ≡ true → free_last (λ l. l.number) ls ≡ true
-unfolding loads_good
-loads-last last h size ss ls e = rising-last (λ l. l.number) 0 ls (and_left _ _ e)
-
 module _ (last h size : ℕ) (ss : List StoreEntry) (ls : List LoadEntry) where
-  abbrev tested : Bool
+  -- the tests of the code
+  abbrev pub tested : Bool
   tested = leb h last && (stores_good last size 0 ss && (loads_good last h size ss 0 ls && every (alone ls) ss))
 
   abbrev q : Queues
@@ -277,21 +207,6 @@ module _ (last h size : ℕ) (ss : List StoreEntry) (ls : List LoadEntry) where
       (and_both (stores_good last size 0 ss) _ (and_both _ _ sr se)
       (and_both (loads_good last h size ss 0 ls) _ (and_both _ _ lr le) apart))
 
-  -- the tests of the code are the clauses
-  tested-good : tested ≡ queues_good q b
+  -- are the clauses
+  pub tested-good : tested ≡ queues_good q b
   tested-good = iff tested (queues_good q b) there back
-
-  -- and what each test leaves of them
-  pub queues-late : last < h → false ≡ queues_good q b
-  queues-late e = sym (sym tested-good ∙ rw (lt-leb h last e))
-
-  module _ (order : h ≤ last) where
-    pub queues-by-stores : stores_good last size 0 ss ≡ false → false ≡ queues_good q b
-    queues-by-stores s = sym (sym tested-good ∙ rw (le-leb h last order, s))
-
-    module _ (s : stores_good last size 0 ss ≡ true) where
-      pub queues-by-loads : loads_good last h size ss 0 ls ≡ false → false ≡ queues_good q b
-      queues-by-loads l = sym (sym tested-good ∙ rw (le-leb h last order, s, l))
-
-      pub queues-by-numbers : loads_good last h size ss 0 ls ≡ true → every (alone ls) ss ≡ queues_good q b
-      queues-by-numbers l = sym (sym tested-good ∙ rw (le-leb h last order, s, l))

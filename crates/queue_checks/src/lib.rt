@@ -2,16 +2,19 @@
 // entry is well formed. A public function takes any queues, and its answer is a definition of the rules.
 #![tactic(auto)]
 
-ghost use Rattle.std.specs.Prelude.{◌≡◌, true, ◌&&◌, ◌+◌, ◌<◌, ◌≤◌, ltb, eqb, drop};
-ghost use Rattle.lists.specs.Padded.{any, every, free_last};
+ghost use Rattle.std.specs.Prelude.{◌≡◌, ◌&&◌, ◌+◌, ◌≤◌, ltb, eqb};
+ghost use Rattle.lists.specs.Padded.{any, every};
 ghost use Rattle.rules.specs.Forward.{older_covers, some_uncovered};
-ghost use Rattle.rules.specs.Shape.{store_places, load_places, top_number};
+ghost use Rattle.rules.specs.Shape.{top_number};
 ghost use Rattle.rules.specs.Calls.{store_ready};
 ghost use Rattle.rules.specs.WellFormed.{alone, waits_for, request_wanted};
 ghost use Rattle.access.specs.AccessChecks.{sized};
-ghost use Rattle.queue_checks.specs.Good.{queues_from, queues_with, queues_good, zero_store, zero_load, store_good, load_good, stores_good, loads_good};
+ghost use Rattle.queue_checks.specs.Good.{queues_from, queues_with, queues_good, store_good, load_good, stores_good, loads_good};
 
-use rules::{LINE_BYTES, LOAD_PLACES, LoadEntry, Request, STORE_PLACES, StoreEntry, WritePolicy};
+use rules::{
+    LINE_BYTES, LOAD_PLACES, LoadEntry, NO_LOAD, NO_STORE, Request, STORE_PLACES, StoreEntry,
+    WritePolicy,
+};
 
 // ---- draining and requests
 
@@ -24,44 +27,21 @@ pub fn store_ready(
     ensures { result ≡ store_ready (queues_with committed stores loads) }
 {
     let s = stores[0];
-    if store_queue::is_committed_store(s, committed) {
-        if load_queue::waits_below(loads, s.number) {
-            return false;
-        }
-        return true;
-    }
-    false
+    store_queue::is_committed_store(s, committed) && !load_queue::waits_below(loads, s.number)
 }
 
 // A committed waiting load on the line.
 fn is_waiting_for(l: LoadEntry, h: u32, line: u32) -> bool
     ensures { result ≡ waits_for h line l }
 {
-    if l.number == 0 {
-        return false;
-    }
-    if h < l.number {
-        return false;
-    }
-    if l.waiting {
-        return l.address / LINE_BYTES == line;
-    }
-    false
+    l.number != 0 && l.number <= h && l.waiting && l.address / LINE_BYTES == line
 }
 
 // Whether a committed load waits for the line.
 fn has_waiting_for(loads: [LoadEntry; LOAD_PLACES], h: u32, line: u32) -> bool
     ensures { result ≡ any (waits_for h line) loads }
 {
-    let mut i: usize = 0;
-    while i < LOAD_PLACES {
-        let l = loads[i];
-        if is_waiting_for(l, h, line) {
-            return true;
-        }
-        i += 1;
-    }
-    false
+    loads.iter().any(|l| is_waiting_for(*l, h, line))
 }
 
 // Whether the requested line is wanted by a committed waiting load, or by the oldest store, committed and with no older waiting load;
@@ -75,22 +55,13 @@ pub fn request_wanted(
 ) -> bool
     ensures { result ≡ request_wanted request (queues_with committed stores loads) policy }
 {
-    match request {
-        Request::Free => true,
-        Request::Line(line) => {
-            if has_waiting_for(loads, committed, line) {
-                return true;
-            }
-            if let WritePolicy::WriteThrough = policy {
-                return false;
-            }
-            if store_ready(stores, loads, committed) {
-                let s = stores[0];
-                return s.address / LINE_BYTES == line;
-            }
-            false
-        }
-    }
+    let Request::Line(line) = request else {
+        return true;
+    };
+    has_waiting_for(loads, committed, line)
+        || (policy == WritePolicy::WriteBack
+            && store_ready(stores, loads, committed)
+            && stores[0].address / LINE_BYTES == line)
 }
 
 // ---- well-formed queues
@@ -99,47 +70,10 @@ pub fn request_wanted(
 fn is_good_store(s: StoreEntry, m: u32, last: u32, size: u32) -> bool
     ensures { result ≡ (ltb m s.number && store_good last size s) }
 {
-    if s.number <= m {
-        return false;
-    }
-    if last < s.number {
-        return false;
-    }
-    if access::access_passes(s.address, s.width, size) {
-        return access::value_fits(s.value, s.width);
-    }
-    false
-}
-
-// A free place is all zero.
-fn is_zero_store(s: StoreEntry) -> bool
-    ensures { result ≡ zero_store s }
-{
-    if s.number == 0 {
-        if s.address == 0 {
-            if s.width == 0 {
-                return s.value == 0;
-            }
-        }
-    }
-    false
-}
-
-// The places from k on are all zero.
-fn zero_stores(stores: [StoreEntry; STORE_PLACES], k: usize) -> bool
-    requires { k ≤ store_places }
-    ensures { result ≡ every zero_store (drop k stores) }
-{
-    let mut i = k;
-    while i < STORE_PLACES {
-        let s = stores[i];
-        if is_zero_store(s) {
-            i += 1;
-        } else {
-            return false;
-        }
-    }
-    true
+    m < s.number
+        && s.number <= last
+        && access::access_passes(s.address, s.width, size)
+        && access::value_fits(s.value, s.width)
 }
 
 // The held stores, each with a higher number than the one before, and behind them free places.
@@ -147,58 +81,32 @@ fn stores_good(stores: [StoreEntry; STORE_PLACES], last: u32, size: u32) -> bool
     ensures { result ≡ stores_good last size 0 stores }
 {
     let mut m: u32 = 0;
-    let mut i: usize = 0;
-    while i < STORE_PLACES {
-        let s = stores[i];
+    for (i, s) in stores.iter().enumerate() {
         if s.number == 0 {
-            return zero_stores(stores, i);
+            return stores[i..].iter().all(|s| *s == NO_STORE);
         }
-        if is_good_store(s, m, last, size) {
-            m = s.number;
-            i += 1;
-        } else {
+        if !is_good_store(*s, m, last, size) {
             return false;
         }
+        m = s.number;
     }
     true
 }
 
-// Whether a held store with a smaller number than i covers the byte at a; behind a free place there is none.
+// Whether a held store with a smaller number than i covers the byte at a.
 fn is_covered(stores: [StoreEntry; STORE_PLACES], i: u32, a: u32) -> bool
-    requires { free_last (λ s. s.number) stores ≡ true }
     ensures { result ≡ any (older_covers i a) stores }
 {
-    let mut k: usize = 0;
-    while k < STORE_PLACES {
-        let s = stores[k];
-        if s.number == 0 {
-            return false;
-        }
-        if store_queue::is_older_cover(s, i, a) {
-            return true;
-        }
-        k += 1;
-    }
-    false
+    stores.iter().any(|s| store_queue::is_older_cover(*s, i, a))
 }
 
 // "a waiting load has a byte that no older held store covers": whether some of the bytes from a on is covered by no held store with a
 // smaller number than i.
 fn has_uncovered(stores: [StoreEntry; STORE_PLACES], i: u32, a: u32, width: u32) -> bool
-    requires width_bound { a + width ≤ top_number }
-    requires stores_value { free_last (λ s. s.number) stores ≡ true }
+    requires { a + width ≤ top_number }
     ensures { result ≡ some_uncovered i stores a width }
 {
-    let end = a + width;
-    let mut x = a;
-    while x < end {
-        if is_covered(stores, i, x) {
-            x += 1;
-        } else {
-            return true;
-        }
-    }
-    false
+    (a..a + width).any(|x| !is_covered(stores, i, x))
 }
 
 // A listed load with a number above m that is as it has to be: it waits for a byte and is not forwarded, or is answered and not committed.
@@ -210,62 +118,20 @@ fn is_good_load(
     size: u32,
     stores: [StoreEntry; STORE_PLACES],
 ) -> bool
-    requires { free_last (λ s. s.number) stores ≡ true }
     ensures { result ≡ (ltb m l.number && load_good last committed size stores l) }
 {
-    if l.number <= m {
+    if l.number <= m || last < l.number || !access::access_passes(l.address, l.width, size) {
         return false;
     }
-    if last < l.number {
-        return false;
+    if l.waiting {
+        !l.forwarded && has_uncovered(stores, l.number, l.address, l.width)
+    } else {
+        committed < l.number
     }
-    if access::access_passes(l.address, l.width, size) {
-        if l.waiting {
-            if l.forwarded {
-                return false;
-            }
-            return has_uncovered(stores, l.number, l.address, l.width);
-        }
-        return committed < l.number;
-    }
-    false
-}
-
-// A free place is all zero.
-fn is_zero_load(l: LoadEntry) -> bool
-    ensures { result ≡ zero_load l }
-{
-    if l.number == 0 {
-        if l.address == 0 {
-            if l.width == 0 {
-                if l.waiting {
-                    return false;
-                }
-                return !l.forwarded;
-            }
-        }
-    }
-    false
-}
-
-// The places from k on are all zero.
-fn zero_loads(loads: [LoadEntry; LOAD_PLACES], k: usize) -> bool
-    requires { k ≤ load_places }
-    ensures { result ≡ every zero_load (drop k loads) }
-{
-    let mut i = k;
-    while i < LOAD_PLACES {
-        let l = loads[i];
-        if is_zero_load(l) {
-            i += 1;
-        } else {
-            return false;
-        }
-    }
-    true
 }
 
 // The listed loads, each with a higher number than the one before, and behind them free places.
+// (As `stores_good`: one function for both would take the number, the test and the free place of an entry, and is no plainer.)
 fn loads_good(
     loads: [LoadEntry; LOAD_PLACES],
     last: u32,
@@ -273,64 +139,35 @@ fn loads_good(
     size: u32,
     stores: [StoreEntry; STORE_PLACES],
 ) -> bool
-    requires { free_last (λ s. s.number) stores ≡ true }
     ensures { result ≡ loads_good last committed size stores 0 loads }
 {
     let mut m: u32 = 0;
-    let mut i: usize = 0;
-    while i < LOAD_PLACES {
-        let l = loads[i];
+    for (i, l) in loads.iter().enumerate() {
         if l.number == 0 {
-            return zero_loads(loads, i);
+            return loads[i..].iter().all(|l| *l == NO_LOAD);
         }
-        if is_good_load(l, m, last, committed, size, stores) {
-            m = l.number;
-            i += 1;
-        } else {
+        if !is_good_load(*l, m, last, committed, size, stores) {
             return false;
         }
+        m = l.number;
     }
     true
 }
 
-// Whether a load of number n is listed; behind a free place there is none.
+// Whether a load of number n is listed.
 fn is_listed(loads: [LoadEntry; LOAD_PLACES], n: u32) -> bool
-    requires loads_value { free_last (λ l. l.number) loads ≡ true }
-    requires n_nonzero { 0 < n }
     ensures { result ≡ any (λ l. eqb l.number n) loads }
 {
-    let mut i: usize = 0;
-    while i < LOAD_PLACES {
-        let l = loads[i];
-        if l.number == 0 {
-            return false;
-        }
-        if l.number == n {
-            return true;
-        }
-        i += 1;
-    }
-    false
+    loads.iter().any(|l| l.number == n)
 }
 
 // No number is in both queues.
 fn numbers_apart(stores: [StoreEntry; STORE_PLACES], loads: [LoadEntry; LOAD_PLACES]) -> bool
-    requires stores_value { free_last (λ s. s.number) stores ≡ true }
-    requires loads_value { free_last (λ l. l.number) loads ≡ true }
     ensures { result ≡ every (alone loads) stores }
 {
-    let mut i: usize = 0;
-    while i < STORE_PLACES {
-        let s = stores[i];
-        if s.number == 0 {
-            return true;
-        }
-        if is_listed(loads, s.number) {
-            return false;
-        }
-        i += 1;
-    }
-    true
+    stores
+        .iter()
+        .all(|s| s.number == 0 || !is_listed(loads, s.number))
 }
 
 // Whether the queues are well formed, by last, h and the memory length: one pass over each queue, then no number twice.
@@ -343,13 +180,8 @@ pub fn queues_good(
 ) -> bool
     ensures { result ≡ queues_good (queues_from last committed stores loads) (sized size) }
 {
-    if last < committed {
-        return false;
-    }
-    if stores_good(stores, last, size) {
-        if loads_good(loads, last, committed, size, stores) {
-            return numbers_apart(stores, loads);
-        }
-    }
-    false
+    committed <= last
+        && stores_good(stores, last, size)
+        && loads_good(loads, last, committed, size, stores)
+        && numbers_apart(stores, loads)
 }

@@ -2,9 +2,10 @@
 use mathlib.Core.Path.{◌≡◌, refl, sym, ap, ap₂, ◌∙◌}
 use mathlib.Core.Bool.{Bool, true, false, cond, not, ◌&&◌}
 use mathlib.Core.List.{List, ◌∷◌}
-use mathlib.Core.Option.{Option, some, none}
+use mathlib.Core.Option.{some, none}
+use Rattle.std.specs.Bool.{then_some}
+use Rattle.std.specs.Prelude as std
 use Prim.Native.Nat.{ℕ, ◌+◌, ◌*◌, ◌-◌, ◌%◌, ◌<◌, ◌≤◌}
-use native.Mathlib.Nat.{mod-eq_of_lt}
 use native.Mathlib.Omega.{arith}
 use lib.Dec.{ltb}
 use lib.ListN.{set}
@@ -23,7 +24,7 @@ use Rattle.rules.specs.Shape.{Hierarchy, names, holding, line_of, tag_at, set_of
 use Rattle.rules.specs.Lines.{slot_of, present, way_of, lookup, aged_at, use_slot, use_line}
 use Rattle.rules.specs.Calls.{uses_line_by, use_each}
 use Rattle.rules.proofs.TagLookup.{hit-tells}
-use Rattle.records.specs.Records.{has_room, in_table, in_set, is_hit, lookup_in, tabled, used_tags, victim_in, ages_in, preview_in, no_preview, installed_in}
+use Rattle.records.specs.Records.{eviction_given, has_room, in_table, in_set, is_hit, lookup_in, tabled, used_tags, victim_in, ages_in, preview_in, no_preview, installed_in}
 use Rattle.records.proofs.Places.{room-bounds, slots-room, table-bound, in-table, in-set}
 
 -- the records of a choice
@@ -60,14 +61,15 @@ module _ (g : Figures) (l f : ℕ) (room : has_room g ≡ true) (first : f ≡ c
   pub set-in-table : in_table f g.ways ≡ true
   set-in-table = in-table f g.ways (omega (arith, set-in-use, (room-bounds g room).in_all))
 
-  module _ (tags : List Tag) (r : Request) (found : Lookup)
-      (search : found ≡ cond (in_table f g.ways) (lookup_in r tags f g.ways l) Miss) where
+  -- n is the ways
+  module _ (n : ℕ) (ways : n ≡ g.ways) (tags : List Tag) (r : Request) (found : Lookup)
+      (search : found ≡ cond (in_table f n) (lookup_in r tags f n l) Miss) where
     abbrev b : Hierarchy
     b = tabled g tags
 
     pub found-lookup : found ≡ lookup r b l
     unfolding lookup lookup_in way_of present slot_of
-    found-lookup = search ∙ sym (cond-then _ _ set-in-table) ∙ ap (λ (f : ℕ). lookup_in r tags f g.ways l) at_first
+    found-lookup = (rw ways at search) ∙ sym (cond-then _ _ set-in-table) ∙ ap (λ (f : ℕ). lookup_in r tags f g.ways l) at_first
 
     pub found-present : is_hit found ≡ present b l
     found-present = ap is_hit found-lookup ∙ hit-present r b l
@@ -92,12 +94,13 @@ module _ (g : Figures) (l f : ℕ) (room : has_room g ≡ true) (first : f ≡ c
     unfolding used_tags use_line use_slot
     used = tags-of (present b l) _ _
 
-    pub found-used : (w : ℕ) → found ≡ Hit w → (t : List Tag) → t ≡ cond (in_set f g.ways (f + w)) (aging f (f + w)) tags → t ≡ used_tags g l tags
+    pub found-used :
+        (w : ℕ) → found ≡ Hit w → (t : List Tag) → t ≡ cond (in_set f n (f + w)) (each_from (aged_at f n (f + w) (tag_at tags (f + w)).age) 0 tags) tags → t ≡ used_tags g l tags
     found-used w e t made =
         let way = found-way w e in
         let h : f + g.ways ≤ 256 = omega (arith, set-in-use, (room-bounds g room).in_all) in
         let in-it = in-set f g.ways (f + w) h (omega arith) (omega arith) in
-        made ∙ sym (cond-then _ _ in-it) ∙ ap₂ aging at_first (found-slot w e)
+        (rw ways at made) ∙ sym (cond-then _ _ in-it) ∙ ap₂ aging at_first (found-slot w e)
         ∙ cond-then _ _ (sym found-present ∙ ap is_hit e) ∙ sym used
 
     pub found-unused : is_hit found ≡ false → tags ≡ used_tags g l tags
@@ -176,32 +179,27 @@ victim-at tags f ways v t pos e =
 
 -- ---- preview_fill
 
+eviction-is : (b : Bool) (l : ℕ) → eviction_given (then_some b l) ≡ cond b (some l) none
+eviction-is true l = refl
+eviction-is false l = refl
+
 module _ (tags : List Tag) (f ways : ℕ) where
-  -- there is no such set
-  pub no-set : in_table f ways ≡ false → no_preview ≡ cond (in_table f ways && ltb 0 ways) (preview_in tags f ways) no_preview
-  no-set t = rw t
-
-  pub no_way : in_table f ways ≡ true → ways ≡ 0 → no_preview ≡ cond (in_table f ways && ltb 0 ways) (preview_in tags f ways) no_preview
-  no_way t e = rw (t, e)
-
   -- what the victim's record and the ages make
   pub previewed :
-      (v : ℕ) (evicted : Option ℕ) (ages : List ℕ) → in_table f ways ≡ true → (ways ≡ 0 → ⊥) → v ≡ victim_in tags f ways
-      → evicted ≡ cond (tag_at tags v).valid (some (tag_at tags v).line) none → ages ≡ ages_in tags f ways v
-      → record { way = v - f; evicted = evicted; words = (tag_at tags v).dirty; ages = ages }
+      (v : ℕ) (evicted : std.Option ℕ) (ages : List ℕ) → in_table f ways ≡ true → (ways ≡ 0 → ⊥) → v ≡ victim_in tags f ways
+      → evicted ≡ then_some (tag_at tags v).valid (tag_at tags v).line → ages ≡ ages_in tags f ways v
+      → record { way = v - f; evicted = eviction_given evicted; words = (tag_at tags v).dirty; ages = ages }
       ≡ cond (in_table f ways && ltb 0 ways) (preview_in tags f ways) no_preview
   unfolding preview_in
-  previewed v evicted ages t pos slot gone aged = rw (gone, aged, slot, t, lt-ltb 0 ways (omega arith))
+  previewed v evicted ages t pos slot gone aged = rw (gone, eviction-is, aged, slot, t, lt-ltb 0 ways (omega arith))
 
 -- ---- install
 
--- what `use_slot` makes of the table with the line's record; the code has the line's number in 16 bits
+-- what `use_slot` makes of the table with the line's record
 pub installed :
-    (f ways v l : ℕ) (tags r : List Tag) → in_set f ways v ≡ true → l < 65536
-    → (let out = set tags v (record { valid = true; dirty = 0; line = l % 65536; age = (tag_at tags v).age }) in
+    (f ways v l m : ℕ) (tags r : List Tag) → true ≡ in_set f ways v → (l < 65536) × (m ≡ l)
+    → (let out = set tags v (record { valid = true; dirty = 0; line = m; age = (tag_at tags v).age }) in
     r ≡ cond (in_set f ways v) (each_from (aged_at f ways v (tag_at out v).age) 0 out) out)
     → r ≡ cond (in_set f ways v && ltb l 65536) (installed_in f ways v l tags) tags
 unfolding installed_in
-installed f ways v l tags r t h e =
-    let m : l % 65536 ≡ l = mod-eq_of_lt h in
-    e ∙ rw (t, m, lt-ltb l 65536 h)
+installed f ways v l m tags r t h e = e ∙ rw (← t, h.1, lt-ltb l 65536 h.0)

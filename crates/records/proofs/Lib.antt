@@ -1,4 +1,5 @@
 pub mod Places
+pub mod Sets
 pub mod Answers
 pub mod Previews
 pub mod RecordLoops

@@ -1,24 +1,15 @@
 -- The tests of places in the table, as bounds on numbers; the slots of a line's set lie among the slots in use.
-use mathlib.Core.Path.{◌≡◌, ◌∙◌, sym}
-use mathlib.Core.Bool.{Bool, true, false, not}
+use mathlib.Core.Path.{◌≡◌}
+use mathlib.Core.Bool.{true}
 use Prim.Native.Nat.{ℕ, ◌+◌, ◌*◌, ◌%◌, ◌-◌, ◌<◌, ◌≤◌}
 use native.Mathlib.Nat.{mod-lt}
 use native.Mathlib.Omega.{arith}
 use lib.Dec.{ltb, leb}
-use borrow.Author.Tests.{ltb-true, leb-true, not-true, not-false, lt-ltb, le-leb}
+use borrow.Author.Tests.{ltb-true, leb-true, lt-ltb, le-leb}
 use Rattle.lists.proofs.Cond.{and_left, and_right, and_both}
 use Rattle.rules.specs.declared.Figures.{Figures}
 use Rattle.rules.proofs.LineFacts.{set_room}
 use Rattle.records.specs.Records.{has_room, in_table, in_set}
-
--- ---- a test at the head of a function, `if !test(..) { return .. }`
-
-module _ {r t : Bool} (told : r ≡ t) where
-  pub test-failed : not r ≡ true → t ≡ false
-  test-failed h = sym told ∙ not-true r h
-
-  pub test-passed : not r ≡ false → t ≡ true
-  test-passed h = sym told ∙ not-false r h
 
 -- ---- figures
 
@@ -61,12 +52,6 @@ module _ (f ways : ℕ) where
   in-table h = and_both (leb ways 256) (leb f (256 - ways)) (le-leb ways 256 (omega arith)) (le-leb f (256 - ways) (omega arith))
 
   module _ (v : ℕ) where
-    pub set-bounds : in_set f ways v ≡ true → (f + ways ≤ 256) × (f ≤ v) × (v < f + ways)
-    unfolding in_set
-    set-bounds h =
-        let rest = and_right (in_table f ways) _ h in
-        (table-bound (and_left _ _ h), leb-true f v (and_left _ _ rest), ltb-true v (f + ways) (and_right (leb f v) _ rest))
-
     pub in-set : f + ways ≤ 256 → f ≤ v → v < f + ways → in_set f ways v ≡ true
     unfolding in_set
     in-set h l u = rw (in-table h, le-leb f v l) (lt-ltb v (f + ways) u)

@@ -1,45 +1,32 @@
 -- Laws for the loops over the records and over the loads: what each turn does, and what the loop amounts to in the rules.
-use mathlib.Core.Path.{◌≡◌, refl, sym, ◌∙◌}
-use mathlib.Core.Bool.{Bool, true, false, cond, not, ◌&&◌}
+use mathlib.Core.Path.{◌≡◌, refl, sym, ap, ◌∙◌}
+use mathlib.Core.Bool.{cond, ◌&&◌}
 use mathlib.Core.List.{List}
-use Prim.Native.Nat.{ℕ, zero, suc, ◌+◌, ◌*◌, ◌-◌, ◌%◌, ◌<◌, ◌≤◌}
-use native.Mathlib.Nat.{mod-le}
+use Prim.Native.Nat.{ℕ, zero, suc, ◌+◌, ◌*◌, ◌%◌, ◌<◌, ◌≤◌}
 use native.Mathlib.Omega.{arith}
 use lib.Dec.{ltb, leb, eqb}
-use lib.ListN.{length, drop, get_or, replicate}
-use mir.Val.{Fits}
-use mir.Syntax.{w8}
-use borrow.Author.Tests.{ltb-true, leb-true, eqb-true, lt-ltb, le-ltb, le-leb, eq-eqb, ne_eqb}
-use Rattle.lists.specs.Counted.{first_from, greatest_from, steps_from, each_from}
-use Rattle.lists.specs.Padded.{first}
+use lib.ListN.{length, length-replicate, replicate, get_or, get_or-replicate}
+use lib.Seq.{ext_get_or}
+use borrow.Author.Tests.{le-leb, ltb-true, leb-true, eqb-true, lt-ltb, le-ltb}
+use Rattle.lists.specs.Counted.{steps_from, each_from}
+use Rattle.lists.proofs.Counting.{each-length, each_at}
 use Rattle.lists.proofs.Cond.{either, and_left, and_right}
-use Rattle.lists.proofs.Loops.{rest-cons}
-use Rattle.lists.proofs.Counting.{first-low}
 use Rattle.lists.proofs.CountedLoops.{change, changes-each}
 use Rattle.rules.specs.declared.Figures.{Figures}
 use Rattle.rules.specs.declared.Tag.{Tag}
-use Rattle.rules.specs.declared.LoadEntry.{LoadEntry}
-use Rattle.rules.specs.declared.Request.{Request}
-use Rattle.rules.specs.declared.Lookup.TheVariants.{Hit, Pending, Miss}
-use Rattle.rules.specs.Shape.{Hierarchy, names, no_load, no_tag, tag_at, with_age, with_dirty}
-use Rattle.rules.specs.Lines.{holds_line, aged_at, write_back_slot}
+use Rattle.rules.specs.Shape.{Hierarchy, no_tag, with_age, with_dirty}
+use Rattle.rules.specs.Lines.{aged_at, write_back_slot}
 use Rattle.rules.specs.Runs.{start_tags}
-use Rattle.records.specs.Records.{lookup_in, victim_in, age_in, flushed_tags}
+use Rattle.records.specs.Records.{flushed_tags}
 
 -- ---- use
 
 module _ (f ways v a k : ℕ) (t : Tag) where
-  pub aged-hit : k ≡ v → with_age 0 t ≡ aged_at f ways v a k t
+  -- of a record of the set
+  pub aged-in :
+      (u : Tag) → f ≤ k → k < f + ways → u ≡ cond (eqb k v) (with_age 0 t) (cond (ltb t.age a) (with_age (t.age + 1) t) t) → u ≡ aged_at f ways v a k t
   unfolding aged_at
-  aged-hit e = rw (eq-eqb k v e)
-
-  pub aged-grown : (k ≡ v → ⊥) → f ≤ k → k < f + ways → t.age < a → with_age (t.age + 1) t ≡ aged_at f ways v a k t
-  unfolding aged_at
-  aged-grown d p q l = rw (ne_eqb k v d, le-leb f k p, lt-ltb k (f + ways) q, lt-ltb t.age a l)
-
-  pub aged-kept : (k ≡ v → ⊥) → f ≤ k → k < f + ways → a ≤ t.age → t ≡ aged_at f ways v a k t
-  unfolding aged_at
-  aged-kept d p q l = rw (ne_eqb k v d, le-leb f k p, lt-ltb k (f + ways) q, le-ltb t.age a l)
+  aged-in u p q e = e ∙ rw (le-leb f k p, lt-ltb k (f + ways) q)
 
   aged-out : (f ≤ k → k < f + ways → ⊥) → f ≤ v → v < f + ways → aged_at f ways v a k t ≡ t
   unfolding aged_at
@@ -54,45 +41,15 @@ pub use-each :
     → steps_from (change (aged_at f ways v a) no_tag) f ways tags ≡ each_from (aged_at f ways v a) 0 tags
 use-each f ways v a tags p q = changes-each (aged_at f ways v a) no_tag f ways tags (λ k x o. aged-out f ways v a k x o p q)
 
--- ---- the age of a way after a fill
+-- ---- ages made way by way
 
-module _ (tags : List Tag) (f ways v k : ℕ) where
-  pub age-in : (t : Tag) → k < ways → t ≡ aged_at f ways v (tag_at tags v).age (f + k) (tag_at tags (f + k)) → t.age ≡ age_in tags f ways v k 0
-  unfolding age_in
-  age-in t h e = rw (lt-ltb k ways h, e)
-
-  pub no-age : ways ≤ k → 0 ≡ age_in tags f ways v k 0
-  unfolding age_in
-  no-age h = rw (le-ltb k ways h)
-
--- ---- lookup
-
-module _ (tags : List Tag) (f ways l k : ℕ) (found : k ≡ first_from (λ k. holds_line l (tag_at tags k)) f ways) where
-  pub find-low : f ≤ k
-  find-low = omega (arith, found, first-low (λ k. holds_line l (tag_at tags k)) ways f)
-
-  pub lookup-way : (r : Request) → k < f + ways → Hit (k - f) ≡ lookup_in r tags f ways l
-  unfolding lookup_in
-  lookup-way r h = rw (← found, lt-ltb k (f + ways) h)
-
-  pub lookup-named : (r : Request) → f + ways ≤ k → names r l ≡ true → Pending ≡ lookup_in r tags f ways l
-  unfolding lookup_in
-  lookup-named r h m = rw (← found, le-ltb k (f + ways) h, m)
-
-  pub lookup-misses : (r : Request) → f + ways ≤ k → names r l ≡ false → Miss ≡ lookup_in r tags f ways l
-  unfolding lookup_in
-  lookup-misses r h m = rw (← found, le-ltb k (f + ways) h, m)
-
--- ---- the victim
-
-module _ (tags : List Tag) (f ways k : ℕ) (found : k ≡ first_from (λ k. not (tag_at tags k).valid) f ways) where
-  pub victim-invalid : k < f + ways → k ≡ victim_in tags f ways
-  unfolding victim_in
-  victim-invalid h = rw (← found, lt-ltb k (f + ways) h)
-
-  pub victim-oldest : (r : ℕ) → r ≡ greatest_from (λ k. (tag_at tags k).age) f f ways → f + ways ≤ k → r ≡ victim_in tags f ways
-  unfolding victim_in
-  victim-oldest r e h = rw (← found, le-ltb k (f + ways) h) e
+pub each-made :
+    (f : ℕ → ℕ → ℕ) (n : ℕ) (l : List ℕ) → length l ≡ n → ((k : ℕ) → k < n → get_or l k 0 ≡ f k 0) → l ≡ each_from f 0 (replicate n 0)
+each-made f n l h at =
+    let zeros : List ℕ = replicate n 0 in
+    let long : length zeros ≡ n = length-replicate n 0 in
+    ext_get_or 0 l (each_from f 0 zeros) (h ∙ sym (each-length f 0 zeros ∙ long))
+    (λ k b. at k (omega arith) ∙ sym (each_at f zeros 0 k (omega arith) ∙ ap (f k) (get_or-replicate n k 0 0 (omega arith))))
 
 -- ---- flush
 
@@ -110,10 +67,6 @@ flushed-tags n tags = cleans n 0 _
 
 -- ---- start
 
--- an age has 8 bits
-pub age-fits : (k ways count : ℕ) → k < count → count ≤ 256 → Fits w8 (k % ways)
-age-fits k ways count h l = omega (arith, mod-le k ways)
-
 abbrev pub start_at : ℕ → ℕ → ℕ → Tag → Tag
 start_at count ways k t = cond (ltb k count) (with_age (k % ways) t) t
 
@@ -129,14 +82,3 @@ start-each g =
 
 pub start-at : (count ways k : ℕ) (t : Tag) → k < count → start_at count ways k t ≡ with_age (k % ways) t
 start-at count ways k t h = rw (lt-ltb k count h)
-
--- ---- a search for a load, that was told of entry j whether it is the one
-
-module _ (p : LoadEntry → Bool) (loads : List LoadEntry) (j : ℕ) (within : j < length loads) (told : Bool) (tells : told ≡ p (get_or loads j no_load)) where
-  pub search-hit : told ≡ true → first p no_load (drop j loads) ≡ get_or loads j no_load
-  unfolding first
-  search-hit t = rw (rest-cons p no_load loads j within, sym tells ∙ t)
-
-  pub search-miss : told ≡ false → first p no_load (drop j loads) ≡ first p no_load (drop (j + 1) loads)
-  unfolding first
-  search-miss t = rw (rest-cons p no_load loads j within, sym tells ∙ t)

@@ -1,5 +1,7 @@
 -- Tables of tag records by themselves, as the code has them: which places a call may name, and what the rules make of the records.
-use Rattle.std.specs.Prelude.{ℕ, ◌+◌, ◌*◌, ◌-◌, Bool, true, false, cond, not, ◌&&◌, List, [], ◌∷◌, ltb, leb, set, replicate}
+use Rattle.std.specs.Prelude.{ℕ, ◌+◌, ◌*◌, ◌-◌, Bool, true, false, cond, not, ◌&&◌, List, [], ltb, leb, set, replicate}
+use Rattle.std.specs.Prelude.{Some, None}
+use Rattle.std.specs.Prelude as std
 use Rattle.std.proofs.Math.Option.{Option, some, none}
 use Rattle.lists.specs.Counted.{first_from, greatest_from, steps_from, each_from}
 use Rattle.rules.specs.declared.Figures.{Figures}
@@ -9,9 +11,6 @@ use Rattle.rules.specs.declared.Lookup.{Lookup}
 use Rattle.rules.specs.declared.Lookup.TheVariants.{Hit, Pending, Miss}
 use Rattle.rules.specs.Shape.{Hierarchy, names, no_figures, table_size, most_ways, tag_at}
 use Rattle.rules.specs.Lines.{holds_line, aged_at, use_line, write_back_slot, Preview}
-use Rattle.records.specs.declared.Eviction.{Eviction}
-use Rattle.records.specs.declared.Eviction.TheVariants.{Nothing, Line}
-use Rattle.records.specs.declared.Ages.{Ages}
 use Rattle.records.specs.declared.Preview as code
 
 -- ---- places in the table
@@ -88,15 +87,12 @@ abbrev pub no_preview : Preview
 no_preview = record { way = 0; evicted = none; words = 0; ages = replicate most_ways 0 }
 
 -- the same, as the code has it
-abbrev pub eviction_given : Eviction → Option ℕ
-eviction_given Nothing = none
-eviction_given (Line l) = some l
-
-abbrev pub ages_given : Ages → List ℕ
-ages_given a = a.way0 ∷ a.way1 ∷ a.way2 ∷ a.way3 ∷ []
+abbrev pub eviction_given : std.Option ℕ → Option ℕ
+eviction_given None = none
+eviction_given (Some l) = some l
 
 abbrev pub preview_given : code.Preview → Preview
-preview_given p = record { way = p.way; evicted = eviction_given p.evicted; words = p.words; ages = ages_given p.ages }
+preview_given p = record { way = p.way; evicted = eviction_given p.evicted; words = p.words; ages = p.ages }
 
 -- ---- flush
 

@@ -5,6 +5,7 @@ pub mod Checkpoints
 pub mod Calls
 pub mod WellFormed
 pub mod Runs
+pub mod RefusalNumbers
 pub mod Refusals
 pub mod Numbers
 pub mod Dropped

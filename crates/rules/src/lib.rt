@@ -5,10 +5,11 @@
 
 ghost use Rattle.std.specs.Prelude.{◌≡◌};
 ghost use Rattle.rules.specs.Shape.{sets_allowed};
+ghost use Rattle.rules.specs.RefusalNumbers.{refusal_number};
 ghost use Rattle.rules.specs.Claims.{RefusedCallsKeep, RefusalsExact, RefusalTableHolds, NumbersGiven, DroppedStretches, RestoredStretches, CheckpointsAreExact, KeptWellFormed, ValuesAreRight, WaitsAreExact, WaitStatusIsExact, LookupIsExact, ForwardingIsExact, PreviewIsExact, FlushesAreExact, FlatMemoryIsKept, WordsAreExact};
 
 // The figures of a store that a start chooses. (02, card 1: "A start may choose this profile.")
-#[derive(Clone, Copy)]
+#[derive(Clone, Copy, PartialEq, Eq)]
 pub struct Figures {
     pub sets: u32,
     pub ways: u32,
@@ -16,14 +17,15 @@ pub struct Figures {
 }
 
 // The write policy (02, card 1: the write profile): write-back with write-allocate, or write-through without it.
-#[derive(Clone, Copy)]
+#[derive(Clone, Copy, PartialEq, Eq)]
 pub enum WritePolicy {
     WriteBack,
     WriteThrough,
 }
 
-// A tag record: one way of one set. (Memory has at most 4,096 lines, and an age is at most 3.)
-#[derive(Clone, Copy)]
+// A tag record: one way of one set. (Memory has at most 4,096 lines, and an age is at most 3. `valid` is no Option around the others: 01 says of
+// an invalid record that it "is zero but for its age".)
+#[derive(Clone, Copy, PartialEq, Eq)]
 pub struct Tag {
     pub valid: bool,
     // the dirty marks of the line's four words (02, card 2): that of word n weighs 2 to the power n
@@ -33,7 +35,8 @@ pub struct Tag {
 }
 
 // An entry of the store queue (01: a held store). A free place is all zero.
-#[derive(Clone, Copy)]
+#[repr(C)]
+#[derive(Clone, Copy, PartialEq, Eq)]
 pub struct StoreEntry {
     pub number: u32,
     pub address: u32,
@@ -41,8 +44,8 @@ pub struct StoreEntry {
     pub value: u32,
 }
 
-// An entry of the load queue (01: a listed load). A free place is all zero.
-#[derive(Clone, Copy)]
+// An entry of the load queue (01: a listed load). A free place is all zero. (Its two truth values are no flags of a value beside them.)
+#[derive(Clone, Copy, PartialEq, Eq)]
 pub struct LoadEntry {
     pub number: u32,
     pub address: u32,
@@ -55,22 +58,22 @@ pub struct LoadEntry {
 // A checkpoint (02, card 3: a branch mark): its name, the next operation number when it was set, and its rank by order of setting, from 1.
 // A free place is all zero. (It is laid out as in C, without padding: the image of a state has it as it is.)
 #[repr(C)]
-#[derive(Clone, Copy)]
+#[derive(Clone, Copy, PartialEq, Eq)]
 pub struct Checkpoint {
     pub name: u32,
     pub number: u32,
     pub rank: u32,
 }
 
-// The miss register (01: the request register): free, or the line that it names.
-#[derive(Clone, Copy)]
+// The miss register (01: the request register): free, or the line that it names. (An enum of its own: 01 names the form.)
+#[derive(Clone, Copy, PartialEq, Eq)]
 pub enum Request {
     Free,
     Line(u32),
 }
 
 // What the tag lookup answers of a line (02, card 4: "present with its way, requested, or absent").
-#[derive(Clone, Copy)]
+#[derive(Clone, Copy, PartialEq, Eq)]
 pub enum Lookup {
     // present: the way of its set that has it, from 0
     Hit(usize),
@@ -125,48 +128,61 @@ pub const CHECKPOINT_PLACES: usize = 8;
 // The last operation number of 32 bits.
 pub const TOP_NUMBER: u32 = 4294967295;
 
-// ---- refusals, by the papers' numbers
+// ---- refusals
 
-// sets, ways, memory or cache length is not allowed, or a lent length disagrees with the state
-pub const BAD_FIGURES: u32 = 1;
-// width is not 1, 2 or 4
-pub const BAD_WIDTH: u32 = 2;
-// address is not a multiple of width
-pub const MISALIGNED: u32 = 3;
-// address + width exceeds memory length
-pub const OUTSIDE_MEMORY: u32 = 4;
-// a stored value is 256 to the power width or more
-pub const VALUE_TOO_LARGE: u32 = 5;
-// script line malformed, or a call before an accepted G
-pub const MALFORMED_LINE: u32 = 6;
-// state not well formed
-pub const NOT_WELL_FORMED: u32 = 10;
-// store: 16 are held
-pub const STORE_QUEUE_FULL: u32 = 11;
-// load: 8 are listed
-pub const LOAD_QUEUE_FULL: u32 = 12;
-// load or store: last is 4294967295
-pub const NUMBERS_USED_UP: u32 = 13;
-// inquiry: no waiting load of that number
-pub const NO_WAITING_LOAD: u32 = 14;
-// commit: k is below h or above last
-pub const BAD_COMMIT: u32 = 15;
-// abort: n is at most h or above last + 1
-pub const BAD_ABORT: u32 = 16;
-// reply: register free
-pub const NOTHING_REQUESTED: u32 = 17;
-// flush: a committed store is held
-pub const COMMITTED_STORE_HELD: u32 = 18;
-// 02, card 3: name outside 1 to 8
-pub const BAD_NAME: u32 = 19;
-// set, name in use
-pub const NAME_IN_USE: u32 = 20;
-// return, name not in use, or set when last is 4294967295
-pub const CHECKPOINT_UNAVAILABLE: u32 = 21;
-// 02, card 5: list, item, set count or scratch outside the figures of the study
-pub const BAD_STUDY: u32 = 22;
+// The refusals, each with the papers' number.
+#[derive(Clone, Copy, PartialEq, Eq)]
+pub enum Refusal {
+    // sets, ways, memory or cache length is not allowed, or a lent length disagrees with the state
+    BadFigures = 1,
+    // width is not 1, 2 or 4
+    BadWidth = 2,
+    // address is not a multiple of width
+    Misaligned = 3,
+    // address + width exceeds memory length
+    OutsideMemory = 4,
+    // a stored value is 256 to the power width or more
+    ValueTooLarge = 5,
+    // script line malformed, or a call before an accepted G
+    MalformedLine = 6,
+    // state not well formed
+    NotWellFormed = 10,
+    // store: 16 are held
+    StoreQueueFull = 11,
+    // load: 8 are listed
+    LoadQueueFull = 12,
+    // load or store: last is 4294967295
+    NumbersUsedUp = 13,
+    // inquiry: no waiting load of that number
+    NoWaitingLoad = 14,
+    // commit: k is below h or above last
+    BadCommit = 15,
+    // abort: n is at most h or above last + 1
+    BadAbort = 16,
+    // reply: register free
+    NothingRequested = 17,
+    // flush: a committed store is held
+    CommittedStoreHeld = 18,
+    // 02, card 3: name outside 1 to 8
+    BadName = 19,
+    // set, name in use
+    NameInUse = 20,
+    // return, name not in use, or set when last is 4294967295
+    CheckpointUnavailable = 21,
+    // 02, card 5: list, item, set count or scratch outside the figures of the study
+    BadStudy = 22,
+}
 
-// ---- free places, unused records: "all zero"
+impl Refusal {
+    // The papers' number.
+    pub fn number(self) -> u32
+        ensures { result ≡ refusal_number self }
+    {
+        self as u32
+    }
+}
+
+// ---- free places, unused records: "all zero" (so that 01 has it; no place is an Option)
 
 pub const NO_STORE: StoreEntry = StoreEntry {
     number: 0,
@@ -209,25 +225,7 @@ pub const NO_FIGURES: Figures = Figures {
 pub fn sets_allowed(n: u32) -> bool
     ensures { result ≡ sets_allowed n }
 {
-    if n == 1 {
-        return true;
-    }
-    if n == 2 {
-        return true;
-    }
-    if n == 4 {
-        return true;
-    }
-    if n == 8 {
-        return true;
-    }
-    if n == 16 {
-        return true;
-    }
-    if n == 32 {
-        return true;
-    }
-    n == MAX_SETS
+    matches!(n, 1 | 2 | 4 | 8 | 16 | 32 | MAX_SETS)
 }
 
 // ---- the claims about the rules: functions that do nothing and promise them

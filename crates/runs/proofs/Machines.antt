@@ -5,6 +5,8 @@ use mathlib.Core.Path.{◌≡◌, refl, sym, ◌∙◌, ap, ap₂, subst}
 use mathlib.Core.List.{List, [], ◌∷◌, ◌++◌}
 use mathlib.Core.Option.{Option, some, none}
 use lib.ListN.{length, replicate, get_or, length-replicate}
+use Rattle.std.specs.Prelude.{Some, None}
+use Rattle.std.specs.Prelude as std
 use Rattle.lists.proofs.Counting.{each-length}
 use Rattle.rules.specs.declared.Figures.{Figures}
 use Rattle.rules.specs.Shape.{World, world}
@@ -15,8 +17,6 @@ use Rattle.rules.specs.Runs.{outcome, answer, next, answers, after, ready, start
 use Rattle.rules.specs.Flat.{History, no_history, history, history_of, flat_of}
 use Rattle.rules.specs.Values.{history_at, Claim, AfterStart, FromState}
 use Rattle.records.specs.Records.{eviction_given, preview_given}
-use Rattle.records.specs.declared.Eviction.{Eviction}
-use Rattle.records.specs.declared.Eviction.TheVariants.{Nothing, Line}
 use Rattle.records.specs.declared.Preview as previews
 use Rattle.model.specs.State.{bytes_from, outcome_of, answer_of, call_of}
 use Rattle.model.specs.Starts.{start_answer_of}
@@ -52,21 +52,21 @@ machine-of m d e = ap machine_at e
 -- ---- an answer
 
 -- the code's preview of a paper's preview
-abbrev eviction_as : Option ℕ → Eviction
-eviction_as none = Nothing
-eviction_as (some l) = Line l
+abbrev eviction_as : Option ℕ → std.Option ℕ
+eviction_as none = None
+eviction_as (some l) = Some l
 
 abbrev preview_as : Preview → previews.Preview
 preview_as p = record {
   way = p.way;
   evicted = eviction_as p.evicted;
   words = p.words;
-  ages = record { way0 = get_or p.ages 0 0; way1 = get_or p.ages 1 0; way2 = get_or p.ages 2 0; way3 = get_or p.ages 3 0 };
+  ages = p.ages;
 }
 
-eviction-back : (e : Eviction) → e ≡ eviction_as (eviction_given e)
-eviction-back Nothing = refl
-eviction-back (Line l) = refl
+eviction-back : (e : std.Option ℕ) → e ≡ eviction_as (eviction_given e)
+eviction-back None = refl
+eviction-back (Some l) = refl
 
 preview-back : (p : previews.Preview) → p ≡ preview_as (preview_given p)
 preview-back p = λ i. record { way = p.way; evicted = eviction-back p.evicted i; words = p.words; ages = p.ages }

@@ -1,18 +1,21 @@
 -- Refusals of the code: each exactly under its condition, and none changes anything.
-use Prim.Native.Nat.{ℕ}
 use mathlib.Core.Path.{◌≡◌, refl, sym, ◌∙◌, ap}
 use mathlib.Core.Bool.{false}
 use Rattle.lists.proofs.Cond.{cases}
 use Rattle.rules.specs.Shape.{World}
 use Rattle.rules.specs.Calls.{is_accepted}
-use Rattle.rules.specs.Runs.{StartAnswer, ready, start_refused, start_allowed, start_answer, start_world, unstarted}
+use Rattle.rules.specs.Runs.{ready, start_refused, start_allowed, start_answer, start_world, unstarted}
 use Rattle.rules.specs.Refusals as of-rules
 use Rattle.rules.proofs.Checks.{refused-keeps, refused-exactly}
 use Rattle.model.specs.State.{answer_of}
 use Rattle.model.specs.Starts.{start_answer_of}
 use Rattle.model.specs.declared.Answer as code
-use Rattle.model.specs.declared.StartAnswer as code-start
-use Rattle.model.specs.declared.StartAnswer.TheVariants.{Ready, NotAllowed}
+use Rattle.std.specs.Bool.{⊤}
+use Rattle.std.proofs.Common.{Result, Ok, Err}
+use Rattle.rules.specs.declared.Refusal.{Refusal}
+use Rattle.rules.specs.declared.Refusal.TheVariants.{BadFigures, BadWidth, Misaligned, OutsideMemory, ValueTooLarge, MalformedLine, NotWellFormed, StoreQueueFull, LoadQueueFull, NumbersUsedUp, NoWaitingLoad, BadCommit, BadAbort, NothingRequested, CommittedStoreHeld, BadName, NameInUse, CheckpointUnavailable, BadStudy}
+use Rattle.rules.specs.RefusalNumbers.{refusal_number}
+use native.Mathlib.Omega.{arith}
 use Rattle.runs.specs.Machines.{Machine, Made, StartMade, world_at, left, call_made, accepted_call, StartPromised}
 use Rattle.runs.specs.Refusals.{RefusesExactly, StartRefusesExactly, RefusalsOfCode, RefusedOfCode}
 use Rattle.runs.proofs.Machines.{answer_as, Follows, each-call, machine-of}
@@ -31,26 +34,48 @@ call-keeps m c f t = machine-of (left c) m (f.leaves ∙ refused-keeps (call_mad
 
 -- ---- a start
 
--- the code's answer to a start is the paper's
-abbrev answer_back : StartAnswer → code-start.StartAnswer
-answer_back ready = Ready
-answer_back (start_refused k) = NotAllowed k
+-- ready stands for one answer of the code
+was-ready : (a : Result ⊤ Refusal) → start_answer_of a ≡ ready → a ≡ Ok tt
+was-ready (Ok u) e = refl
+was-ready (Err why) e = cc
 
-back : (a : code-start.StartAnswer) → a ≡ answer_back (start_answer_of a)
-back Ready = refl
-back (NotAllowed k) = refl
+-- the number 1 stands for one refusal
+was-one : (why : Refusal) → refusal_number why ≡ 1 → why ≡ BadFigures
+was-one BadFigures e = refl
+was-one BadWidth e = absurd (omega arith)
+was-one Misaligned e = absurd (omega arith)
+was-one OutsideMemory e = absurd (omega arith)
+was-one ValueTooLarge e = absurd (omega arith)
+was-one MalformedLine e = absurd (omega arith)
+was-one NotWellFormed e = absurd (omega arith)
+was-one StoreQueueFull e = absurd (omega arith)
+was-one LoadQueueFull e = absurd (omega arith)
+was-one NumbersUsedUp e = absurd (omega arith)
+was-one NoWaitingLoad e = absurd (omega arith)
+was-one BadCommit e = absurd (omega arith)
+was-one BadAbort e = absurd (omega arith)
+was-one NothingRequested e = absurd (omega arith)
+was-one CommittedStoreHeld e = absurd (omega arith)
+was-one BadName e = absurd (omega arith)
+was-one NameInUse e = absurd (omega arith)
+was-one CheckpointUnavailable e = absurd (omega arith)
+was-one BadStudy e = absurd (omega arith)
+
+was-refused : (a : Result ⊤ Refusal) → start_answer_of a ≡ start_refused 1 → a ≡ Err BadFigures
+was-refused (Ok u) e = cc
+was-refused (Err why) e = let n : refusal_number why ≡ 1 = cc in ap (λ (r : Refusal). Err r) (was-one why n)
 
 module _ (s : StartMade) (p : StartPromised s) where
   start-exact : StartRefusesExactly s
   unfolding start_answer
   start-exact = record {
-    allowed = λ e. back s.gave.answer ∙ ap answer_back p.0 ∙ rw e refl;
-    refused = λ e. back s.gave.answer ∙ ap answer_back p.0 ∙ rw e refl;
+    allowed = λ e. was-ready s.gave.answer (p.0 ∙ rw e);
+    refused = λ e. was-refused s.gave.answer (p.0 ∙ rw e);
   }
 
-  start-keeps : (k : ℕ) → s.gave.answer ≡ NotAllowed k → s.cache ≡ s.found
+  start-keeps : (why : Refusal) → s.gave.answer ≡ Err why → s.cache ≡ s.found
   unfolding start_answer start_world unstarted
-  start-keeps k e = cases (start_allowed s.figures s.found s.memory)
+  start-keeps why e = cases (start_allowed s.figures s.found s.memory)
       (λ t. cc (start-exact.allowed t))
       (λ t. ap (λ (w : World). w.hierarchy.cache) p.1 ∙ rw t refl)
 

@@ -1,7 +1,7 @@
 -- What a caller of the code holds, the calls of `State::start` and `State::step` that it makes, and runs of them. The claims of this
 -- crate are about these: what a call answered, what it handed back, and what it left in the lent bytes. What the rules say of a call
 -- stands in the two promises alone, the contracts of `step` and `start`.
-use Rattle.std.specs.Prelude.{ℕ, ◌≡◌, Bool, List, [], ◌∷◌, ◌++◌, map}
+use Rattle.std.specs.Prelude.{ℕ, ◌≡◌, Bool, List, [], ◌∷◌, ◌++◌, map, Ok}
 use Rattle.rules.specs.declared.Figures.{Figures}
 use Rattle.rules.specs.Shape.{World}
 use Rattle.rules.specs.Calls.{is_accepted, next_number}
@@ -15,7 +15,6 @@ use Rattle.model.specs.declared.State.{State}
 use Rattle.model.specs.declared.Step.{Step}
 use Rattle.model.specs.declared.Call.{Call}
 use Rattle.model.specs.declared.Started.{Started}
-use Rattle.model.specs.declared.StartAnswer.TheVariants.{Ready}
 
 -- ---- a machine
 
@@ -110,7 +109,7 @@ StartPromised s = Starts s.figures s.found s.memory s.gave s.cache
 -- a start that answered ready
 pub record AcceptedStart (s : StartMade) : Type 0 where
   pub promised : StartPromised s
-  pub ready : s.gave.answer ≡ Ready
+  pub ready : s.gave.answer ≡ Ok tt
 
 -- ---- claims about whole runs
 

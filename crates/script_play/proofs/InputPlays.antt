@@ -1,5 +1,5 @@
 -- Bytes played one after the other: no byte but LF does more than lengthen the line, and a line held short is played alike.
-use Prim.Native.Nat.{ℕ, zero, suc, ◌+◌, ◌*◌, ◌-◌, ◌/◌, ◌≤◌, ◌<◌}
+use Prim.Native.Nat.{ℕ, zero, suc, ◌+◌, ◌*◌, ◌-◌, ◌/◌, ◌≤◌, ◌<◌, min}
 use mathlib.Core.Path.{◌≡◌, refl, sym, ◌∙◌, ap, ap₂, subst}
 use mathlib.Core.Bool.{Bool, true, false, cond, ◌&&◌}
 use mathlib.Core.List.{List, [], ◌∷◌, ◌++◌, append-nil, append_assoc}
@@ -8,10 +8,13 @@ use native.Mathlib.Numerals.{add-one}
 use native.Mathlib.Omega.{arith}
 use lib.Dec.{eqb, ltb, leb}
 use lib.ListN.{length, take, drop, get_or, length-append, length-drop}
-use lib.Seq.{sets, sets-eq, take_all, take-suc, take-take, take_at, take-add, take-append-add, length-take-le, length_paste_head}
-use borrow.Author.Tests.{ltb-true, ltb-false, eqb-true, leb-true, ne_eqb}
+use lib.Seq.{sets, sets-eq, take_all, take-suc, take-take, take_at, drop_at, drop-drop, get_or-take, take-add, take-append-add, length-take-le, length_paste_head}
+use borrow.Author.Tests.{eq-eqb, ltb-true, ltb-false, eqb-true, leb-true, ne_eqb}
 use Rattle.lists.specs.Padded.{position}
-use Rattle.lists.proofs.Cond.{cases, either, and_left, and_right}
+use Rattle.std.specs.Prelude as code
+use Rattle.std.specs.List.{IsFirstMatchOrLen}
+use Rattle.std.proofs.lemmas.List.{take_min}
+use Rattle.lists.proofs.Cond.{cases, either, and_left, and_right, wrong}
 use Rattle.lists.proofs.Loops.{position-high}
 use Rattle.rules.specs.Shape.{World}
 use Rattle.rules.specs.Calls.{Answer, stored, value, waits, waits_requested, committed, kept, drained, requested, idled, filled, flushed, shown, checkpointed, previewed, refused}
@@ -24,9 +27,9 @@ use Rattle.script.specs.Play as script
 use Rattle.script.proofs.Play.{cuts, held-short}
 use Rattle.script_text.specs.Written.{Wrote, longest_word, line_room, in_room}
 use Rattle.script_text.proofs.Writing.{wrote_then, wrote_none, printed-short}
-use Rattle.script_play.specs.Player.{largest_cache, largest_memory, player_of, shortened, Lent, laid_in, lent_after, RunAt, run_at, PlayerAt, player_at, is_feed, PlaysCommand, Plays, Holds, between, roomy, playable, PlaysChunk, with_output, Joined, ChunksPlayed}
+use Rattle.script_play.specs.Player.{largest_cache, largest_memory, held_of, player_of, shortened, Lent, laid_in, lent_after, RunAt, run_at, PlayerAt, player_at, is_feed, PlaysCommand, Plays, Holds, roomy, playable, PlaysChunk, with_output, Joined, ChunksPlayed}
 use Rattle.script_play.specs.declared.Player.{Player}
-use Rattle.script_play.specs.declared.input.Held.{Held}
+use Rattle.script_play.specs.declared.HeldLine.{HeldLine}
 
 -- ---- the lent bytes, wherever an input is cut
 
@@ -111,12 +114,10 @@ plays-then xs ys {s} {s'} {s''} f g =
 
 -- bytes of the input that go on where others ended
 pub plays-on :
-    (input : List ℕ) (i next : ℕ) → i ≤ next
-    → {s s' s'' : PlayerAt} → Plays (take i input) s s' → Plays (between i next input) s' s'' → Plays (take next input) s s''
-plays-on input i next h {s} {s'} {s''} f g =
-    let e : i + (next - i) ≡ next = omega arith in
-    subst (λ (xs : List ℕ). Plays xs s s'') (sym (take-add i (next - i) input) ∙ ap (λ (k : ℕ). take k input) e)
-    (plays-then (take i input) (between i next input) f g)
+    (input : List ℕ) (i n : ℕ) {s s' s'' : PlayerAt}
+    → Plays (take i input) s s' → Plays (take n (drop i input)) s' s'' → Plays (take (i + n) input) s s''
+plays-on input i n {s} {s'} {s''} f g =
+    subst (λ (xs : List ℕ). Plays xs s s'') (sym (take-add i n input)) (plays-then (take i input) (take n (drop i input)) f g)
 
 -- ---- up to the end of a line
 
@@ -259,38 +260,22 @@ effect-short (some (make x)) (some w) = answer-short (answer x w)
 
 -- ---- the bytes of a line are held
 
-module _ (held d n : ℕ) (h : held ≤ held_bytes) (e : n ≡ cond (ltb (held_bytes - held) d) (held_bytes - held) d) where
-  pub room-bounds : (n ≤ d) × (held + n ≤ held_bytes)
-  room-bounds = cases (ltb (held_bytes - held) d)
-      (λ t. let q : n ≡ held_bytes - held = e ∙ rw t in let l = ltb-true (held_bytes - held) d t in (omega arith, omega arith))
-      (λ t. let q : n ≡ d = e ∙ rw t in let l = ltb-false (held_bytes - held) d t in (omega arith, omega arith))
-
-  pub held_all : (line xs : List ℕ) → length line ≡ held_bytes → d ≤ length xs
-      → take (held + n) (sets line held (take n xs)) ≡ take held_bytes (take held line ++ take d xs)
-  held_all line xs len k =
-      ap (take (held + n)) written ∙ take_at (take held line ++ take n xs) _ (held + n) (length_paste_head line held xs n (omega arith) some)
-      ∙ sym (ap (λ (m : ℕ). take m (take held line ++ take d xs)) whole
-      ∙ take-append-add (take held line) (take d xs) (held_bytes - held) ∙ ap (λ (l : List ℕ). take held line ++ l) shorter)
+-- n bytes more, for which there is room
+module _ (held n : ℕ) (line xs : List ℕ) (h : held ≤ held_bytes) (len : length line ≡ held_bytes) (e : n ≡ min (held_bytes - held) (length xs)) where
+  pub held_all : take (held + n) (sets line held (take n xs)) ≡ take held_bytes (take held line ++ xs)
+  held_all =
+      ap (take (held + n)) written ∙ take_at (take held line ++ take n xs) _ (held + n) (length_paste_head line held xs n (omega arith) (omega arith))
+      ∙ sym (ap (λ (m : ℕ). take m (take held line ++ xs)) whole
+      ∙ take-append-add (take held line) xs (held_bytes - held)
+      ∙ ap (λ (l : List ℕ). take held line ++ l) (sym (ap (λ (m : ℕ). take m xs) e ∙ take_min (held_bytes - held) xs)))
     where
-      some : n ≤ length xs
-      some = omega (arith, room-bounds.0)
-
       written : sets line held (take n xs) ≡ take held line ++ take n xs ++ drop (held + length (take n xs)) line
-      written = sets-eq (take n xs) line held (omega (arith, room-bounds.1, length-take-le n xs some))
+      written = sets-eq (take n xs) line held (omega (arith, length-take-le n xs (omega arith)))
 
       whole : held_bytes ≡ length (take held line) + (held_bytes - held)
       whole = omega (arith, length-take-le held line (omega arith))
 
-      shorter : take (held_bytes - held) (take d xs) ≡ take n xs
-      shorter = cases (ltb (held_bytes - held) d)
-          (λ t. let q : n ≡ held_bytes - held = e ∙ rw t in
-          let l = ltb-true (held_bytes - held) d t in
-          take-take (held_bytes - held) d xs (omega arith) ∙ ap (λ (m : ℕ). take m xs) (sym q))
-          (λ t. let q : n ≡ d = e ∙ rw t in
-          let l = ltb-false (held_bytes - held) d t in
-          take_all (held_bytes - held) (take d xs) (omega (arith, length-take-le d xs k)) ∙ ap (λ (m : ℕ). take m xs) (sym q))
-
--- ---- the line that goes on at a place
+-- ---- the pieces of an input, each up to its LF
 
 feed-at : (bs : List ℕ) → position is_feed bs < length bs → get_or bs (position is_feed bs) 0 ≡ line_feed
 unfolding position
@@ -300,67 +285,171 @@ feed-at (b ∷ bs) h = cases (eqb b line_feed)
     (λ e. let more : position is_feed (b ∷ bs) ≡ suc (position is_feed bs) = rw e in
     rw more (feed-at bs (let g : suc (position is_feed bs) < suc (length bs) = rw more at h in omega arith)))
 
-module _ (input : List ℕ) (from end : ℕ) (ee : end ≡ from + position is_feed (drop from input)) (inside : from ≤ length input) where
-  pub end-bounds : (from ≤ end) × (end ≤ length input)
-  end-bounds = (omega arith, omega (arith, position-high is_feed (drop from input), length-drop from input))
+-- the first LF, or the end
+feed-found : (bs : List ℕ) (k : ℕ) → IsFirstMatchOrLen is_feed bs k → position is_feed bs ≡ k
+unfolding position
+feed-found [] zero f = refl
+feed-found [] (suc k) f = wrong refl (f.0 0 line_feed (omega arith) (omega arith))
+feed-found (b ∷ bs) zero f = rw (f.1 (omega arith) b)
+feed-found (b ∷ bs) (suc k) f =
+    rw (f.0 0 b (omega arith) (omega arith))
+    (ap suc (feed-found bs k (λ i d l h. f.0 (suc i) d (omega arith) (omega arith), λ h d. f.1 (omega arith) d)))
 
-  abbrev rest : List ℕ
-  rest = drop from input
+-- a piece: it stands at the front of what is left, and ends behind the first LF, or with the input
+pub record Piece (rest piece after : List ℕ) (k : ℕ) : Type 0 where
+  pub cut : rest ≡ piece ++ after
+  pub long : length piece ≡ min (k + 1) (length rest)
+  pub found : IsFirstMatchOrLen is_feed rest k
+  pub some : 0 < length rest
 
-  up-to-feed : end - from ≡ position is_feed rest
-  up-to-feed = omega arith
+module _ (rest piece after : List ℕ) (k : ℕ) (p : Piece rest piece after k) where
+  place : position is_feed rest ≡ k
+  place = feed-found rest k p.found
 
-  module _ (player : Player) (cache memory out : List ℕ) (at : ℕ) where
-    abbrev s : PlayerAt
-    s = player_at player cache memory out at
+  front : take (length piece) rest ≡ piece
+  front = ap (take (length piece)) p.cut ∙ take_at piece after (length piece) refl
 
-    -- the player that holds the line so far
-    abbrev holding : Held → PlayerAt
-    holding held =
-        player_at (record { started = player.started; state = player.state; length = held.length; line = held.line }) cache memory out at
+  same : (i : ℕ) → i < length piece → get_or piece i 0 ≡ get_or rest i 0
+  same i h = sym (ap (λ (l : List ℕ). get_or l i 0) front) ∙ get_or-take (length piece) rest i 0 h
 
-    -- no LF: the line goes on
-    piece-held : (held : Held) → Holds player.line player.length (between from end input) held → Plays (between from end input) s (holding held)
-    piece-held held holds =
-        subst (λ (n : ℕ). Plays (take n rest) s (holding held)) (sym up-to-feed)
-        (held-line rest s (take held.length held.line)
-        (holds.bytes ∙ ap (λ (n : ℕ). take held_bytes (s.player.line ++ take n rest)) up-to-feed))
+  abbrev last : ℕ
+  last = length piece - 1
 
-    -- no LF up to the end of the input
-    pub last-piece :
-        (held : Held) {s₀ : PlayerAt} → end ≡ length input → Plays (take from input) s₀ s
-        → Holds player.line player.length (between from end input) held → Plays input s₀ (holding held)
-    last-piece held {s₀} e f holds =
-        subst (λ (xs : List ℕ). Plays xs s₀ (holding held)) (take_all end input (omega arith))
-        (plays-on input from end end-bounds.0 f (piece-held held holds))
+  -- what follows it
+  pub follows : after ≡ drop (length piece) rest
+  follows = sym (ap (drop (length piece)) p.cut ∙ drop_at piece after (length piece) refl)
 
-    module _ (begun : Bool) (state : State) (cache' memory' out' : List ℕ) (to : ℕ) where
-      -- the player behind the line
-      abbrev beyond : PlayerAt
-      beyond = player_at (record { started = begun; state = state; length = 0; line = player.line }) cache' memory' out' to
+  inside : length piece ≤ length rest
+  inside = omega (arith, p.long)
 
-      -- an LF: the line is played, and prints one line at most
-      pub line-played :
-          (c : Option Command) → end < length input → c ≡ command_of (take player.length player.line ++ between from end input)
-          → PlaysCommand c (run_at player.started player.state cache memory out at) (run_at begun state cache' memory' out' to)
-          → (to ≤ at + line_room) × Plays (between from (end + 1) input) s beyond
-      line-played c short ce plays =
-          let before : position is_feed rest < length rest = omega (arith, length-drop from input) in
-          let known = ce ∙ ap (λ (n : ℕ). command_of (s.player.line ++ take n rest)) up-to-feed in (
-            omega (arith, plays.wrote.next, effect-short c s.player.run),
-            subst (λ (n : ℕ). Plays (take n rest) s beyond) (let e : position is_feed rest + 1 ≡ end + 1 - from = omega arith in e)
-                (played-line rest s c (run_at begun state cache' memory' out' to) before (feed-at rest before) known plays),
-          )
+  -- no LF in what is left: it is all of that
+  all : length rest ≤ k → (position is_feed rest ≡ length rest) × (piece ≡ rest)
+  all h = (omega (arith, position-high is_feed rest, place), sym front ∙ take_all (length piece) rest (omega (arith, p.long)))
+
+  -- its last byte is an LF
+  pub feed-last : get_or piece last 0 ≡ line_feed
+      → (position is_feed rest < length rest) × (take last piece ≡ take (position is_feed rest) rest) × (length piece ≡ position is_feed rest + 1)
+  feed-last e = cases (ltb k (length rest))
+      (λ t. let h = ltb-true k (length rest) t in
+      let long : length piece ≡ position is_feed rest + 1 = omega (arith, p.long, place) in
+      let at_feed : last ≡ position is_feed rest = omega arith in (
+        omega (arith, place),
+        ap (take last) (sym front) ∙ take-take last (length piece) rest (omega arith) ∙ ap (λ (n : ℕ). take n rest) at_feed,
+        long,
+      ))
+      (λ t. let h = ltb-false k (length rest) t in
+      let long : length piece ≡ length rest = omega (arith, p.long) in
+      wrong (eq-eqb _ line_feed (sym (same last (omega (arith, p.some))) ∙ e)) (p.found.0 last 0 (omega arith) (omega (arith, p.some))))
+
+  -- its last byte is none
+  pub feed-none : (get_or piece last 0 ≡ line_feed → ⊥) → (position is_feed rest ≡ length rest) × (piece ≡ rest)
+  feed-none e = cases (ltb k (length rest))
+      (λ t. let h = ltb-true k (length rest) t in
+      let long : length piece ≡ k + 1 = omega (arith, p.long) in
+      let at_k : last ≡ k = omega arith in
+      absurd (e (same last (omega arith) ∙ rw at_k (eqb-true _ line_feed (p.found.1 h 0)))))
+      (λ t. all (ltb-false k (length rest) t))
+
+-- ---- the line that goes on at a place
+
+module _ (rest : List ℕ) (player : Player) (cache memory out : List ℕ) (at : ℕ) where
+  abbrev s : PlayerAt
+  s = player_at player cache memory out at
+
+  -- no LF: the line goes on
+  pub piece-held :
+      (held : HeldLine) → position is_feed rest ≡ length rest → Holds player.line rest held
+      → Plays rest s (player_at (record { run = player.run; line = held }) cache memory out at)
+  piece-held held e holds =
+      let all : take (position is_feed rest) rest ≡ rest = take_all (position is_feed rest) rest (omega arith) in
+      subst (λ (xs : List ℕ). Plays xs s (player_at (record { run = player.run; line = held }) cache memory out at)) all
+      (held-line rest s (held_of held) (holds.bytes ∙ ap (λ (xs : List ℕ). take held_bytes (held_of player.line ++ xs)) (sym all)))
+
+  -- an LF: the line is played, and prints one line at most
+  pub line-played :
+      (run : code.Option State) (bytes cache' memory' out' : List ℕ) (to : ℕ) (c : Option Command)
+      → position is_feed rest < length rest → c ≡ command_of (held_of player.line ++ take (position is_feed rest) rest)
+      → PlaysCommand c (run_at player.run cache memory out at) (run_at run cache' memory' out' to)
+      → (to ≤ at + line_room)
+      × Plays (take (position is_feed rest + 1) rest) s (player_at (record { run = run; line = record { bytes = bytes; length = 0 } }) cache' memory' out' to)
+  line-played run bytes cache' memory' out' to c short ce plays = (
+    omega (arith, plays.wrote.next, effect-short c s.player.run),
+    played-line rest s c (run_at run cache' memory' out' to) short (feed-at rest short) ce plays,
+  )
+
+-- ---- the input, up to a place
+
+-- the bytes of the input before what is left of it are played
+pub record PlayedTo (input rest : List ℕ) (before now : PlayerAt) : Type 0 where
+  pub place : ℕ
+  pub inside : place ≤ length input
+  pub left : rest ≡ drop place input
+  pub room : now.at ≤ line_room * place
+  pub plays : Plays (take place input) before now
+
+pub played-none : (input rest : List ℕ) (s : PlayerAt) → rest ≡ input → s.at ≡ 0 → length s.player.line ≤ held_bytes → PlayedTo input rest s s
+played-none input rest s e z h = record { place = 0; inside = omega arith; left = e; room = omega arith; plays = plays-none s h }
+
+module _ (input rest piece after : List ℕ) (k : ℕ) (p : Piece rest piece after k) (before : PlayerAt) (player : Player) (cache memory out : List ℕ) (at : ℕ)
+    (f : PlayedTo input rest before (player_at player cache memory out at)) where
+  abbrev n : ℕ
+  n = length piece
+
+  fits : f.place + n ≤ length input
+  fits = omega (arith, f.inside, inside rest piece after k p, ap length f.left, length-drop f.place input)
+
+  goes-on : after ≡ drop (f.place + n) input
+  goes-on = follows rest piece after k p ∙ ap (drop n) f.left ∙ drop-drop n f.place input
+
+  -- there is room for the line that answers
+  pub room-left : line_room * length input ≤ length out → at + line_room ≤ length out
+  room-left h = omega (arith, f.room, fits, p.long, p.some)
+
+  -- a piece without an LF is held
+  pub played-held :
+      (held : HeldLine) → (get_or piece (n - 1) 0 ≡ line_feed → ⊥) → Holds player.line piece held
+      → PlayedTo input after before (player_at (record { run = player.run; line = held }) cache memory out at)
+  played-held held e holds =
+      let now = player_at (record { run = player.run; line = held }) cache memory out at in
+      let none = feed-none rest piece after k p e in
+      let same : rest ≡ take n (drop f.place input) = sym none.1 ∙ sym (front rest piece after k p) ∙ ap (take n) f.left in
+      let held-all : Holds player.line rest held = subst (λ (xs : List ℕ). Holds player.line xs held) none.1 holds in
+      record {
+        place = f.place + n;
+        inside = fits;
+        left = goes-on;
+        room = omega (arith, f.room);
+        plays = plays-on input f.place n f.plays
+            (subst (λ (xs : List ℕ). Plays xs (player_at player cache memory out at) now) same
+            (piece-held rest player cache memory out at held none.0 held-all));
+      }
+
+  -- a line is played
+  pub played-on :
+      (run : code.Option State) (bytes cache' memory' out' : List ℕ) (to : ℕ) (c : Option Command)
+      → get_or piece (n - 1) 0 ≡ line_feed → c ≡ command_of (held_of player.line ++ take (n - 1) piece)
+      → PlaysCommand c (run_at player.run cache memory out at) (run_at run cache' memory' out' to)
+      → PlayedTo input after before (player_at (record { run = run; line = record { bytes = bytes; length = 0 } }) cache' memory' out' to)
+  played-on run bytes cache' memory' out' to c e ce did =
+      let now = player_at (record { run = run; line = record { bytes = bytes; length = 0 } }) cache' memory' out' to in
+      let last = feed-last rest piece after k p e in
+      let asked = ce ∙ ap (λ (xs : List ℕ). command_of (held_of player.line ++ xs)) last.1 in
+      let line = line-played rest player cache memory out at run bytes cache' memory' out' to c last.0 asked did in
+      let same : take (position is_feed rest + 1) rest ≡ take n (drop f.place input) = ap (λ (m : ℕ). take m rest) (sym last.2) ∙ ap (take n) f.left in
+      record {
+        place = f.place + n;
+        inside = fits;
+        left = goes-on;
+        room = omega (arith, line.0, f.room, last.2);
+        plays = plays-on input f.place n f.plays
+            (subst (λ (xs : List ℕ). Plays xs (player_at player cache memory out at) now) same line.1);
+      }
 
 -- what a line asks for that is held short
-pub held-command : (line : List ℕ) (n : ℕ) (more : List ℕ) (held : Held) → Holds line n more held
-    → command_of (take held.length held.line) ≡ command_of (take n line ++ more)
-held-command line n more held holds = ap command_of holds.bytes ∙ held-short (take n line ++ more)
+pub held-command : (line : HeldLine) (more : List ℕ) (held : HeldLine) → Holds line more held → command_of (held_of held) ≡ command_of (held_of line ++ more)
+held-command line more held holds = ap command_of holds.bytes ∙ held-short (held_of line ++ more)
 
 -- ---- what the player promises
-
-pub held_same : (line : List ℕ) (n : ℕ) → length line ≡ held_bytes → held_bytes < n → take held_bytes line ≡ take n line
-held_same line n e h = take_all held_bytes line (omega arith) ∙ sym (take_all n line (omega arith))
 
 take_short : (n : ℕ) (l : List ℕ) → length (take n l) ≤ length l
 take_short zero l = omega arith
@@ -394,7 +483,7 @@ module _ (input : List ℕ) (s : PlayerAt) where
         plays = subst (λ (xs : List ℕ). Plays xs s s') (sym same) (subst (λ (x : PlayerAt). Plays input x s') q f);
       }
 
-pub none-played : (input : List ℕ) (p : Player) (cache memory out : List ℕ) → length p.line ≡ held_bytes
+pub none-played : (input : List ℕ) (p : Player) (cache memory out : List ℕ) → length p.line.bytes ≡ held_bytes
     → roomy input (player_at p cache memory out 0) ≡ false
     → PlaysChunk input (player_at p cache memory out 0) (player_at p cache memory out 0) 0
 unfolding playable
@@ -403,26 +492,26 @@ none-played input p cache memory out len e =
     let none : playable input s ≡ [] = rw e in
     record {
       all = ap length (sym none);
-      plays = subst (λ (xs : List ℕ). Plays xs s s) (sym none) (plays-none s (omega (arith, take_short p.length p.line)));
+      plays = subst (λ (xs : List ℕ). Plays xs s s) (sym none) (plays-none s (omega (arith, take_short p.line.length p.line.bytes)));
     }
 
 -- at the end of the input
-module _ (p : Player) (at : ℕ) (out : List ℕ) (len : length p.line ≡ held_bytes) where
-  pub ends-empty : p.length ≡ 0 → Wrote at (in_room at out (at_end (player_of p [] []))) out out at
+module _ (p : Player) (at : ℕ) (out : List ℕ) (len : length p.line.bytes ≡ held_bytes) where
+  pub ends-empty : p.line.length ≡ 0 → Wrote at (in_room at out (at_end (player_of p [] []))) out out at
   unfolding at_end in_room
   ends-empty e =
       rw e (either (λ (l : List ℕ). Wrote at l out out at) (leb (at + line_room) (length out)) (λ _. wrote_none at out) (λ _. wrote_none at out))
 
-  ends_open : (p.length ≡ 0 → ⊥) → refused_line malformed_line ≡ at_end (player_of p [] [])
+  ends_open : (p.line.length ≡ 0 → ⊥) → refused_line malformed_line ≡ at_end (player_of p [] [])
   unfolding at_end
-  ends_open d = rw (ne_eqb (length (take p.length p.line)) 0 (λ e. d (empty p.length p.line len e)))
+  ends_open d = rw (ne_eqb (length (held_of p.line)) 0 (λ e. d (empty p.line.length p.line.bytes len e)))
     where
       empty : (n : ℕ) (l : List ℕ) → length l ≡ held_bytes → length (take n l) ≡ 0 → n ≡ 0
       empty zero l h e = refl
       empty (suc n) [] h e = let no : ⊥ = omega arith in absurd no
       empty (suc n) (x ∷ l) h e = let no : ⊥ = omega arith in absurd no
 
-  pub ends-refused : {out' : List ℕ} {r : ℕ} → (p.length ≡ 0 → ⊥)
+  pub ends-refused : {out' : List ℕ} {r : ℕ} → (p.line.length ≡ 0 → ⊥)
       → Wrote at (in_room at out (refused_line malformed_line)) out out' r → Wrote at (in_room at out (at_end (player_of p [] []))) out out' r
   ends-refused {out'} {r} d w = subst (λ (l : List ℕ). Wrote at (in_room at out l) out out' r) (ends_open d) w
 

@@ -3,13 +3,16 @@ use Prim.Native.Nat.{ℕ, ◌+◌, ◌*◌, ◌%◌, ◌≤◌, ◌<◌}
 use mathlib.Core.Path.{◌≡◌, refl, sym, ◌∙◌, ap, ap₂, subst}
 use mathlib.Core.Bool.{Bool, true, false, ◌&&◌}
 use mathlib.Core.List.{List, [], ◌++◌}
+use mathlib.Core.Logic.{◌⊎◌, inl, inr}
 use mathlib.Core.Option.{Option, some, none}
 use native.Mathlib.Nat.{mul-le-mul}
 use native.Mathlib.Omega.{arith}
 use lib.Dec.{leb, eqb}
-use lib.ListN.{length, take, drop, replicate, length-append, length-drop, length-replicate, take-append-drop}
+use lib.ListN.{length, take, drop, replicate, length-replicate, take-append-drop}
 use lib.Seq.{sets, sets-eq, take_at, length-take-le}
 use borrow.Author.Tests.{ne_eqb, le-leb, lt-leb, leb-true, leb-false}
+use Rattle.std.specs.Prelude.{Some, None}
+use Rattle.std.specs.Prelude as code
 use Rattle.lists.proofs.Cond.{cases, either, and_left, and_right, wrong}
 use Rattle.rules.specs.declared.Figures.{Figures}
 use Rattle.rules.specs.Shape.{World, world, line_bytes, sets_allowed, ways_allowed, figures_allowed, most_sets}
@@ -28,9 +31,12 @@ use Rattle.script.specs.Commands.{Command, start, make}
 use Rattle.script.specs.Play.{effect, refused_effect, malformed_line, zeros, zero_cache}
 use Rattle.script.specs.Play as script
 use Rattle.script_text.specs.Written.{Wrote, line_room, in_room}
-use Rattle.script_play.specs.Player.{most_ways, largest_memory, largest_cache, cache_used, memory_used, run_of, run_formed, lent_of, laid_in, RunAt, run_at, after_line, PlaysCommand, MakesCall}
-use Rattle.script_play.specs.declared.line.AfterLine.{AfterLine}
+use Rattle.script_play.specs.Player.{most_ways, largest_memory, largest_cache, cache_used, memory_used, run_of, run_formed, lent_of, laid_in, RunAt, run_at, PlaysCommand, MakesCall}
 use Rattle.script_play.proofs.Figures.{SameFigures, figures-kept}
+
+and_none : (t : Bool) → (t && false) ≡ false
+and_none true = refl
+and_none false = refl
 
 -- ---- how much is used
 
@@ -42,13 +48,10 @@ module _ (f : Figures) where
   unfolding cache_used
   cache-fits p q = rw (le-leb f.sets most_sets p, le-leb f.ways most_ways q)
 
-  pub many-sets : most_sets < f.sets → 0 ≡ cache_used f
+  pub too-many : (most_sets < f.sets) ⊎ ((f.sets ≤ most_sets) × (most_ways < f.ways)) → 0 ≡ cache_used f
   unfolding cache_used
-  many-sets p = rw (lt-leb f.sets most_sets p)
-
-  pub many-ways : f.sets ≤ most_sets → most_ways < f.ways → 0 ≡ cache_used f
-  unfolding cache_used
-  many-ways p q = rw (le-leb f.sets most_sets p, lt-leb f.ways most_ways q)
+  too-many (inl p) = rw (lt-leb f.sets most_sets p)
+  too-many (inr p) = rw (lt-leb f.ways most_ways p.1, and_none (leb f.sets most_sets))
 
   cache-room : cache_used f ≤ largest_cache
   unfolding cache_used
@@ -81,9 +84,6 @@ module _ (front whole : List ℕ) (n : ℕ) (len : length front ≡ n) (fits : n
   front-taken : take n (front ++ drop n whole) ≡ front
   front-taken = take_at front (drop n whole) n len
 
-  pub front_length : length (front ++ drop n whole) ≡ length whole
-  front_length = simp (length-append, length-drop) (omega arith)
-
 -- the front of a buffer laid where it stands
 laid-self : (n : ℕ) (l : List ℕ) → n ≤ length l → l ≡ sets l 0 (take n l)
 laid-self n l h = sym (take-append-drop n l) ∙ front-laid (take n l) l n (length-take-le n l h) h
@@ -94,7 +94,7 @@ module _
     (s : State) (w : World) (cache memory cache' memory' : List ℕ) (c m : ℕ) (is : world_of s cache' memory' ≡ w)
     (ce : cache_used s.figures ≡ c) (me : memory_used s.size ≡ m)
     (clen : length cache' ≡ c) (mlen : length memory' ≡ m) (cfit : c ≤ length cache) (mfit : m ≤ length memory) where
-  front-run : run_of true s (cache' ++ drop c cache) (memory' ++ drop m memory) ≡ some w
+  front-run : run_of (Some s) (cache' ++ drop c cache) (memory' ++ drop m memory) ≡ some w
   front-run =
       ap₂ (λ (x y : List ℕ). some (world_of s x y))
       (ap (λ (k : ℕ). take k (cache' ++ drop c cache)) ce ∙ front-taken cache' cache c clen cfit)
@@ -109,7 +109,7 @@ module _
 
 -- the run is well formed if its state is, with the front of the buffers
 pub front-formed : (s : State) (cache memory : List ℕ) (c m : ℕ) → c ≡ cache_used s.figures → m ≡ memory_used s.size
-    → well_formed (queues_of s) (hierarchy_of s (take c cache) (take m memory)) ≡ run_formed (run_of true s cache memory)
+    → well_formed (queues_of s) (hierarchy_of s (take c cache) (take m memory)) ≡ run_formed (run_of (Some s) cache memory)
 front-formed s cache memory c m ce me = ap₂ (λ (x y : ℕ). well_formed (queues_of s) (hierarchy_of s (take x cache) (take y memory))) ce me
 
 -- a line is played if the run, the lent bytes and the output after it are those of its effect
@@ -122,13 +122,6 @@ effect-plays c before after e is run lent wrote =
       lent-after = lent ∙ ap (λ (x : script.Effect). laid_in x.run before.lent) (sym is);
       wrote = subst (λ (l : List ℕ). Wrote before.at l before.out after.out after.at) (ap (λ (x : script.Effect). x.says) (sym is)) wrote;
     }
-
--- the same line, where what it leaves has other names
-pub line-met :
-    (before : RunAt) {c c' : Option Command} {cache cache' memory memory' out out' : List ℕ} {begun begun' : Bool} {s s' : State} {at at' : ℕ}
-    → c ≡ c' → cache ≡ cache' → memory ≡ memory' → out ≡ out' → begun ≡ begun' → s ≡ s' → at ≡ at'
-    → PlaysCommand c' before (run_at begun' s' cache' memory' out' at') → PlaysCommand c before (run_at begun s cache memory out at)
-line-met before ce e f g h i j p = rw (ce, e, f, g, h, i, j) p
 
 -- ---- a call
 
@@ -189,7 +182,7 @@ module _
       ∙ ap₂ (λ (x y : ℕ). answer_line (answer (call_of call) (old x y))) ce me
 
   pub made :
-      MakesCall (call_of call) (run_of true s cache memory) (lent_of cache memory) r (lent_of (cache' ++ drop c cache) (memory' ++ drop m memory))
+      MakesCall (call_of call) (run_of (Some s) cache memory) (lent_of cache memory) r (lent_of (cache' ++ drop c cache) (memory' ++ drop m memory))
   unfolding effect
   made =
       record {
@@ -199,16 +192,16 @@ module _
       }
 
 -- its answer is written
-pub answered : (x : rules.Call) (begun : Bool) {s : State} {r : Step} {cache memory cache' memory' out out' : List ℕ} {at to : ℕ} → begun ≡ true
-    → MakesCall x (run_of true s cache memory) (lent_of cache memory) r (lent_of cache' memory')
+pub answered : (x : rules.Call) {s : State} {r : Step} {cache memory cache' memory' out out' : List ℕ} {at to : ℕ}
+    → MakesCall x (run_of (Some s) cache memory) (lent_of cache memory) r (lent_of cache' memory')
     → at + line_room ≤ length out → Wrote at (in_room at out (answer_line (answer_of r.answer []))) out out' to
-    → PlaysCommand (some (make x)) (run_at begun s cache memory out at) (run_at begun r.next cache' memory' out' to)
-answered x begun {out = out} {out' = out'} {at = at} {to = to} e m room w =
-    rw e (record {
+    → PlaysCommand (some (make x)) (run_at (Some s) cache memory out at) (run_at (Some r.next) cache' memory' out' to)
+answered x {out = out} {out' = out'} {at = at} {to = to} m room w =
+    record {
       run-after = m.run-after;
       lent-after = m.lent-after;
       wrote = subst (λ (l : List ℕ). Wrote at l out out' to) m.says (in-room room w);
-    })
+    }
 
 -- ---- a line that is refused
 
@@ -218,36 +211,32 @@ unfolding answer_line
 refused-wrote k h w = in-room h w
 
 module _
-    (c : Option Command) (started : Bool) (s : State) (cache memory out : List ℕ) (at : ℕ)
+    (c : Option Command) (run : code.Option State) (cache memory out : List ℕ) (at : ℕ)
     (cfit : largest_cache ≤ length cache) (mfit : largest_memory ≤ length memory) where
-  lent-self : (b : Bool) → lent_of cache memory ≡ laid_in (run_of b s cache memory) (lent_of cache memory)
-  lent-self false = refl
-  lent-self true =
+  lent-self : (r : code.Option State) → lent_of cache memory ≡ laid_in (run_of r cache memory) (lent_of cache memory)
+  lent-self None = refl
+  lent-self (Some s) =
       ap₂ lent_of
       (laid-self (cache_used s.figures) cache (omega (arith, cache-room s.figures)))
       (laid-self (memory_used s.size) memory (omega (arith, memory-room s.size)))
 
   -- the effect of the line is its refusal with k, and the run that it leaves is the one before it
   pub stays :
-      (k : ℕ) {out' : List ℕ} {to : ℕ} → effect c (run_of started s cache memory) ≡ refused_effect k (run_of started s cache memory)
+      (k : ℕ) {out' : List ℕ} {to : ℕ} → effect c (run_of run cache memory) ≡ refused_effect k (run_of run cache memory)
       → Wrote at (refused_line k) out out' to
-      → PlaysCommand c (run_at started s cache memory out at) (run_at started s cache memory out' to)
-  stays k e w = effect-plays c _ _ _ e refl (lent-self started) w
+      → PlaysCommand c (run_at run cache memory out at) (run_at run cache memory out' to)
+  stays k e w = effect-plays c _ _ _ e refl (lent-self run) w
 
-  pub malformed : c ≡ none → effect c (run_of started s cache memory) ≡ refused_effect malformed_line (run_of started s cache memory)
+  pub malformed : c ≡ none → effect c (run_of run cache memory) ≡ refused_effect malformed_line (run_of run cache memory)
   unfolding effect
   malformed e = rw e
 
-  pub not-begun : (x : rules.Call) → c ≡ some (make x) → started ≡ false
-      → effect c (run_of started s cache memory) ≡ refused_effect malformed_line (run_of started s cache memory)
+  pub not-begun : (x : rules.Call) → c ≡ some (make x) → run ≡ None
+      → effect c (run_of run cache memory) ≡ refused_effect malformed_line (run_of run cache memory)
   unfolding effect
   not-begun x e f = rw (e, f)
 
 -- ---- figures that a start may have
-
-and_none : (t : Bool) → (t && false) ≡ false
-and_none true = refl
-and_none false = refl
 
 other : (m n : ℕ) → n < m → eqb m n ≡ false
 other m n h = ne_eqb m n (λ e. omega arith)
@@ -393,14 +382,14 @@ module _
     began-size = ap (λ (w : World). w.hierarchy.size) began ∙ front-memory range
 
     pub begins :
-        (begun : Bool) (old : State) (out out' : List ℕ) (at to : ℕ) → at + line_room ≤ length out → Wrote at (in_room at out ready_line) out out' to
-        → PlaysCommand (some (start f size)) (run_at begun old cache memory out at)
-        (run_at true s (cache' ++ drop c cache) (memory' ++ drop m memory) out' to)
-    begins begun old out out' at to room w =
+        (run : code.Option State) (out out' : List ℕ) (at to : ℕ) → at + line_room ≤ length out → Wrote at (in_room at out ready_line) out out' to
+        → PlaysCommand (some (start f size)) (run_at run cache memory out at)
+        (run_at (Some s) (cache' ++ drop c cache) (memory' ++ drop m memory) out' to)
+    begins run out out' at to room w =
         let ce' : cache_used s.figures ≡ c = ap cache_used began-figures ∙ sym ce in
         let me' : memory_used s.size ≡ m = ap memory_used began-size ∙ sym me in
         let mlen : length memory' ≡ m = ap length zeroed ∙ length-replicate {A = ℕ} size 0 ∙ memory-fits size range.small ∙ sym me in
-        effect-plays (some (start f size)) _ _ _ (ready-effect (run_of begun old cache memory) allowed)
+        effect-plays (some (start f size)) _ _ _ (ready-effect (run_of run cache memory) allowed)
         (front-run s _ cache memory cache' memory' c m began-zero ce' me' clen mlen cfit mfit)
         (front-lent s _ cache memory cache' memory' c m began-zero ce' me' clen mlen cfit mfit)
         (in-room room w)
@@ -421,9 +410,9 @@ module _
         ap (λ (l : List ℕ). l ++ drop c cache) (ap (λ (w : World). w.hierarchy.cache) (is ∙ u)) ∙ take-append-drop c cache
 
     pub not-started :
-        (begun : Bool) (old : State) (out out' : List ℕ) (at : ℕ) (r : AfterLine) → largest_cache ≤ length cache → largest_memory ≤ length memory
-        → r ≡ record { started = begun; state = old; at = r.at } → Wrote at (refused_line k) out out' r.at
-        → PlaysCommand (some (start f size)) (run_at begun old cache memory out at) (after_line r (cache' ++ drop c cache) memory out')
-    not-started begun old out out' at r cf mf is-old w =
-        let lasting = stays (some (start f size)) begun old cache memory out at cf mf k (not-started-effect _) w in
-        rw (is-old, not-started-cache) lasting
+        (run : code.Option State) (out out' : List ℕ) (at to : ℕ) → largest_cache ≤ length cache → largest_memory ≤ length memory
+        → Wrote at (refused_line k) out out' to
+        → PlaysCommand (some (start f size)) (run_at run cache memory out at) (run_at run (cache' ++ drop c cache) memory out' to)
+    not-started run out out' at to cf mf w =
+        let lasting = stays (some (start f size)) run cache memory out at cf mf k (not-started-effect _) w in
+        rw not-started-cache lasting

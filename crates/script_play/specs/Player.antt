@@ -1,6 +1,8 @@
 -- The player's values as those of the script language, and what playing does to the lent buffers.
 -- `RunAt` and `PlayerAt` say how things stand before or after it; a contract names one of each.
-use Rattle.std.specs.Prelude.{ℕ, ◌+◌, ◌-◌, ◌*◌, ◌/◌, ◌≤◌, ◌≡◌, Bool, true, false, cond, ◌&&◌, List, [], ◌∷◌, ◌++◌, leb, eqb, length, take, drop}
+use Rattle.std.specs.Prelude.{ℕ, ◌+◌, ◌-◌, ◌*◌, ◌/◌, ◌≤◌, ◌≡◌, Bool, true, cond, ◌&&◌, List, [], ◌∷◌, ◌++◌, leb, eqb, length, take}
+use Rattle.std.specs.Prelude.{Some, None}
+use Rattle.std.specs.Prelude as code
 use Rattle.std.proofs.Math.Option.{Option, some, none}
 use Rattle.std.proofs.lemmas.List.Edits.{sets}
 use Rattle.rules.specs.declared.Figures.{Figures}
@@ -10,7 +12,6 @@ use Rattle.rules.specs.WellFormed.{well_formed}
 use Rattle.model.specs.State.{world_of, answer_of}
 use Rattle.model.specs.declared.State.{State}
 use Rattle.model.specs.declared.Step.{Step}
-use Rattle.lists.specs.Padded.{position}
 use Rattle.script.specs.Commands.{make, line_feed, held_bytes}
 use Rattle.script.specs.Commands as commands
 use Rattle.script.specs.Play.{effect, after_byte, output, after_bytes, new_player, at_end, played}
@@ -20,8 +21,7 @@ use Rattle.script_text.specs.Written.{Wrote, line_room}
 use Rattle.script_play.specs.declared.Player.{Player}
 use Rattle.script_play.specs.declared.Played.{Played}
 use Rattle.script_play.specs.declared.line.AfterLine.{AfterLine}
-use Rattle.script_play.specs.declared.input.Held.{Held}
-use Rattle.script_play.specs.declared.input.Ran.{Ran}
+use Rattle.script_play.specs.declared.HeldLine.{HeldLine}
 
 -- ---- figures
 
@@ -46,12 +46,16 @@ memory_used size = cond (leb size largest_memory) size 0
 -- ---- the run, and the line so far
 
 -- the run: none before an accepted G
-abbrev pub run_of : Bool → State → List ℕ → List ℕ → Option World
-run_of false s cache memory = none
-run_of true s cache memory = some (world_of s (take (cache_used s.figures) cache) (take (memory_used s.size) memory))
+abbrev pub run_of : code.Option State → List ℕ → List ℕ → Option World
+run_of None cache memory = none
+run_of (Some s) cache memory = some (world_of s (take (cache_used s.figures) cache) (take (memory_used s.size) memory))
+
+-- the bytes of a line that are held
+abbrev pub held_of : HeldLine → List ℕ
+held_of l = take l.length l.bytes
 
 abbrev pub player_of : Player → List ℕ → List ℕ → script.Player
-player_of p cache memory = record { run = run_of p.started p.state cache memory; line = take p.length p.line }
+player_of p cache memory = record { run = run_of p.run cache memory; line = held_of p.line }
 
 -- the run, if there is one, is well formed
 abbrev pub run_formed : Option World → Bool
@@ -91,13 +95,13 @@ pub record RunAt : Type 0 where
   pub out : List ℕ
   pub at : ℕ
 
-abbrev pub run_at : Bool → State → List ℕ → List ℕ → List ℕ → ℕ → RunAt
-run_at started s cache memory out at =
-    record { run = run_of started s cache memory; lent = lent_of cache memory; out = out; at = at }
+abbrev pub run_at : code.Option State → List ℕ → List ℕ → List ℕ → ℕ → RunAt
+run_at run cache memory out at =
+    record { run = run_of run cache memory; lent = lent_of cache memory; out = out; at = at }
 
 -- what a line left
 abbrev pub after_line : AfterLine → List ℕ → List ℕ → List ℕ → RunAt
-after_line r cache memory out = run_at r.started r.state cache memory out r.at
+after_line r cache memory out = run_at r.run cache memory out r.at
 
 -- a player with what it plays on
 pub record PlayerAt : Type 0 where
@@ -109,11 +113,6 @@ pub record PlayerAt : Type 0 where
 abbrev pub player_at : Player → List ℕ → List ℕ → List ℕ → ℕ → PlayerAt
 player_at p cache memory out at =
     record { player = player_of p cache memory; lent = lent_of cache memory; out = out; at = at }
-
--- what the lines of an input left, where these bytes are held
-abbrev pub after_lines : List ℕ → Ran → List ℕ → List ℕ → List ℕ → PlayerAt
-after_lines line r cache memory out =
-    player_at (record { started = r.started; state = r.state; length = r.held; line = line }) cache memory out r.at
 
 -- ---- what the functions promise
 
@@ -129,7 +128,7 @@ RoomForLine cache memory out at =
 -- a call was made on a run: the line that its answer prints, the run after it, and the lent bytes after it
 pub record MakesCall (c : Call) (run : Option World) (before : Lent) (r : Step) (after : Lent) : Type 0 where
   pub says : answer_line (answer_of r.answer []) ≡ (effect (some (make c)) run).says
-  pub run-after : run_of true r.next after.cache after.memory ≡ (effect (some (make c)) run).run
+  pub run-after : run_of (Some r.next) after.cache after.memory ≡ (effect (some (make c)) run).run
   pub lent-after : after ≡ laid_in (effect (some (make c)) run).run before
 
 -- a line was played that asked for c: the run after it, the lent bytes after it, and what it prints in the output
@@ -144,20 +143,10 @@ pub record Plays (bytes : List ℕ) (before after : PlayerAt) : Type 0 where
   pub lent-after : after.lent ≡ lent_after bytes before.player before.lent
   pub wrote : Wrote before.at (output bytes before.player) before.out after.out after.at
 
--- the first n bytes of a line that are held, with more behind them, as far as there is room
-pub record Holds (line : List ℕ) (n : ℕ) (more : List ℕ) (r : Held) : Type 0 where
-  pub bytes : take r.length r.line ≡ take held_bytes (take n line ++ more)
+-- the bytes of a line that are held, with more behind them, as far as there is room
+pub record Holds (line : HeldLine) (more : List ℕ) (r : HeldLine) : Type 0 where
+  pub bytes : held_of r ≡ take held_bytes (held_of line ++ more)
   pub short : r.length ≤ held_bytes
-
--- the bytes of the input from one place to another
-abbrev pub between : ℕ → ℕ → List ℕ → List ℕ
-between from end input = take (end - from) (drop from input)
-
--- every line that ends in the input was played: no LF stands in the rest
-pub record AllLines (input : List ℕ) (r : Ran) : Type 0 where
-  pub inside : r.next ≤ length input
-  pub no-feed : length input ≡ r.next + position is_feed (drop r.next input)
-  pub held : r.held ≤ held_bytes
 
 -- ---- a chunk of the input
 

@@ -12,11 +12,15 @@ mod line;
 // A player: its run, once a start was accepted, and the line so far.
 #[derive(Clone, Copy)]
 pub struct Player {
-    pub started: bool,
-    pub state: State,
-    // how many bytes of the line are held: all, or as many as tell that it is too long
+    pub run: Option<State>,
+    pub line: HeldLine,
+}
+
+// What is held of a line: all its bytes, or as many as tell that it is too long. (A buffer with a length beside it: there is no heap.)
+#[derive(Clone, Copy)]
+pub struct HeldLine {
+    pub bytes: [u8; HELD_BYTES],
     pub length: usize,
-    pub line: [u8; HELD_BYTES],
 }
 
 // What playing a chunk of the input hands back.

@@ -1,2 +1,3 @@
+pub mod TryFold
 pub mod Scanning
 pub mod Writing

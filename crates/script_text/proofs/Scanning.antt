@@ -1,109 +1,50 @@
 -- A line read byte by byte is the line taken apart at its spaces.
 use Prim.Native.Nat.{ℕ, zero, suc, ◌+◌, ◌*◌, ◌-◌, ◌≤◌, ◌<◌}
-use mathlib.Core.Path.{◌≡◌, refl, sym, ◌∙◌, ap}
+use mathlib.Core.Path.{◌≡◌, refl, ◌∙◌, ap}
 use mathlib.Core.Bool.{Bool, true, false, cond, ◌&&◌, ◌||◌}
 use mathlib.Core.List.{List, [], ◌∷◌, ◌++◌, append_assoc}
 use mathlib.Core.Option.{Option, some, none}
 use native.Mathlib.Omega.{arith}
 use lib.Dec.{ltb, leb, eqb}
-use lib.ListN.{length, drop, get_or}
-use borrow.Author.Tests.{eq-eqb, ne_eqb, lt-ltb, le-ltb, le-leb, lt-leb, leb-true, leb-false, ltb-true, eqb-true}
+use lib.ListN.{length, take, drop, get_or}
+use lib.Seq.{take_all}
+use borrow.Author.Tests.{ne_eqb, lt-ltb, le-ltb, le-leb, lt-leb, leb-true, leb-false, ltb-true, eqb-true}
+use Rattle.std.specs.Bool.{⊤}
+use Rattle.std.specs.Prelude.{Some, None, is_some, unwrap_or, option_and_then}
+use Rattle.std.specs.Prelude as code
 use Rattle.lists.specs.Padded.{every}
-use Rattle.lists.proofs.Cond.{cases, either, and_right, wrong}
-use Rattle.lists.proofs.Loops.{rest-cons, rest-none}
+use Rattle.lists.proofs.Cond.{cases, either}
 use Rattle.rules.specs.Shape.{top_number}
-use Rattle.script.specs.Commands.{first_digit, last_digit, Command, space, is_digit, joined, words, decimal, also_number, numbers, with_none, with_one, with_two, with_three, named, of_words, command_of, longest_line}
-use Rattle.script_text.specs.Reader.{no_number, spoilt, ended, space_read, grown, digit_read, scan_byte, scanned, with_numbers, named_by}
+use Rattle.script.specs.Commands.{first_digit, Command, space, is_digit, joined, words, decimal, also_number, numbers, with_none, named, of_words, command_of, longest_line}
+use Rattle.script_text.specs.Reader.{no_number, ended, space_read, grown, digit_read, scan_byte, scanned, named_by}
 use Rattle.script_text.specs.declared.reader.Scan.{Scan}
+use Rattle.script_text.proofs.TryFold.{tries}
 
 and_none : (t : Bool) → (t && false) ≡ false
 and_none true = refl
 and_none false = refl
 
--- ---- the steps, by the tests of the code
+-- what a scan asks for: nothing, where it is malformed
+abbrev pub asked : ℕ → code.Option Scan → Option Command
+asked c None = none
+asked c (Some s) = named_by c s
 
-module _ (s : Scan) where
-  pub space-ends : s.begun ≡ true → s.count < 3 → ended s ≡ space_read s
-  unfolding space_read
-  space-ends b n = rw (b, lt-ltb s.count 3 n)
-
-  pub space-first : s.begun ≡ false → spoilt s ≡ space_read s
-  unfolding space_read
-  space-first b = rw b
-
-  pub space-many : 3 ≤ s.count → spoilt s ≡ space_read s
-  unfolding space_read
-  space-many n = rw (le-ltb s.count 3 n, and_none s.begun)
-
-  pub digit-fits : (b v : ℕ) → v ≡ 10 * s.value + (b - first_digit) → v ≤ top_number → grown v s ≡ digit_read b s
-  unfolding digit_read
-  digit-fits b v e h = rw (← e, le-leb v top_number h)
-
-  pub digit-over : (b v : ℕ) → v ≡ 10 * s.value + (b - first_digit) → top_number < v → spoilt s ≡ digit_read b s
-  unfolding digit_read
-  digit-over b v e h = rw (← e, lt-leb v top_number h)
-
-  pub byte-space : (b : ℕ) → b ≡ space → space_read s ≡ scan_byte b s
-  unfolding scan_byte
-  byte-space b e = rw (eq-eqb b space e)
-
-  pub byte-digit : (b : ℕ) → first_digit ≤ b → b ≤ last_digit → digit_read b s ≡ scan_byte b s
-  unfolding scan_byte
-  byte-digit b l h = rw (ne_eqb b space (λ e. omega arith), le-leb first_digit b l, le-leb b last_digit h)
-
-  pub byte_above : (b : ℕ) → last_digit < b → spoilt s ≡ scan_byte b s
-  unfolding scan_byte
-  byte_above b h = rw (ne_eqb b space (λ e. omega arith), le-leb first_digit b (omega arith), lt-leb b last_digit h)
-
-  pub byte-below : (b : ℕ) → (b ≡ space → ⊥) → b < first_digit → spoilt s ≡ scan_byte b s
-  unfolding scan_byte
-  byte-below b d h = rw (ne_eqb b space d, lt-leb first_digit b h)
-
--- ---- the loop
-
-pub scanned-next : (line : List ℕ) (i : ℕ) (s : Scan) → i < length line → scanned (drop i line) s ≡ scanned (drop (i + 1) line) (scan_byte (get_or line i 0) s)
+-- the steps of `try_fold`
+pub tries-scanned : (bs : List ℕ) (s : Scan) → tries (λ s b. scan_byte b s) bs s ≡ scanned bs s
 unfolding scanned
-scanned-next line i s h = rw (rest-cons (λ _. true) 0 line i h)
-
-pub scanned-end : (line : List ℕ) (i : ℕ) (s : Scan) → length line ≤ i → scanned (drop i line) s ≡ s
-unfolding scanned
-scanned-end line i s h = rw (rest-none (λ _. true) 0 line i h)
-
--- ---- a letter with its numbers
-
-cond_same : {A : Type 0} (t : Bool) (x : A) → cond t x x ≡ x
-cond_same true x = refl
-cond_same false x = refl
-
-module _ (c : ℕ) (s : Scan) (good : s.good ≡ true) where
-  pub named-one : s.count ≡ 1 → with_one c s.z ≡ named_by c s
-  unfolding named_by
-  named-one e = rw (good, e)
-
-  pub named-two : s.count ≡ 2 → with_two c s.y s.z ≡ named_by c s
-  unfolding named_by
-  named-two e = rw (good, e)
-
-  pub named-three : s.count ≡ 3 → with_three c s.x s.y s.z ≡ named_by c s
-  unfolding named_by
-  named-three e = rw (good, e)
-
-  other : (n : ℕ) → (n ≡ 1 → ⊥) → (n ≡ 2 → ⊥) → (n ≡ 3 → ⊥) → with_numbers c n s ≡ none
-  other zero p q r = refl
-  other (suc zero) p q r = absurd (p refl)
-  other (suc (suc zero)) p q r = absurd (q refl)
-  other (suc (suc (suc zero))) p q r = absurd (r refl)
-  other (suc (suc (suc (suc k)))) p q r = refl
-
-  pub named_other : (s.count ≡ 1 → ⊥) → (s.count ≡ 2 → ⊥) → (s.count ≡ 3 → ⊥) → none ≡ named_by c s
-  unfolding named_by
-  named_other p q r = sym (ap (λ (o : Option Command). cond s.good o none) (other s.count p q r) ∙ cond_same s.good none)
-
-pub named-bad : (c : ℕ) (s : Scan) → s.good ≡ false → none ≡ named_by c s
-unfolding named_by
-named-bad c s e = rw e
+tries-scanned [] s = refl
+tries-scanned (b ∷ bs) s = go (scan_byte b s) (tries-scanned bs)
+  where
+    go : (o : code.Option Scan) → ((s : Scan) → tries (λ s b. scan_byte b s) bs s ≡ scanned bs s)
+        → option_and_then (tries (λ s b. scan_byte b s) bs) o ≡ option_and_then (scanned bs) o
+    go None h = refl
+    go (Some s) h = h s
 
 -- ---- the whole
+
+-- the value of the digits so far
+abbrev so_far : Scan → ℕ
+so_far s = unwrap_or s.value 0
 
 -- digits can only make a number larger
 decimal-grows : (v : ℕ) (w : List ℕ) → v ≤ decimal v w
@@ -126,10 +67,14 @@ before xs (some ys) = some (xs ++ ys)
 abbrev current : Scan → List (List ℕ) → Option (List ℕ)
 current s [] = none
 current s (w ∷ ws) =
-    cond ((s.begun || ltb 0 (length w)) && (every is_digit w && leb (decimal s.value w) top_number)) (also_number (decimal s.value w) (numbers ws)) none
+    cond ((is_some s.value || ltb 0 (length w)) && (every is_digit w && leb (decimal (so_far s) w) top_number)) (also_number (decimal (so_far s) w) (numbers ws)) none
 
 abbrev meant : ℕ → Scan → List (List ℕ) → Option Command
-meant c s ws = cond s.good (named c (before (taken s.count s.x s.y s.z) (current s ws))) none
+meant c s ws = named c (before (taken s.count s.x s.y s.z) (current s ws))
+
+abbrev meant_by : ℕ → code.Option Scan → List (List ℕ) → Option Command
+meant_by c None ws = none
+meant_by c (Some s) ws = meant c s ws
 
 -- what is said of a list of words is said of the words of a line: there is always one
 some_word : (P : List (List ℕ) → Type 0) → ((w : List ℕ) (ws : List (List ℕ)) → P (w ∷ ws)) → (bs : List ℕ) → P (words bs)
@@ -146,97 +91,110 @@ or-all true = refl
 or-all false = refl
 
 -- nothing is meant where a word is no number
-meant-none : (c : ℕ) (s : Scan) (w : List ℕ) (ws : List (List ℕ)) → (every is_digit w && leb (decimal s.value w) top_number) ≡ false → none ≡ meant c s (w ∷ ws)
-meant-none c s w ws e = rw (e, and_none (s.begun || ltb 0 (length w))) (sym (cond_same s.good none))
+meant-none : (c : ℕ) (s : Scan) (w : List ℕ) (ws : List (List ℕ)) → (every is_digit w && leb (decimal (so_far s) w) top_number) ≡ false → none ≡ meant c s (w ∷ ws)
+meant-none c s w ws e = rw (e, and_none (is_some s.value || ltb 0 (length w)))
 
 -- a space, and the end
-module _ (c x y z v : ℕ) (h : v ≤ top_number) where
-  abbrev at : Bool → Bool → ℕ → Scan
-  at g b n = record { good = g; count = n; x = x; y = y; z = z; begun = b; value = v }
+module _ (c x y z : ℕ) where
+  abbrev at : code.Option ℕ → ℕ → Scan
+  at o n = record { count = n; x = x; y = y; z = z; value = o }
 
-  more : (xs : List ℕ) (o : Option (List ℕ)) → before (xs ++ (v ∷ [])) o ≡ before xs (also_number v o)
-  more xs none = refl
-  more xs (some ys) = ap some (append_assoc xs (v ∷ []) ys)
+  more : (v : ℕ) (xs : List ℕ) (o : Option (List ℕ)) → before (xs ++ (v ∷ [])) o ≡ before xs (also_number v o)
+  more v xs none = refl
+  more v xs (some ys) = ap some (append_assoc xs (v ∷ []) ys)
 
-  many : (o : Option (List ℕ)) → none ≡ named c (before (x ∷ y ∷ z ∷ []) (also_number v o))
-  many none = refl
-  many (some ys) = refl
+  many : (v : ℕ) (o : Option (List ℕ)) → none ≡ named c (before (x ∷ y ∷ z ∷ []) (also_number v o))
+  many v none = refl
+  many v (some ys) = refl
 
-  at-space : (g b : Bool) (n : ℕ) → (g ≡ true → n ≤ 3) → (w : List ℕ) (ws : List (List ℕ)) → meant c (space_read (at g b n)) (w ∷ ws) ≡ meant c (at g b n) ([] ∷ w ∷ ws)
-  unfolding space_read numbers every decimal
-  at-space false b n fits w ws = either (λ (s : Scan). meant c s (w ∷ ws) ≡ none) (b && ltb n 3) (λ _. refl) (λ _. refl)
-  at-space true false n fits w ws = refl
-  at-space true true zero fits w ws = rw (le-leb v top_number h) (ap (named c) (more [] (numbers (w ∷ ws))))
-  at-space true true (suc zero) fits w ws = rw (le-leb v top_number h) (ap (named c) (more (z ∷ []) (numbers (w ∷ ws))))
-  at-space true true (suc (suc zero)) fits w ws = rw (le-leb v top_number h) (ap (named c) (more (y ∷ z ∷ []) (numbers (w ∷ ws))))
-  at-space true true (suc (suc (suc zero))) fits w ws = rw (le-leb v top_number h) (many (numbers (w ∷ ws)))
-  at-space true true (suc (suc (suc (suc k)))) fits w ws = let no : ⊥ = omega (arith, fits refl) in absurd no
+  at-space : (o : code.Option ℕ) (n : ℕ) → n ≤ 3 → unwrap_or o 0 ≤ top_number → (w : List ℕ) (ws : List (List ℕ))
+      → meant_by c (space_read (at o n)) (w ∷ ws) ≡ meant c (at o n) ([] ∷ w ∷ ws)
+  unfolding numbers every decimal
+  at-space None n fits h w ws = refl
+  at-space (Some v) zero fits h w ws = rw (le-leb v top_number h) (ap (named c) (more v [] (numbers (w ∷ ws))))
+  at-space (Some v) (suc zero) fits h w ws = rw (le-leb v top_number h) (ap (named c) (more v (z ∷ []) (numbers (w ∷ ws))))
+  at-space (Some v) (suc (suc zero)) fits h w ws = rw (le-leb v top_number h) (ap (named c) (more v (y ∷ z ∷ []) (numbers (w ∷ ws))))
+  at-space (Some v) (suc (suc (suc zero))) fits h w ws = rw (le-leb v top_number h) (many v (numbers (w ∷ ws)))
+  at-space (Some v) (suc (suc (suc (suc k)))) fits h w ws = let no : ⊥ = omega arith in absurd no
 
-  at-end : (g b : Bool) (n : ℕ) → (g ≡ true → n ≤ 3) → named_by c (space_read (at g b n)) ≡ meant c (at g b n) ([] ∷ [])
-  unfolding space_read numbers every decimal named_by
-  at-end false b n fits = either (λ (s : Scan). named_by c s ≡ none) (b && ltb n 3) (λ _. refl) (λ _. refl)
-  at-end true false n fits = refl
-  at-end true true zero fits = rw (le-leb v top_number h)
-  at-end true true (suc zero) fits = rw (le-leb v top_number h)
-  at-end true true (suc (suc zero)) fits = rw (le-leb v top_number h)
-  at-end true true (suc (suc (suc zero))) fits = rw (le-leb v top_number h)
-  at-end true true (suc (suc (suc (suc k)))) fits = let no : ⊥ = omega (arith, fits refl) in absurd no
+  at-end : (o : code.Option ℕ) (n : ℕ) → n ≤ 3 → unwrap_or o 0 ≤ top_number → asked c (space_read (at o n)) ≡ meant c (at o n) ([] ∷ [])
+  unfolding numbers every decimal
+  at-end None n fits h = refl
+  at-end (Some v) zero fits h = rw (le-leb v top_number h)
+  at-end (Some v) (suc zero) fits h = rw (le-leb v top_number h)
+  at-end (Some v) (suc (suc zero)) fits h = rw (le-leb v top_number h)
+  at-end (Some v) (suc (suc (suc zero))) fits h = rw (le-leb v top_number h)
+  at-end (Some v) (suc (suc (suc (suc k)))) fits h = let no : ⊥ = omega arith in absurd no
 
 -- what the code keeps of the numbers so far
 pub record Fits (s : Scan) : Type 0 where
-  pub few : s.good ≡ true → s.count ≤ 3
-  pub small : s.value ≤ top_number
+  pub few : s.count ≤ 3
+  pub small : unwrap_or s.value 0 ≤ top_number
 
-space-fits : (s : Scan) → Fits s → Fits (space_read s)
-unfolding space_read
-space-fits s f = cases (s.begun && ltb s.count 3)
-    (λ t. rw t (record { few = λ _. omega (arith, ltb-true s.count 3 (and_right s.begun _ t)); small = omega arith }))
-    (λ t. rw t (record { few = λ e. wrong e refl; small = f.small }))
+abbrev FitsIf : code.Option Scan → Type 0
+FitsIf None = ⊤
+FitsIf (Some s) = Fits s
+
+space-fits : (s : Scan) → Fits s → FitsIf (space_read s)
+space-fits s f = by s.value
+  where
+    by : (o : code.Option ℕ) → FitsIf (option_and_then (λ v. cond (ltb s.count 3) (Some (ended v s)) None) o)
+    by None = tt
+    by (Some v) = either FitsIf (ltb s.count 3)
+        (λ t. record { few = omega (arith, ltb-true s.count 3 t); small = omega arith })
+        (λ _. tt)
 
 -- one byte more of a word
 module _ (c b : ℕ) (s : Scan) (f : Fits s) (w : List ℕ) (ws : List (List ℕ)) where
-  abbrev Goes : Scan → Type 0
-  Goes r = Fits r × (meant c r (w ∷ ws) ≡ meant c s ((b ∷ w) ∷ ws))
+  abbrev Goes : code.Option Scan → Type 0
+  Goes r = FitsIf r × (meant_by c r (w ∷ ws) ≡ meant c s ((b ∷ w) ∷ ws))
 
-  goes-spoilt : (every is_digit (b ∷ w) && leb (decimal s.value (b ∷ w)) top_number) ≡ false → Goes (spoilt s)
-  goes-spoilt e = (record { few = λ t. wrong t refl; small = f.small }, meant-none c s (b ∷ w) ws e)
+  goes_none : (every is_digit (b ∷ w) && leb (decimal (so_far s) (b ∷ w)) top_number) ≡ false → Goes None
+  goes_none e = (tt, meant-none c s (b ∷ w) ws e)
 
-  goes-grown : is_digit b ≡ true → 10 * s.value + (b - first_digit) ≤ top_number → Goes (grown (10 * s.value + (b - first_digit)) s)
+  goes-grown : is_digit b ≡ true → 10 * so_far s + (b - first_digit) ≤ top_number → Goes (Some (grown (10 * so_far s + (b - first_digit)) s))
   unfolding every decimal
-  goes-grown t h = (record { few = f.few; small = h }, rw (t, lt-ltb 0 (suc (length w)) (omega arith), or-all s.begun))
+  goes-grown t h = (record { few = f.few; small = h }, rw (t, lt-ltb 0 (suc (length w)) (omega arith), or-all (is_some s.value)))
 
-  goes_over : top_number < 10 * s.value + (b - first_digit) → (every is_digit (b ∷ w) && leb (decimal s.value (b ∷ w)) top_number) ≡ false
+  goes_over : top_number < 10 * so_far s + (b - first_digit) → (every is_digit (b ∷ w) && leb (decimal (so_far s) (b ∷ w)) top_number) ≡ false
   unfolding decimal
   goes_over h =
-      let v = 10 * s.value + (b - first_digit) in
+      let v = 10 * so_far s + (b - first_digit) in
       rw (lt-leb (decimal v w) top_number (omega (arith, decimal-grows v w))) (and_none (every is_digit (b ∷ w)))
 
-  no_digit : is_digit b ≡ false → (every is_digit (b ∷ w) && leb (decimal s.value (b ∷ w)) top_number) ≡ false
+  no_digit : is_digit b ≡ false → (every is_digit (b ∷ w) && leb (decimal (so_far s) (b ∷ w)) top_number) ≡ false
   unfolding every
   no_digit t = rw t
 
-  goes : eqb b space ≡ false → Goes (scan_byte b s)
-  unfolding scan_byte digit_read
-  goes e =
-      rw e (either Goes (is_digit b)
-      (λ t. either Goes (leb (10 * s.value + (b - first_digit)) top_number)
+  goes : Goes (cond (is_digit b) (digit_read b s) None)
+  goes =
+      either Goes (is_digit b)
+      (λ t. either Goes (leb (10 * so_far s + (b - first_digit)) top_number)
       (λ l. goes-grown t (leb-true _ top_number l))
-      (λ l. goes-spoilt (goes_over (leb-false _ top_number l))))
-      (λ t. goes-spoilt (no_digit t)))
+      (λ l. goes_none (goes_over (leb-false _ top_number l))))
+      (λ t. goes_none (no_digit t))
 
-pub reads : (c : ℕ) (rest : List ℕ) (s : Scan) → Fits s → named_by c (space_read (scanned rest s)) ≡ meant c s (words rest)
+-- the rest after a byte, by what is said of the rest after a scan that is not malformed
+goes-on : (c : ℕ) (rest : List ℕ) → ((s : Scan) → Fits s → asked c (option_and_then space_read (scanned rest s)) ≡ meant c s (words rest))
+    → (o : code.Option Scan) → FitsIf o → asked c (option_and_then space_read (option_and_then (scanned rest) o)) ≡ meant_by c o (words rest)
+goes-on c rest h None f = refl
+goes-on c rest h (Some s) f = h s f
+
+pub reads : (c : ℕ) (rest : List ℕ) (s : Scan) → Fits s → asked c (option_and_then space_read (scanned rest s)) ≡ meant c s (words rest)
 unfolding scanned words
-reads c [] s f = at-end c s.x s.y s.z s.value f.small s.good s.begun s.count f.few
+reads c [] s f = at-end c s.x s.y s.z s.value s.count f.few f.small
 reads c (b ∷ rest) s f = cases (eqb b space)
-    (λ e. rw e (rw (← byte-space s b (eqb-true b space e)) (reads c rest (space_read s) (space-fits s f) ∙ some_word (λ l. meant c (space_read s) l ≡ meant c s ([] ∷ l))
-    (λ w ws. at-space c s.x s.y s.z s.value f.small s.good s.begun s.count f.few w ws) rest)))
-    (λ e. rw e (reads c rest (scan_byte b s) (goes c b s f [] [] e).0
-    ∙ some_word (λ l. meant c (scan_byte b s) l ≡ meant c s (joined b l)) (λ w ws. (goes c b s f w ws e).1) rest))
+    (λ e. rw e (goes-on c rest (λ s f. reads c rest s f) (space_read s) (space-fits s f)
+    ∙ some_word (λ l. meant_by c (space_read s) l ≡ meant c s ([] ∷ l))
+    (λ w ws. at-space c s.x s.y s.z s.value s.count f.few f.small w ws) rest))
+    (λ e. let r = cond (is_digit b) (digit_read b s) None in
+    rw e (goes-on c rest (λ s f. reads c rest s f) r (goes c b s f [] []).0
+    ∙ some_word (λ l. meant_by c r l ≡ meant c s (joined b l)) (λ w ws. (goes c b s f w ws).1) rest))
 
 -- ---- a line
 
 no-fits : Fits no_number
-no-fits = record { few = λ _. omega arith; small = omega arith }
+no-fits = record { few = omega arith; small = omega arith }
 
 -- no letter and no numbers is a line with a space for its letter
 space-named : (o : Option (List ℕ)) → named space o ≡ none
@@ -270,7 +228,7 @@ module _ (c : ℕ) where
       (λ e. rw e (rw (eqb-true c space e) (space-named (numbers ws))))
       (λ e. rw e)
 
-  pub letter-spaced : (rest : List ℕ) → named_by c (space_read (scanned rest no_number)) ≡ of_words (words (c ∷ space ∷ rest))
+  pub letter-spaced : (rest : List ℕ) → asked c (option_and_then space_read (scanned rest no_number)) ≡ of_words (words (c ∷ space ∷ rest))
   unfolding words numbers
   letter-spaced rest =
       reads c rest no_number no-fits
@@ -302,8 +260,11 @@ line-joined [] h l d = let no : ⊥ = omega arith in absurd no
 line-joined (c ∷ []) h l d = let no : ⊥ = omega arith in absurd no
 line-joined (c ∷ b ∷ line) h l d = short (c ∷ b ∷ line) h (letter-joined c b line d)
 
-pub line-spaced : (line : List ℕ) → length line ≤ longest_line → 1 < length line → get_or line 1 0 ≡ space
-    → named_by (get_or line 0 0) (space_read (scanned (drop 2 line) no_number)) ≡ command_of line
-line-spaced [] h l e = let no : ⊥ = omega arith in absurd no
-line-spaced (c ∷ []) h l e = let no : ⊥ = omega arith in absurd no
-line-spaced (c ∷ b ∷ line) h l e = rw e (short (c ∷ space ∷ line) h (letter-spaced c line))
+pub line-spaced :
+    (line : List ℕ) → length line ≤ longest_line → 2 ≤ length line → get_or line 1 0 ≡ space → {o p : code.Option Scan}
+    → o ≡ scanned (take (length line - 2) (drop 2 line)) no_number → p ≡ option_and_then space_read o → asked (get_or line 0 0) p ≡ command_of line
+line-spaced [] h l e f g = let no : ⊥ = omega arith in absurd no
+line-spaced (c ∷ []) h l e f g = let no : ⊥ = omega arith in absurd no
+line-spaced (c ∷ b ∷ line) h l e f g =
+    let all : take (suc (suc (length line)) - 2) line ≡ line = take_all _ line (omega arith) in
+    rw (g, f, all, e) (short (c ∷ space ∷ line) h (letter-spaced c line))

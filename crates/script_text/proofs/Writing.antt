@@ -1,14 +1,15 @@
 -- Bytes written one after the other, and the digits of a number.
 use Prim.Native.Nat.{ℕ, zero, suc, ◌+◌, ◌/◌, ◌%◌, ◌^◌, ◌≤◌, ◌<◌}
 use mathlib.Core.Path.{◌≡◌, refl, sym, ◌∙◌, ap}
-use mathlib.Core.List.{List, [], ◌∷◌, ◌++◌}
+use mathlib.Core.List.{List, [], ◌∷◌, ◌++◌, append_assoc}
 use native.Mathlib.Nat.{pow-suc}
-use native.Mathlib.Numerals.{add-one}
 use native.Mathlib.Omega.{arith}
-use lib.Dec.{ltb}
-use lib.ListN.{length, take, get_or, set, length-append}
-use lib.Seq.{sets, length-take-le, take-suc}
-use borrow.Author.Tests.{lt-ltb, le-ltb, lt-leb, le-leb, ltb-true, ltb-false}
+use mathlib.Core.Bool.{true, false}
+use lib.Dec.{ltb, leb}
+use lib.ListN.{length, take, set, length-append}
+use lib.Seq.{sets, sets-eq, drop-drop}
+use borrow.Rule.Slice.PartMut.{put_mid}
+use borrow.Author.Tests.{lt-ltb, le-ltb, ltb-true, ltb-false}
 use Rattle.lists.proofs.Cond.{cases, either}
 use Rattle.script.specs.Commands.{first_digit}
 use Rattle.script.specs.Words.{digits, printed}
@@ -32,10 +33,9 @@ wrote_then {at} {p} {q} {xs} {ys} {l} {m} {o} f g =
       next = omega (arith, length-append xs ys);
     }
 
--- a step of a loop that copies a word
-pub word_more : (word l : List ℕ) (at i : ℕ) → i < length word → set (sets l at (take i word)) (at + i) (get_or word i 0) ≡ sets l at (take (i + 1) word)
-word_more word l at i h =
-    sym (rw (add-one, take-suc word i 0 h) (sets-append (take i word) (get_or word i 0 ∷ []) l at ∙ rw (length-take-le i word (omega arith))))
+-- a word copied into its place
+pub word_copied : (at k : ℕ) (l xs word : List ℕ) → k ≡ length word → xs ≡ word → at + length word ≤ length l → put_mid at k l xs ≡ sets l at word
+word_copied at k l xs word ke e h = rw (ke, e, drop-drop (length word) at l) (sym (sets-eq word l at h ∙ append_assoc (take at l) word _))
 
 -- ---- digits
 
@@ -76,10 +76,10 @@ printed-short n = digits-short 10 n
 
 -- ---- room
 
-pub no_room : {at : ℕ} {out : List ℕ} (bytes : List ℕ) → length out < at + line_room → Wrote at (in_room at out bytes) out out at
+pub no_room : {at : ℕ} {out : List ℕ} (bytes : List ℕ) → false ≡ leb (at + line_room) (length out) → Wrote at (in_room at out bytes) out out at
 unfolding in_room
-no_room {at} {out} bytes h = rw (lt-leb (at + line_room) (length out) h) (wrote_none at out)
+no_room {at} {out} bytes e = rw (← e) (wrote_none at out)
 
-pub with-room : {at r : ℕ} {out bytes o : List ℕ} → at + line_room ≤ length out → Wrote at bytes out o r → Wrote at (in_room at out bytes) out o r
+pub with-room : {at r : ℕ} {out bytes o : List ℕ} → true ≡ leb (at + line_room) (length out) → Wrote at bytes out o r → Wrote at (in_room at out bytes) out o r
 unfolding in_room
-with-room {at} {r} {out} h w = rw (le-leb (at + line_room) (length out) h) w
+with-room e w = rw (← e) w

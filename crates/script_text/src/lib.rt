@@ -19,11 +19,9 @@ pub const HELD_BYTES: usize = 65;
 // Room for the longest line of output, with some to spare.
 pub const LINE_ROOM: usize = 32;
 
-// What a line asks for.
+// What a line asks for that is not malformed.
 #[derive(Clone, Copy)]
 pub enum Command {
-    // refused with 6
-    Malformed,
     // G: the figures, and the memory length
     Start(Figures, u32),
     // any other letter

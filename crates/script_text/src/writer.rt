@@ -1,5 +1,6 @@
-// The line that answers, written into a lent buffer.
-ghost use Rattle.std.specs.Prelude.{[], ◌∷◌, ◌+◌, ◌≤◌, ◌<◌, length};
+// The line that answers, written into a lent buffer. (A buffer and a place in it go to each function, and the place behind comes back, as the
+// public ones promise it: a cursor would be made of the two and taken apart again at each of them.)
+ghost use Rattle.std.specs.Prelude.{◌≡◌, [], ◌∷◌, ◌+◌, ◌≤◌, ◌<◌, leb, length};
 ghost use Rattle.script.specs.Commands.{space};
 ghost use Rattle.script.specs.Words.{printed, said, value_word, answer_line, ready_line};
 ghost use Rattle.model.specs.State.{answer_of};
@@ -17,20 +18,17 @@ fn put_byte(out: &mut [u8], at: usize, b: u8) -> usize
     at + 1
 }
 
-// A word, byte by byte.
+// A word.
 fn put_word(out: &mut [u8], at: usize, word: &[u8]) -> usize
     requires { at + length word.now ≤ length out.old }
     ensures { Wrote at word.now out.old out.new result }
 {
-    let mut i: usize = 0;
-    while i < word.len() {
-        out[at + i] = word[i];
-        i += 1;
-    }
-    at + i
+    let end = at + word.len();
+    out[at..end].copy_from_slice(word);
+    end
 }
 
-// A number in decimal.
+// A number in decimal. (By hand: `Display` writes to a formatter, and one over a lent buffer would be longer than this.)
 fn put_number(out: &mut [u8], at: usize, n: u32) -> usize
     requires { at + length (printed n) ≤ length out.old }
     ensures { Wrote at (printed n) out.old out.new result }
@@ -82,6 +80,7 @@ fn say_value(out: &mut [u8], at: usize, i: u32, v: u32) -> usize
 }
 
 // The line that answers a call.
+#[tactic(auto, using(crate::proofs::Writing::wrote_none), unfolding(script::specs::Words::answer_line))]
 fn say(out: &mut [u8], at: usize, a: Answer) -> usize
     requires { at + line_room ≤ length out.old }
     ensures { Wrote at (answer_line (answer_of a [])) out.old out.new result }
@@ -99,10 +98,15 @@ fn say(out: &mut [u8], at: usize, a: Answer) -> usize
         Answer::Idled => say_none(out, at, b"idle"),
         Answer::Filled(address) => say_one(out, at, b"filled", address),
         Answer::Flushed(n) => say_one(out, at, b"flushed", n),
-        Answer::Shown(_, _) => at,
-        Answer::Checkpointed(_) => at,
-        Answer::Previewed(_) => at,
+        Answer::Shown(_, _) | Answer::Checkpointed(_) | Answer::Previewed(_) => at,
     }
+}
+
+// Whether a line has room from a place on in so many bytes.
+fn has_room(length: usize, at: usize) -> bool
+    ensures { result ≡ leb (at + line_room) length }
+{
+    LINE_ROOM <= length.saturating_sub(at)
 }
 
 // Writes the line that answers a call at a place, and hands back the place behind it; writes nothing where there is less room than
@@ -110,10 +114,7 @@ fn say(out: &mut [u8], at: usize, a: Answer) -> usize
 pub fn write_answer(out: &mut [u8], at: usize, a: Answer) -> usize
     ensures { Wrote at (in_room at out.old (answer_line (answer_of a []))) out.old out.new result }
 {
-    if out.len() < LINE_ROOM {
-        return at;
-    }
-    if out.len() - LINE_ROOM < at {
+    if !has_room(out.len(), at) {
         return at;
     }
     say(out, at, a)
@@ -123,10 +124,7 @@ pub fn write_answer(out: &mut [u8], at: usize, a: Answer) -> usize
 pub fn write_ready(out: &mut [u8], at: usize) -> usize
     ensures { Wrote at (in_room at out.old ready_line) out.old out.new result }
 {
-    if out.len() < LINE_ROOM {
-        return at;
-    }
-    if out.len() - LINE_ROOM < at {
+    if !has_room(out.len(), at) {
         return at;
     }
     say_none(out, at, b"ready")

@@ -19,11 +19,11 @@ use Rattle.rules.proofs.LineFacts.{sets-bound}
 use Rattle.study.specs.declared.StudyResult.{StudyResult}
 use Rattle.study.specs.Study.{scratch_size, most_items, line_limit, items_allowed, study_allowed, hit_count, hit_counts, rates_of, counted}
 use Rattle.study.specs.Stack.{distance, touched, stacks_from, distances_from, empty_stacks, distances}
-use Rattle.study.specs.Scratch.{places_of, HoldsStacks, TouchedAt, below, tally, one_more, added_hits, OneMoreFits, CountGiven, CountLeft, RatesFit}
+use Rattle.study.specs.Scratch.{places_of, HoldsStacks, below, tally, one_more, added_hits, OneMoreFits, CountGiven, CountLeft}
 use Rattle.study.specs.Claims.{HitsByDistance}
 use Rattle.study.proofs.Stack.{apart, apart-stacks}
 use Rattle.study.proofs.Distances.{hits-by-distance}
-use Rattle.study.proofs.Scratch.{touched-distance, touched-kept}
+use Rattle.study.proofs.Scratch.{TouchedAt, touched-distance, touched-kept}
 
 -- the stacks after some items
 abbrev stacks : ℕ → List ℕ → ℕ → List ℕ
@@ -63,6 +63,12 @@ below-most ways ds = filter-most (λ d. ltb d ways) ds
 
 tally-more : (d : ℕ) (ds : List ℕ) → tally (ds ++ d ∷ []) ≡ added_hits (tally ds) d
 tally-more d ds = rw (below_more 1 d ds, below_more 2 d ds, below_more 3 d ds, below_more 4 d ds)
+
+-- an item at distance d is counted: the first w counts are done
+pub record Adding (hs : List ℕ) (d w : ℕ) (cur : List ℕ) : Type 0 where
+  pub long : length cur ≡ 4
+  pub done : (k : ℕ) → k < w → get_or cur k 0 ≡ one_more (get_or hs k 0) d (k + 1)
+  pub left : (k : ℕ) → w ≤ k → get_or cur k 0 ≡ get_or hs k 0
 
 -- ---- the loop
 
@@ -192,15 +198,19 @@ module _ (items : List ℕ) (sets n : ℕ) (a : Allowed items sets n) where
         empty = record { entry = λ s d h b. zero-at n (places_of s + d) };
       }
 
-  pub allowed-rated : (hs : List ℕ) → hs ≡ tally (distances sets items) → RatesFit hs (length items)
-  allowed-rated hs e =
-      rw e (record {
-        one = omega (arith, counts-small sets 1 items, a.few);
-        two = omega (arith, counts-small sets 2 items, a.few);
-        three = omega (arith, counts-small sets 3 items, a.few);
-        four = omega (arith, counts-small sets 4 items, a.few);
-        items = a.few;
-      })
+  -- each count may be rated
+  pub allowed-rated : (hs : List ℕ) → hs ≡ tally (distances sets items) → (k : ℕ) → get_or hs k 0 ≤ most_items
+  allowed-rated hs e k = rw e (at k)
+    where
+      small : (ways : ℕ) → below ways (distances sets items) ≤ most_items
+      small ways = omega (arith, counts-small sets ways items, a.few)
+
+      at : (k : ℕ) → get_or (tally (distances sets items)) k 0 ≤ most_items
+      at zero = small 1
+      at (suc zero) = small 2
+      at (suc (suc zero)) = small 3
+      at (suc (suc (suc zero))) = small 4
+      at (suc (suc (suc (suc k)))) = omega arith
 
   -- the answer
   pub allowed-counted :

@@ -4,5 +4,6 @@ pub mod InOrder
 pub mod Items
 pub mod Distances
 pub mod Scratch
+pub mod Mapped
 pub mod Counts
 pub mod Nearest

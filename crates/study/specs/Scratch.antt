@@ -16,21 +16,21 @@ places_of s = most_ways * s
 pub record HoldsStacks (sets : ℕ) (K : ℕ → List ℕ) (scratch : List ℕ) : Type 0 where
   pub entry : (s d : ℕ) → s < sets → d < most_ways → get_or scratch (places_of s + d) 0 ≡ get_or (K s) d 0
 
--- what moves to place d of the four from `first` on when m comes first
-unfoldable pub moved_to : List ℕ → ℕ → ℕ → ℕ → ℕ
-moved_to old first m zero = m
-moved_to old first m (suc d) = get_or old (first + d) 0
+-- what moves to place d of four numbers when m comes first
+unfoldable pub moved_to : List ℕ → ℕ → ℕ → ℕ
+moved_to old m zero = m
+moved_to old m (suc d) = get_or old d 0
 
--- m comes first of the four numbers from `first` on; r is the place of the four where it was, else 4
-pub record TouchedAt (first m r : ℕ) (old new : List ℕ) : Type 0 where
+-- m comes first of four numbers; r is the place of the four where it was, else 4
+pub record Touched (m r : ℕ) (old new : List ℕ) : Type 0 where
   -- the length stays
   pub long : length new ≡ length old
   -- r is the place where it was
-  pub found : r ≡ first_from (λ d. eqb (get_or old (first + d) 0) m) 0 most_ways
+  pub found : r ≡ first_from (λ d. eqb (get_or old d 0) m) 0 most_ways
   -- m comes first, and the numbers before its old place move down by one
-  pub moved : (d : ℕ) → d ≤ r → d < most_ways → get_or new (first + d) 0 ≡ moved_to old first m d
+  pub moved : (d : ℕ) → d ≤ r → d < most_ways → get_or new d 0 ≡ moved_to old m d
   -- every other number stays
-  pub rest : (k : ℕ) → (first ≤ k → k < first + most_ways → k ≤ first + r → ⊥) → get_or new k 0 ≡ get_or old k 0
+  pub rest : (d : ℕ) → r < d → get_or new d 0 ≡ get_or old d 0
 
 -- ---- the counts
 
@@ -72,11 +72,3 @@ pub record CountLeft (items : List ℕ) (sets : ℕ) (hs old new : List ℕ) : T
   pub held : HoldsStacks sets (stacks_from sets items empty_stacks) new
   -- the numbers behind those of the sets stay
   pub rest : (k : ℕ) → places_of sets ≤ k → get_or new k 0 ≡ get_or old k 0
-
--- what the rates are given: counts and a number of items that are small enough
-pub record RatesFit (hs : List ℕ) (n : ℕ) : Type 0 where
-  pub one : get_or hs 0 0 ≤ most_items
-  pub two : get_or hs 1 0 ≤ most_items
-  pub three : get_or hs 2 0 ≤ most_items
-  pub four : get_or hs 3 0 ≤ most_items
-  pub items : n ≤ most_items

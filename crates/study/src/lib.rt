@@ -3,13 +3,14 @@
 // An item hits exactly with the ways above the place of its line there, its stack distance.
 #![tactic(auto)]
 
-ghost use Rattle.std.specs.Prelude.{◌≡◌, true, ◌+◌, ◌<◌, ◌≤◌, length, replicate};
-ghost use Rattle.study.specs.Study.{most_ways, most_items, items_allowed, study_allowed, rate_of, rates_of, counted, studied, scratch_after};
-ghost use Rattle.study.specs.Scratch.{TouchedAt, OneMoreFits, CountGiven, CountLeft, RatesFit, one_more, added_hits};
+ghost use Rattle.std.specs.Prelude.{◌≡◌, true, ◌≤◌, length, replicate};
+ghost use Rattle.study.specs.Study.{most_ways, most_items, items_allowed, study_allowed, rate_of, counted, studied, scratch_after};
+ghost use Rattle.study.specs.Scratch.{Touched, OneMoreFits, CountGiven, CountLeft, added_hits};
 ghost use Rattle.study.specs.Claims.{Inclusion, HitsByDistance, RatesNearest};
 ghost use Rattle.study.specs.Examples.{Examples};
 
-use rules::BAD_STUDY;
+use rules::Refusal;
+use std::mem;
 
 // "for 1, 2, 3 and 4 ways"
 pub const STUDY_WAYS: usize = 4;
@@ -23,7 +24,7 @@ pub const LINE_LIMIT: u32 = 4096;
 pub const SCRATCH_SIZE: usize = 640;
 
 // What a study gives: the number of the refusal, 0 where it is accepted; the hits and the rates per thousand with 1, 2, 3 and 4 ways,
-// zeros where it is refused.
+// zeros where it is refused. (No `Result`: the C interface returns it by value.)
 #[repr(C)]
 #[derive(Clone, Copy)]
 pub struct StudyResult {
@@ -38,74 +39,47 @@ pub struct StudyResult {
 fn items_allowed(items: &[u32]) -> bool
     ensures { result ≡ items_allowed items.now }
 {
-    let mut i: usize = 0;
-    while i < items.len() {
-        if LINE_LIMIT <= items[i] {
-            return false;
-        }
-        i += 1;
-    }
-    true
+    items.iter().all(|l| *l < LINE_LIMIT)
 }
 
 // The list, its items, the set count and a scratch of so many numbers are allowed.
 fn study_allowed(items: &[u32], sets: u32, size: usize) -> bool
     ensures { result ≡ study_allowed items.now sets size }
 {
-    if MAX_ITEMS < items.len() {
-        return false;
-    }
-    if items_allowed(items) {
-        if rules::sets_allowed(sets) {
-            return size == SCRATCH_SIZE;
-        }
-        return false;
-    }
-    false
+    items.len() <= MAX_ITEMS
+        && items_allowed(items)
+        && rules::sets_allowed(sets)
+        && size == SCRATCH_SIZE
 }
 
 // ---- the stacks
 
 // An entry (line + 1) comes first of the four numbers of its set. The numbers before its place move down by one, or, where it is not there,
 // all four do and the last leaves. The answer is its place before, or 4.
-fn touch_at(scratch: &mut [u32], first: usize, entry: u32) -> usize
-    requires { first + most_ways ≤ length scratch.old }
-    ensures { TouchedAt first entry result scratch.old scratch.new }
+fn touch(stack: &mut [u32], entry: u32) -> usize
+    requires { length stack.old ≡ most_ways }
+    ensures { Touched entry result stack.old stack.new }
 {
     let mut carried = entry;
-    let mut d: usize = 0;
-    while d < STUDY_WAYS {
-        let old = scratch[first + d];
-        scratch[first + d] = carried;
-        if old == entry {
+    for (d, place) in stack.iter_mut().enumerate() {
+        mem::swap(place, &mut carried);
+        if carried == entry {
             return d;
         }
-        carried = old;
-        d += 1;
     }
-    d
+    STUDY_WAYS
 }
 
 // ---- the counts
 
-// A count with an item at distance d: one more if it hits with so many ways.
-fn one_more(n: u32, d: usize, ways: usize) -> u32
-    requires { n < most_items }
-    ensures { result ≡ one_more n d ways }
+// An item at distance d is counted: it hits with more than d ways.
+fn add_hits(hits: &mut [u32; STUDY_WAYS], d: usize)
+    requires { OneMoreFits hits.old }
+    ensures { hits.new ≡ added_hits hits.old d }
 {
-    if d < ways { n + 1 } else { n }
-}
-
-// An item at distance d is counted.
-fn add_hits(hits: [u32; STUDY_WAYS], d: usize) -> [u32; STUDY_WAYS]
-    requires { OneMoreFits hits }
-    ensures { result ≡ added_hits hits d }
-{
-    let one = one_more(hits[0], d, 1);
-    let two = one_more(hits[1], d, 2);
-    let three = one_more(hits[2], d, 3);
-    let four = one_more(hits[3], d, 4);
-    [one, two, three, four]
+    for (w, count) in hits.iter_mut().enumerate() {
+        *count += u32::from(d <= w);
+    }
 }
 
 // The hits of the items with 1, 2, 3 and 4 ways. The scratch begins as zeros, and is left with the stacks of the items.
@@ -113,15 +87,11 @@ fn count_hits(items: &[u32], sets: u32, scratch: &mut [u32]) -> [u32; STUDY_WAYS
     requires { CountGiven items.now sets scratch.old }
     ensures { CountLeft items.now sets result scratch.old scratch.new }
 {
-    let mut hits = [0u32; STUDY_WAYS];
-    let mut i: usize = 0;
-    while i < items.len() {
-        let l = items[i];
+    let mut hits = [0; STUDY_WAYS];
+    for l in items {
         let first = STUDY_WAYS * ((l % sets) as usize);
-        let d = touch_at(scratch, first, l + 1);
-        let more = add_hits(hits, d);
-        hits = more;
-        i += 1;
+        let d = touch(&mut scratch[first..first + STUDY_WAYS], l + 1);
+        add_hits(&mut hits, d);
     }
     hits
 }
@@ -141,34 +111,21 @@ fn rate(hits: u32, n: u32) -> u32
     (2 * (PER_THOUSAND * hits) + n) / (2 * n)
 }
 
-// The rate of each count among n items.
-fn rates(hits: [u32; STUDY_WAYS], n: u32) -> [u32; STUDY_WAYS]
-    requires { RatesFit hits n }
-    ensures { result ≡ rates_of hits n }
-{
-    let one = rate(hits[0], n);
-    let two = rate(hits[1], n);
-    let three = rate(hits[2], n);
-    let four = rate(hits[3], n);
-    [one, two, three, four]
-}
-
 // ---- the study
 
-// The scratch is cleared before the count, whatever it holds, and after it.
+// An accepted study.
 fn study_accepted(items: &[u32], sets: u32, scratch: &mut [u32]) -> StudyResult
     requires { study_allowed items.now sets (length scratch.old) ≡ true }
     ensures { (result ≡ counted sets items.now) × (scratch.new ≡ replicate (length scratch.old) 0) }
 {
-    lists::zero_numbers(scratch);
+    scratch.fill(0); // "empty at first whatever the scratch holds"
     let hits = count_hits(items, sets, scratch);
-    lists::zero_numbers(scratch);
+    scratch.fill(0); // it "is zero afterwards"
     let n = items.len() as u32;
-    let parts = rates(hits, n);
     StudyResult {
         refusal: 0,
         hits,
-        rates: parts,
+        rates: hits.map(|h| rate(h, n)),
     }
 }
 
@@ -180,9 +137,9 @@ pub fn study(items: &[u32], sets: u32, scratch: &mut [u32]) -> StudyResult
         return study_accepted(items, sets, scratch);
     }
     StudyResult {
-        refusal: BAD_STUDY,
-        hits: [0u32; STUDY_WAYS],
-        rates: [0u32; STUDY_WAYS],
+        refusal: Refusal::BadStudy.number(),
+        hits: [0; STUDY_WAYS],
+        rates: [0; STUDY_WAYS],
     }
 }
 

@@ -1,14 +1,10 @@
--- `access_passes` meets its contract: an access that ends in memory by its width and its alignment, no other.
-use mathlib.Core.Path.{◌∙◌}
-use native.Mathlib.Omega.{arith}
-use Rattle.access.proofs.AccessChecks.{passes-inside, passes-outside}
+-- `access_passes` meets its contract: the checked access is good exactly if the checks pass.
+use mathlib.Core.Path.{◌∙◌, ap}
+use Rattle.std.proofs.Common.{is_ok}
+use Rattle.access.specs.AccessChecks.{checked_access}
+use Rattle.access.proofs.AccessChecks.{numbered-ok, checks-ok}
 use Rattle.access.proofs.access_passes.Goals as goal
 
-pub returns-then-address-size : goal.returns-then-address-size
-returns-then-address-size c = c.is_aligned.ensures ∙ passes-inside c.args.size c.args.address c.args.width (omega arith)
-
-pub returns-else-address-size : goal.returns-else-address-size
-returns-else-address-size c = passes-outside c.args.size c.args.address c.args.width (omega arith)
-
-pub returns-else-width-size : goal.returns-else-width-size
-returns-else-width-size c = passes-outside c.args.size c.args.address c.args.width (omega arith)
+pub returns : goal.returns
+unfolding checked_access
+returns c = c.is_ok.ensures.value ∙ numbered-ok _ ∙ ap is_ok c.check_access.ensures ∙ checks-ok _ _

@@ -1,31 +1,19 @@
--- `checkpoints::forget_from` meets its contract. The loop: the first marks are laid down, and none of them has the name.
-use mathlib.Core.Path.{◌≡◌, sym, ◌∙◌}
-use native.Mathlib.Omega.{arith}
-use lib.ListN.{length}
-use borrow.Author.Rules.{rules}
-use Rattle.lists.proofs.Loops.{cutting-none, cutting-next, cutting-stop, cutting-end}
+-- `checkpoints::forget_from` meets its contract. The places from the mark's on are filled.
+use Rattle.std.proofs.Common.{◌∙◌, sym, rules, tests}
+use Rattle.lists.proofs.Library.{position-chain, cut-some, cut-none}
 use Rattle.rules.specs.Shape.{checkpoint_places, no_checkpoint}
-use Rattle.rules.specs.Checkpoints.{forget_from}
+use Rattle.rules.specs.Checkpoints.{named, forget_from}
 use Rattle.checkpoints.proofs.forget_from.Goals as goal
 
-pub loop-kept-init : goal.loop-kept-init
-loop-kept-init c = (search rules, cutting-none _ no_checkpoint checkpoint_places c.args.checkpoints)
-
-pub returns-then-is_named : goal.returns-then-is_named
+pub returns-in-Some : goal.returns-in-Some
 unfolding forget_from
-returns-then-is_named c =
-    let h : length c.args.checkpoints ≡ checkpoint_places = search rules in
-    cutting-stop _ no_checkpoint no_checkpoint h c.loop-kept.invariant.1 (omega arith) (sym c.is_named.ensures ∙ c.if-is_named.true)
+returns-in-Some c =
+    cut-some (named c.args.name) c.in-Some.i checkpoint_places no_checkpoint c.args.checkpoints c.fill.new.self (search rules)
+    (search rules)
+    (sym c.in-Some.is ∙ position-chain _ _ _ _ c.args.checkpoints c.iter.ensures.rest (λ x b q k. search (rules, tests)) c.position.result c.position.ensures.ran)
 
-pub loop-kept-preserved : goal.loop-kept-preserved
-loop-kept-preserved c =
-    let h : length c.args.checkpoints ≡ checkpoint_places = search rules in (
-      search rules,
-      cutting-next _ no_checkpoint no_checkpoint h c.loop-kept.invariant.1 (omega arith) (sym c.is_named.ensures ∙ c.if-is_named.false),
-    )
-
-pub returns : goal.returns
+pub returns-in_default : goal.returns-in_default
 unfolding forget_from
-returns c =
-    let h : length c.args.checkpoints ≡ checkpoint_places = search rules in
-    cutting-end _ no_checkpoint no_checkpoint h c.loop-kept.invariant.1 (omega arith)
+returns-in_default c =
+    cut-none (named c.args.name) no_checkpoint c.args.checkpoints
+    (sym c.in_default.is ∙ position-chain _ _ _ _ c.args.checkpoints c.iter.ensures.rest (λ x b q k. search (rules, tests)) c.position.result c.position.ensures.ran)

@@ -1,22 +1,17 @@
--- `checkpoints::number_of` meets its contract. The first such mark is what stands at its place.
-use mathlib.Core.Path.{◌≡◌, ap}
-use lib.ListN.{length}
-use borrow.Author.Rules.{rules}
-use Rattle.lists.proofs.Loops.{found_first, none_first}
+-- `checkpoints::number_of` meets its contract. By the chain.
+use Rattle.std.proofs.Common.{◌∙◌, ap, rules, tests}
+use Rattle.std.proofs.lemmas.Iterator.{YieldsList-from_slice}
+use Rattle.std.proofs.lemmas.Iterator.Consumers.{YieldsList-from_copied}
+use Rattle.std.proofs.lemmas.Iterator.Search.{find_from_yields_List}
+use Rattle.lists.proofs.Library.{found-first}
 use Rattle.rules.specs.declared.Checkpoint.{Checkpoint}
-use Rattle.rules.specs.Shape.{checkpoint_places, no_checkpoint}
+use Rattle.rules.specs.Shape.{no_checkpoint}
+use Rattle.rules.specs.Checkpoints.{named}
 use Rattle.checkpoints.proofs.number_of.Goals as goal
-
-pub returns-then-i-lt-CHECKPOINT_PLACES : goal.returns-then-i-lt-CHECKPOINT_PLACES
-returns-then-i-lt-CHECKPOINT_PLACES c =
-    let h : length c.args.checkpoints ≡ checkpoint_places = search rules in
-    ap (λ (m : Checkpoint). m.number)
-    (found_first _ c.args.checkpoints checkpoint_places c.place_of-i.result h
-    c.place_of-i.ensures no_checkpoint)
 
 pub returns : goal.returns
 returns c =
-    let h : length c.args.checkpoints ≡ checkpoint_places = search rules in
     ap (λ (m : Checkpoint). m.number)
-    (none_first _ c.args.checkpoints checkpoint_places c.place_of-i.result h c.place_of-i.ensures no_checkpoint
-    c.if-i-lt-CHECKPOINT_PLACES.false)
+    (c.unwrap_or.ensures
+    ∙ found-first (named c.args.name) no_checkpoint c.args.checkpoints c.find.result
+    (find_from_yields_List _ _ _ c.find.result c.find.ensures.ran (YieldsList-from_copied (YieldsList-from_slice c.args.checkpoints cc)) (λ x b q k. search (rules, tests))))

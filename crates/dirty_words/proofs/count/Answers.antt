@@ -1,8 +1,6 @@
--- `count` meets its contract: the four marks, added up.
-use native.Mathlib.Omega.{arith}
-use Rattle.rules.specs.Lines.{mark_count}
+-- `count` meets its contract: the ones among the four lowest bits.
+use Rattle.dirty_words.proofs.Marks.{four-ones}
 use Rattle.dirty_words.proofs.count.Goals as goal
 
 pub returns : goal.returns
-unfolding mark_count
-returns c = (omega arith, omega arith)
+returns c = search four-ones

@@ -1,17 +1,13 @@
 -- `byte_at` meets its contract.
-use mathlib.Core.Path.{sym, ◌∙◌}
-use native.Mathlib.Omega.{arith}
+use Rattle.std.proofs.Common.{sym, ◌∙◌}
 use Rattle.line_bytes.proofs.Reading.{known-byte, line-byte, no_byte}
 use Rattle.line_bytes.proofs.byte_at.Goals as goal
 
-pub bounds-cache-p : goal.bounds-cache-p
-bounds-cache-p c = omega (arith, c.requires c.if-here.true)
+pub returns-in-Some : goal.returns-in-Some
+returns-in-Some c = known-byte _ _ _ _ _ _ _ (sym c.forward.ensures ∙ c.in-Some.is)
 
-pub returns-in-Known : goal.returns-in-Known
-returns-in-Known c = known-byte _ _ _ _ _ _ _ (sym c.forward-b.ensures ∙ c.in-Known.is)
+pub returns-in-None : goal.returns-in-None
+returns-in-None c = line-byte _ _ _ _ _ _ (sym c.forward.ensures ∙ c.in-None.is) c.if-here.true
 
-pub returns-then-here : goal.returns-then-here
-returns-then-here c = line-byte _ _ _ _ _ _ (sym c.forward-b.ensures ∙ c.in-Unknown.is) c.if-here.true
-
-pub returns-else-here : goal.returns-else-here
-returns-else-here c = no_byte _ _ _ _ _ _ (sym c.forward-b.ensures ∙ c.in-Unknown.is) c.if-here.false
+pub returns-in-None-2 : goal.returns-in-None-2
+returns-in-None-2 c = no_byte _ _ _ _ _ _ (sym c.forward.ensures ∙ c.in-None.is) c.if-here.false

@@ -1,18 +1,17 @@
 -- `is_readable` meets its contract.
-use mathlib.Core.Path.{sym, ◌∙◌}
-use Rattle.line_bytes.proofs.Reading.{apart-readable, far-readable, here-readable, away-readable}
+use Rattle.std.proofs.Common.{arith}
+use Rattle.std.proofs.lemmas.Bool.Decides.{nat_tests}
+use Rattle.line_bytes.specs.Reads.{readable}
 use Rattle.line_bytes.proofs.is_readable.Goals as goal
 
-pub returns-then-p-gt-MAX_MEMORY : goal.returns-then-p-gt-MAX_MEMORY
-returns-then-p-gt-MAX_MEMORY c = far-readable _ _ _ _ _ (sym c.places_inside.ensures ∙ c.if-places_inside.true) c.if-p-gt-MAX_MEMORY.true
+pub returns-then-not-here : goal.returns-then-not-here
+unfolding readable
+returns-then-not-here c = grind (arith, nat_tests)
 
-pub returns-then-here : goal.returns-then-here
-returns-then-here c =
-    c.places_inside-then-here.ensures
-    ∙ here-readable _ _ _ _ _ (sym c.places_inside.ensures ∙ c.if-places_inside.true) c.if-p-gt-MAX_MEMORY.false c.if-here.true
+pub returns-else-not-here : goal.returns-else-not-here
+unfolding readable
+returns-else-not-here c = grind (arith, nat_tests)
 
-pub returns-else-here : goal.returns-else-here
-returns-else-here c = away-readable _ _ _ _ _ (sym c.places_inside.ensures ∙ c.if-places_inside.true) c.if-p-gt-MAX_MEMORY.false c.if-here.false
-
-pub returns-else-places_inside : goal.returns-else-places_inside
-returns-else-places_inside c = apart-readable _ _ _ _ _ (sym c.places_inside.ensures ∙ c.if-places_inside.false)
+pub returns-else-p-le-MAX_MEMORY : goal.returns-else-p-le-MAX_MEMORY
+unfolding readable
+returns-else-p-le-MAX_MEMORY c = grind (arith, nat_tests)

@@ -1,38 +1,30 @@
--- `join_bytes` meets its contract: the loop goes from the highest byte down.
-use mathlib.Core.Path.{◌≡◌, ◌∙◌}
-use native.Mathlib.Omega.{arith}
-use Prim.Native.Nat.{◌+◌, ◌-◌, suc}
-use Rattle.lists.specs.Bytes.{gather}
-use Rattle.lists.specs.Counted.{all_from}
-use Rattle.rules.specs.Forward.{all_forwarded}
-use Rattle.line_bytes.proofs.Reading.{joined-gather, byte-from, from-small}
+-- `join_bytes` meets its contract.
+use Rattle.std.proofs.Common.{ℕ, ◌≡◌, ◌+◌, ◌*◌, ◌^◌, ◌∙◌, ◌&&◌, sym, ap, set, w32, Some, arith, rules}
+use Rattle.std.proofs.lemmas.List.{get_or-set_other}
+use Rattle.std.specs.Int.{from_le_bytes}
+use Rattle.line_bytes.specs.Reads.{loaded}
+use Rattle.line_bytes.proofs.Reading.{joined_above, left, left-lacking, left-joins, left-none, four-set}
 use Rattle.line_bytes.proofs.join_bytes.Goals as goal
 
-pub loop-k-init : goal.loop-k-init
-unfolding gather all_forwarded all_from
-loop-k-init c =
-    let e : c.args.width - c.args.width ≡ 0 = omega arith in
-    (omega arith, rw e)
-
-pub byte_at-b-requires : goal.byte_at-b-requires
-byte_at-b-requires c = λ h. omega (arith, c.requires.3 h)
+pub returns-in_err-b : goal.returns-in_err-b
+returns-in_err-b c =
+    c.from_residual.ensures
+    ∙ sym (c.loop-k.invariant.2 ∙ left-lacking c.args.i c.args.a c.args.width c.args.stores c.args.cache.now c.args.p c.args.here c.loop-k.k _ _ c.loop-k-test.true (sym c.in_err-b.was ∙ c.byte_at.ensures))
 
 pub loop-k-preserved : goal.loop-k-preserved
-unfolding all_forwarded all_from
 loop-k-preserved c =
     let g = c.loop-k.invariant in
     let k = c.loop-k.k in
-    let a = c.args.a in
-    let w = c.args.width in
-    let e₁ : a + k ≡ suc (a + (k - 1)) = omega arith in
-    let e₂ : w - (k - 1) ≡ suc (w - k) = omega arith in
-    let e₃ : c.args.p + (k - 1) ≡ c.args.p + (a + (k - 1) - a) = omega arith in
-    let b = rw e₃ at c.byte_at-b.ensures in
-    let small = from-small c.args.i a c.args.stores c.args.cache.now c.args.p c.args.here (λ j. omega (arith, c.type_inv.cache j)) in
-    (omega arith, c.joined-r.ensures ∙ rw (b, byte-from c.args.i a c.args.stores c.args.cache.now c.args.p c.args.here (a + (k - 1)), g.1, e₁, e₂) (joined-gather _ small _ _ (w - k) (a + (k - 1)) (omega arith)))
+    let b = c.in_ok-b.b in
+    let low : from_le_bytes w32 (set c.loop-k.bytes k b.value) ≡ from_le_bytes w32 c.loop-k.bytes + 256 ^ k * b.value = four-set c.loop-k.bytes k b.value g.0 (omega arith) (g.1 k (omega arith)) in (
+      search rules,
+      λ j h. get_or-set_other c.loop-k.bytes k j b.value 0 (λ e. omega arith) ∙ g.1 j (omega arith),
+      g.2
+          ∙ (left-joins c.args.i c.args.a c.args.width c.args.stores c.args.cache.now c.args.p c.args.here k _ _ c.loop-k-test.true b (sym c.in_ok-b.was ∙ c.byte_at.ensures) (omega arith)
+          ∙ ap (λ (n : ℕ). joined_above (k + 1) n (c.loop-k.forwarded && b.forwarded) (left c.args.i c.args.a c.args.width c.args.stores c.args.cache.now c.args.p c.args.here (k + 1))) (sym low)),
+    )
 
 pub returns : goal.returns
 returns c =
-    let e₁ : c.args.a + c.loop-k.k ≡ c.args.a = omega arith in
-    let e₂ : c.args.width - c.loop-k.k ≡ c.args.width = omega arith in
-    c.loop-k.invariant.1 ∙ rw (e₁, e₂)
+    ap (λ (v : ℕ). Some (loaded c.loop-k.forwarded v)) c.from_le_bytes-value.ensures
+    ∙ sym (c.loop-k.invariant.2 ∙ left-none c.args.i c.args.a c.args.width c.args.stores c.args.cache.now c.args.p c.args.here c.loop-k.k _ _ c.loop-k-test.false)

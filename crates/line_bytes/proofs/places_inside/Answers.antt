@@ -1,15 +1,13 @@
 -- `places_inside` meets its contract.
-use native.Mathlib.Omega.{arith}
-use Rattle.line_bytes.proofs.Writing.{wide-outside, far-outside, rest-inside}
+use Rattle.std.proofs.Common.{arith}
+use Rattle.std.proofs.lemmas.Bool.Decides.{nat_tests}
+use Rattle.line_bytes.specs.Writes.{places_inside}
 use Rattle.line_bytes.proofs.places_inside.Goals as goal
 
-pub returns-then-width-gt-MAX_WIDTH : goal.returns-then-width-gt-MAX_WIDTH
-returns-then-width-gt-MAX_WIDTH c = wide-outside _ _ _ c.if-width-gt-MAX_WIDTH.true
+pub returns-then-n-length : goal.returns-then-n-length
+unfolding places_inside
+returns-then-n-length c = grind (arith, nat_tests)
 
-pub returns-then-length-n : goal.returns-then-length-n
-returns-then-length-n c =
-    let h = c.if-length-n.true in
-    far-outside _ _ _ (omega arith)
-
-pub returns : goal.returns
-returns c = rest-inside _ _ _ c.if-width-gt-MAX_WIDTH.false c.if-length-n.false
+pub returns-else-n-length : goal.returns-else-n-length
+unfolding places_inside
+returns-else-n-length c = grind (arith, nat_tests)

@@ -1,36 +1,40 @@
--- `put_store` meets its contract. Before byte i the rest of the value is the value without its i lowest bytes.
-use mathlib.Core.Path.{◌≡◌, refl, sym, ap, ◌∙◌}
-use Prim.Native.Nat.{ℕ, ◌-◌, ◌+◌, ◌/◌}
-use native.Mathlib.Omega.{arith}
-use native.Mathlib.Nat.{div-one}
-use lib.ListN.{length-set}
-use borrow.Author.Rules.{rules}
-use Rattle.lists.proofs.CountedLoops.{steps_on, steps-off}
-use Rattle.line_bytes.proofs.Writing.{inside-tells, put-each, put-at, next-byte, put-inside, put-outside}
+-- `put_store` meets its contract: the lowest bytes of the value are copied to their places, or nothing changes.
+use Rattle.std.proofs.Common.{ℕ, ◌+◌, ◌-◌, ◌∙◌, sym, ap, length, length-drop, arith}
+use Rattle.std.proofs.lemmas.List.{length-take}
+use borrow.Rule.Slice.PartMut.{put_mid}
+use Rattle.line_bytes.proofs.Writing.{inside-tells, put-part, put-outside}
 use Rattle.line_bytes.proofs.put_store.Goals as goal
 
-pub loop-i-init : goal.loop-i-init
-loop-i-init c =
+pub overflow_add-at : goal.overflow_add-at
+overflow_add-at c =
     let s = inside-tells _ _ _ (sym c.places_inside.ensures ∙ c.if-places_inside.true) in
-    let e : c.args.at + 0 ≡ c.args.at = omega arith in
-    let d : c.args.width - 0 ≡ c.args.width = omega arith in
-    (search rules, s.0, s.1, refl, sym (div-one _), rw (e, d))
+    omega arith
 
-pub loop-i-preserved : goal.loop-i-preserved
-loop-i-preserved c =
-    let t = c.loop-i-test.true in (
-      omega arith,
-      c.loop-i.invariant.1,
-      c.loop-i.invariant.2,
-      simp length-set c.loop-i.invariant.3,
-      ap (λ (n : ℕ). n / 256) c.loop-i.invariant.4 ∙ next-byte c.args.value c.loop-i.i,
-      c.loop-i.invariant.5 ∙ (steps_on _ c.args.at c.loop-i.i c.args.width _ t ∙ rw (put-at c.args.at c.args.width c.args.value c.loop-i.i _ t, c.loop-i.invariant.4)),
-    )
+pub slice_bounds-copy_from_slice-end : goal.slice_bounds-copy_from_slice-end
+slice_bounds-copy_from_slice-end c =
+    let s = inside-tells _ _ _ (sym c.places_inside.ensures ∙ c.if-places_inside.true) in
+    omega arith
 
-pub returns-after-loop-i : goal.returns-after-loop-i
-returns-after-loop-i c =
-    sym (steps-off _ c.args.at c.loop-i.i c.args.width _ c.loop-i-test.false)
-    ∙ (sym c.loop-i.invariant.5 ∙ (put-each c.args.at c.args.width c.args.value c.args.bytes.now ∙ sym (put-inside _ _ _ _ c.loop-i.invariant.1 c.loop-i.invariant.2)))
+pub slice_bounds-low-end : goal.slice_bounds-low-end
+slice_bounds-low-end c =
+    let s = inside-tells _ _ _ (sym c.places_inside.ensures ∙ c.if-places_inside.true) in
+    omega (arith, ap length c.to_le_bytes-low.ensures)
+
+pub slice_bounds-copy_from_slice-end-then-places_inside : goal.slice_bounds-copy_from_slice-end-then-places_inside
+slice_bounds-copy_from_slice-end-then-places_inside c =
+    let s = inside-tells _ _ _ (sym c.places_inside.ensures ∙ c.if-places_inside.true) in
+    omega (arith, ap length c.to_le_bytes-low.ensures, length-take c.args.width c.to_le_bytes-low.result)
+
+pub copy_from_slice-requires : goal.copy_from_slice-requires
+copy_from_slice-requires c =
+    let s = inside-tells _ _ _ (sym c.places_inside.ensures ∙ c.if-places_inside.true) in
+    omega (arith, ap length c.to_le_bytes-low.ensures, length-take {A = ℕ}, length-drop {A = ℕ})
+
+pub returns-then-places_inside : goal.returns-then-places_inside
+returns-then-places_inside c =
+    let s = inside-tells _ _ _ (sym c.places_inside.ensures ∙ c.if-places_inside.true) in
+    ap (put_mid c.args.at (c.args.at + c.args.width - c.args.at) c.args.bytes.now) c.copy_from_slice.ensures.after
+    ∙ put-part c.args.at c.args.width c.args.value c.args.bytes.now c.to_le_bytes-low.result c.to_le_bytes-low.ensures c.ranges.value.fits s.0 s.1
 
 pub returns-else-places_inside : goal.returns-else-places_inside
 returns-else-places_inside c = put-outside _ _ _ _ (sym c.places_inside.ensures ∙ c.if-places_inside.false)

@@ -11,5 +11,5 @@ join_bytes-requires c =
 pub returns-then-is_readable : goal.returns-then-is_readable
 returns-then-is_readable c = c.join_bytes.ensures ∙ sym (read-inside _ _ _ _ _ _ _ (sym c.is_readable.ensures ∙ c.if-is_readable.true))
 
-pub returns : goal.returns
-returns c = read-outside _ _ _ _ _ _ _ (sym c.is_readable.ensures ∙ c.if-is_readable.false)
+pub returns-else-is_readable : goal.returns-else-is_readable
+returns-else-is_readable c = read-outside _ _ _ _ _ _ _ (sym c.is_readable.ensures ∙ c.if-is_readable.false)

@@ -13,6 +13,3 @@ invariant-loop-i l =
     let written = change (written_back_at (marked_line l.marks l.line) l.cache l.v) 0 in
     (l.i ≤ 16) × (length l.memory ≡ length l.initial.memory)
     × (steps_from written (16 * l.line) 16 l.initial.memory ≡ steps_from written (16 * l.line + l.i) (16 - l.i) l.memory)
-
-abbrev pub decreases-loop-i : goal.decreases-loop-i
-decreases-loop-i l = 16 - l.i

@@ -1,17 +1,12 @@
 -- `load_queue::uses_line_by` meets its contract. By the tests.
-use mathlib.Core.Path.{sym, ◌∙◌, ap}
-use mathlib.Core.Bool.{Bool, not, ◌&&◌, and-false, and-true}
-use Rattle.rules.specs.Calls.{answered_by, uses_line_by}
+use Rattle.std.proofs.Common.{arith}
+use Rattle.rules.specs.Calls.{uses_line_by}
 use Rattle.load_queue.proofs.uses_line_by.Goals as goal
 
-pub returns-then-l : goal.returns-then-l
+pub returns-then-is_answered_by : goal.returns-then-is_answered_by
 unfolding uses_line_by
-returns-then-l c =
-    let answered : Bool = answered_by c.args.k c.args.l in
-    sym (ap (λ (t : Bool). answered && not t) c.if-l.true ∙ and-false answered)
+returns-then-is_answered_by c = grind arith
 
-pub returns : goal.returns
+pub returns-else-is_answered_by : goal.returns-else-is_answered_by
 unfolding uses_line_by
-returns c =
-    let answered : Bool = answered_by c.args.k c.args.l in
-    c.is_answered_by.ensures ∙ sym (ap (λ (t : Bool). answered && not t) c.if-l.false ∙ and-true answered)
+returns-else-is_answered_by c = grind arith

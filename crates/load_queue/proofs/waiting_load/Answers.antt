@@ -1,19 +1,15 @@
--- `load_queue::waiting_load` meets its contract. The first such load is what stands at its place.
-use mathlib.Core.Path.{◌≡◌}
-use lib.ListN.{length}
-use borrow.Author.Rules.{rules}
-use Rattle.lists.proofs.Loops.{found_first, none_first}
-use Rattle.rules.specs.Shape.{load_places, no_load}
+-- `load_queue::waiting_load` meets its contract. By the chain.
+use Rattle.std.proofs.Common.{◌∙◌, rules, tests}
+use Rattle.std.proofs.lemmas.Iterator.{YieldsList-from_slice}
+use Rattle.std.proofs.lemmas.Iterator.Consumers.{YieldsList-from_copied}
+use Rattle.std.proofs.lemmas.Iterator.Search.{find_from_yields_List}
+use Rattle.lists.proofs.Library.{found-first}
+use Rattle.rules.specs.Shape.{no_load}
+use Rattle.rules.specs.Calls.{waiting_at}
 use Rattle.load_queue.proofs.waiting_load.Goals as goal
-
-pub returns-then-k-lt-LOAD_PLACES : goal.returns-then-k-lt-LOAD_PLACES
-returns-then-k-lt-LOAD_PLACES c =
-    let h : length c.args.loads ≡ load_places = search rules in
-    found_first _ c.args.loads load_places c.waiting_place-k.result h
-    c.waiting_place-k.ensures no_load
 
 pub returns : goal.returns
 returns c =
-    let h : length c.args.loads ≡ load_places = search rules in
-    none_first _ c.args.loads load_places c.waiting_place-k.result h c.waiting_place-k.ensures no_load
-    c.if-k-lt-LOAD_PLACES.false
+    c.unwrap_or.ensures
+    ∙ found-first (waiting_at c.args.i) no_load c.args.loads c.find.result
+    (find_from_yields_List _ _ _ c.find.result c.find.ensures.ran (YieldsList-from_copied (YieldsList-from_slice c.args.loads cc)) (λ x b q k. search (rules, tests)))

@@ -1,30 +1,27 @@
--- `lookup` meets its contract: the slot that was found is one of the set, or the register tells.
-use mathlib.Core.Path.{sym, ◌∙◌}
+-- `lookup` meets its contract: a way of the set was found, or the register tells.
+use Rattle.std.proofs.Common.{rules}
+use mathlib.Core.Path.{◌≡◌, sym, ◌∙◌}
+use Prim.Native.Nat.{◌+◌, ◌≤◌}
 use native.Mathlib.Omega.{arith}
-use Rattle.lists.proofs.Cond.{cond-then, cond-else}
-use Rattle.records.proofs.Places.{test-failed, test-passed, table-bound}
-use Rattle.records.proofs.RecordLoops.{find-low, lookup-way, lookup-named, lookup-misses}
-use mathlib.Core.Path.{ap}
-use mathlib.Core.Bool.{not}
+use lib.ListN.{length}
+use Rattle.lists.proofs.Cond.{cond-then}
+use Rattle.rules.specs.declared.Request.TheVariants.{Line}
+use Rattle.records.proofs.Sets.{lookup-way, lookup-named, lookup-misses, names-line, names-other}
 use Rattle.records.proofs.lookup.Goals as goal
 
-pub returns-then-not-in_table : goal.returns-then-not-in_table
-returns-then-not-in_table c = cond-else _ _ (test-failed c.in_table.ensures (ap not c.if-not-in_table.true))
+pub returns-in-Some : goal.returns-in-Some
+returns-in-Some c =
+    let h : c.args.set.first + c.args.set.ways ≤ length c.args.tags = search rules in
+    lookup-way _ _ _ h _ c.records.ensures.slots _ _ c.way_of.ensures.first _ _ c.in-Some.is (omega (arith, c.in-Some.ensures.inside)) ∙ cond-then _ _ (sym c.if-not-in_table.ensures.test)
 
-pub find-slot-requires : goal.find-slot-requires
-find-slot-requires c = table-bound _ _ (test-passed c.in_table.ensures (ap not c.if-not-in_table.false))
+pub returns-in-None : goal.returns-in-None
+returns-in-None c =
+    let h : c.args.set.first + c.args.set.ways ≤ length c.args.tags = search rules in
+    let n : c.args.request ≡ Line c.args.line = search rules in
+    lookup-named _ _ _ h _ c.records.ensures.slots _ _ c.way_of.ensures.first _ c.in-None.is (names-line _ _ n) ∙ cond-then _ _ (sym c.if-not-in_table.ensures.test)
 
-pub overflow_add-first : goal.overflow_add-first
-overflow_add-first c = omega (arith, table-bound _ _ (test-passed c.in_table.ensures (ap not c.if-not-in_table.false)))
-
-pub overflow_sub-result : goal.overflow_sub-result
-overflow_sub-result c = omega (arith, find-low c.args.tags c.args.first c.args.ways c.args.line _ c.find-slot.ensures)
-
-pub returns-then-slot-first : goal.returns-then-slot-first
-returns-then-slot-first c = lookup-way _ _ _ _ _ c.find-slot.ensures _ c.if-slot-first.true ∙ cond-then _ _ (test-passed c.in_table.ensures (ap not c.if-not-in_table.false))
-
-pub returns-then-is_named : goal.returns-then-is_named
-returns-then-is_named c = lookup-named _ _ _ _ _ c.find-slot.ensures _ c.if-slot-first.false (sym c.is_named.ensures ∙ c.if-is_named.true) ∙ cond-then _ _ (test-passed c.in_table.ensures (ap not c.if-not-in_table.false))
-
-pub returns : goal.returns
-returns c = lookup-misses _ _ _ _ _ c.find-slot.ensures _ c.if-slot-first.false (sym c.is_named.ensures ∙ c.if-is_named.false) ∙ cond-then _ _ (test-passed c.in_table.ensures (ap not c.if-not-in_table.false))
+pub returns-in-None-2 : goal.returns-in-None-2
+returns-in-None-2 c =
+    let h : c.args.set.first + c.args.set.ways ≤ length c.args.tags = search rules in
+    let n : c.args.request ≡ Line c.args.line → ⊥ = search rules in
+    lookup-misses _ _ _ h _ c.records.ensures.slots _ _ c.way_of.ensures.first _ c.in-None.is (names-other _ _ n) ∙ cond-then _ _ (sym c.if-not-in_table.ensures.test)

@@ -1,45 +1,20 @@
--- `lowest_wanting` meets its contract: the rest of the loads is still to be searched.
-use borrow.Author.Rules.{rules}
-use mathlib.Core.Path.{◌≡◌, refl, sym, ◌∙◌}
-use native.Mathlib.Omega.{arith}
-use Prim.Native.Nat.{◌+◌, ◌≤◌}
-use lib.ListN.{length}
-use Rattle.lists.specs.Padded.{first}
-use Rattle.lists.proofs.Cond.{cond-then, cond-else}
-use Rattle.lists.proofs.Loops.{rest-none}
-use Rattle.rules.specs.Shape.{no_load}
+-- `lowest_wanting` meets its contract.
+use Rattle.std.proofs.Common.{rules, tests}
+use Rattle.std.proofs.lemmas.Iterator.{YieldsList-from_slice}
+use Rattle.std.proofs.lemmas.Iterator.Adapters.{option_map_id}
+use Rattle.std.proofs.lemmas.Iterator.Consumers.{YieldsList-from_copied}
+use Rattle.std.proofs.lemmas.Iterator.Search.{find_from_yields_List}
+use mathlib.Core.Bool.{true}
+use mathlib.Core.Path.{◌≡◌, sym, ◌∙◌}
+use Rattle.lists.proofs.Cond.{cond-then}
+use Rattle.lists.proofs.Library.{find-first}
 use Rattle.rules.specs.Calls.{wants_line}
-use Rattle.records.specs.Records.{tabled}
-use Rattle.records.proofs.Places.{test-failed, test-passed}
-use Rattle.records.proofs.RecordLoops.{search-hit, search-miss}
-use mathlib.Core.Path.{ap}
-use mathlib.Core.Bool.{not}
+use Rattle.records.specs.Records.{has_room, tabled}
 use Rattle.records.proofs.lowest_wanting.Goals as goal
 
-pub returns-then-not-has_room : goal.returns-then-not-has_room
-returns-then-not-has_room c = cond-else _ _ (test-failed c.has_room.ensures (ap not c.if-not-has_room.true))
-
-pub loop-j-init : goal.loop-j-init
-loop-j-init c = (search rules, test-passed c.has_room.ensures (ap not c.if-not-has_room.false), refl)
-
-pub returns-then-wants_line : goal.returns-then-wants_line
-returns-then-wants_line c =
-    let long : length c.args.loads ≡ 8 = search rules in
-    let wanting = wants_line (tabled c.args.figures c.args.tags) c.args.h in
-    sym (c.loop-j.invariant.2 ∙ search-hit wanting c.args.loads c.loop-j.j (omega arith) _ c.wants_line.ensures c.if-wants_line.true)
-    ∙ cond-then _ _ c.loop-j.invariant.1
-
-pub loop-j-preserved : goal.loop-j-preserved
-loop-j-preserved c =
-    let long : length c.args.loads ≡ 8 = search rules in
-    let small : c.loop-j.j + 1 ≤ 8 = search rules in
-    let wanting = wants_line (tabled c.args.figures c.args.tags) c.args.h in
-    (small, c.loop-j.invariant.1, c.loop-j.invariant.2 ∙ search-miss wanting c.args.loads c.loop-j.j (omega arith) _ c.wants_line.ensures c.if-wants_line.false)
-
 pub returns : goal.returns
-unfolding first
 returns c =
-    let long : length c.args.loads ≡ 8 = search rules in
     let wanting = wants_line (tabled c.args.figures c.args.tags) c.args.h in
-    sym (c.loop-j.invariant.2 ∙ rw (rest-none wanting no_load c.args.loads c.loop-j.j (omega arith)))
-    ∙ cond-then _ _ c.loop-j.invariant.1
+    let room : has_room c.args.figures ≡ true = sym c.if-not-has_room.ensures.test in
+    let found = find_from_yields_List wanting _ _ c.find.result c.find.ensures.ran (YieldsList-from_copied (YieldsList-from_slice c.args.loads cc)) (λ x b q k. search (rules, tests)) in
+    c.unwrap_or.ensures ∙ rw (sym (option_map_id c.find.result) ∙ found) (find-first wanting _ c.args.loads) ∙ cond-then _ _ room

@@ -8,7 +8,4 @@ use Rattle.records.proofs.RecordLoops.{start_at}
 use Rattle.records.proofs.start_tags.Given as goal
 
 abbrev pub invariant-loop-k : goal.invariant-loop-k
-invariant-loop-k l = (l.k ≤ l.count) × (l.count ≤ 256) × (0 < l.n) × (steps_from (change (start_at l.count l.n) no_tag) 0 l.count l.initial.out ≡ steps_from (change (start_at l.count l.n) no_tag) l.k (l.count - l.k) l.out)
-
-abbrev pub decreases-loop-k : goal.decreases-loop-k
-decreases-loop-k l = l.count - l.k
+invariant-loop-k l = (l.count ≤ 256) × (0 < l.n) × (steps_from (change (start_at l.count l.n) no_tag) 0 l.count l.initial.out ≡ steps_from (change (start_at l.count l.n) no_tag) l.k (l.count - l.k) l.out)

@@ -1,32 +1,21 @@
--- `sets_allowed` meets its contract.
+-- `sets_allowed` meets its contract. By the pattern's numbers.
+use Rattle.std.proofs.Common.{rules}
 use Rattle.rules.specs.Shape.{sets_allowed}
 use Rattle.lists.proofs.Loops.{tests}
 use Rattle.rules.proofs.sets_allowed.Goals as goal
 
-pub returns-then-n-eq1 : goal.returns-then-n-eq1
+pub returns-in_default : goal.returns-in_default
 unfolding sets_allowed
-returns-then-n-eq1 c = search tests
+returns-in_default c = search (rules, tests)
 
-pub returns-then-n-eq2 : goal.returns-then-n-eq2
+pub returns-in-1 : goal.returns-in-1
 unfolding sets_allowed
-returns-then-n-eq2 c = search tests
+returns-in-1 c = search (rules, tests)
 
-pub returns-then-n-eq4 : goal.returns-then-n-eq4
+pub returns-in_default-2 : goal.returns-in_default-2
 unfolding sets_allowed
-returns-then-n-eq4 c = search tests
+returns-in_default-2 c = search (rules, tests)
 
-pub returns-then-n-eq8 : goal.returns-then-n-eq8
+pub returns-in-1-2 : goal.returns-in-1-2
 unfolding sets_allowed
-returns-then-n-eq8 c = search tests
-
-pub returns-then-n-eq16 : goal.returns-then-n-eq16
-unfolding sets_allowed
-returns-then-n-eq16 c = search tests
-
-pub returns-then-n-eq32 : goal.returns-then-n-eq32
-unfolding sets_allowed
-returns-then-n-eq32 c = search tests
-
-pub returns : goal.returns
-unfolding sets_allowed
-returns c = search tests
+returns-in-1-2 c = search (rules, tests)

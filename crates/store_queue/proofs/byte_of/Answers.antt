@@ -1,9 +1,10 @@
--- `store_queue::byte_of` meets its contract. A shift by 8 k bits divides by 256 to the power k; bytes above the fourth are 0.
-use Rattle.lists.proofs.Bytes.{byte-shifted, byte_above}
+-- `store_queue::byte_of` meets its contract.
+use Rattle.std.proofs.Common.{◌≡◌, get_or, ◌∙◌, w32, rules}
+use Rattle.std.specs.Int.{to_le_bytes}
+use Rattle.store_queue.proofs.Forwarded.{le-byte}
 use Rattle.store_queue.proofs.byte_of.Goals as goal
 
-pub returns-then-k-lt4 : goal.returns-then-k-lt4
-returns-then-k-lt4 c = byte-shifted c.args.k c.args.value
-
 pub returns : goal.returns
-returns c = byte_above 4 c.args.k c.args.value c.ranges.value.fits c.if-k-lt4.false
+returns c =
+    let x : c.unwrap_or.result ≡ get_or (to_le_bytes w32 c.args.value) c.args.k 0 = search rules in
+    x ∙ le-byte c.args.k c.args.value c.ranges.value.fits

@@ -1,22 +1,18 @@
--- `store_queue::forward` meets its contract. The byte is known where the last store that covers it is no free entry.
-use mathlib.Core.Path.{sym, ◌∙◌, ap}
-use Rattle.store_queue.specs.declared.Byte.TheVariants.{Known}
-use Rattle.store_queue.proofs.Forwarded.{cover-begins, forwarded-known, forwarded-unknown}
+-- `store_queue::forward` meets its contract. The byte is that of the last store that covers it.
+use Rattle.std.proofs.Common.{sym, ◌∙◌, ap, Some, option_map}
+use Rattle.rules.specs.Forward.{store_byte}
+use Rattle.store_queue.proofs.Forwarded.{found-begins, found-forwarded}
 use Rattle.store_queue.proofs.forward.Goals as goal
 
-pub overflow_sub-k : goal.overflow_sub-k
-overflow_sub-k c =
-    cover-begins _ c.args.a c.last_cover-s.result
-    (sym c.is_older_cover.ensures ∙ c.if-is_older_cover.true)
+pub returns-in_err-s : goal.returns-in_err-s
+returns-in_err-s c =
+    c.from_residual.ensures
+    ∙ (ap (option_map (λ s. store_byte s c.args.a)) (sym c.in_err-s.was) ∙ found-forwarded c.args.i c.args.a c.args.stores _ c.last_cover.ensures)
 
-pub returns-then-is_older_cover : goal.returns-then-is_older_cover
-returns-then-is_older_cover c =
-    ap Known c.byte_of.ensures
-    ∙ forwarded-known c.args.i c.args.a c.args.stores c.last_cover-s.result
-    c.last_cover-s.ensures
-    (sym c.is_older_cover.ensures ∙ c.if-is_older_cover.true)
+pub overflow_sub-a : goal.overflow_sub-a
+overflow_sub-a c = found-begins c.args.i c.args.a c.args.stores _ c.last_cover.ensures _ c.in_ok-s.was
 
 pub returns : goal.returns
 returns c =
-    forwarded-unknown c.args.i c.args.a c.args.stores c.last_cover-s.result
-    c.last_cover-s.ensures (sym c.is_older_cover.ensures ∙ c.if-is_older_cover.false)
+    ap Some c.byte_of.ensures
+    ∙ (ap (option_map (λ s. store_byte s c.args.a)) (sym c.in_ok-s.was) ∙ found-forwarded c.args.i c.args.a c.args.stores _ c.last_cover.ensures)

@@ -1,12 +1,7 @@
--- `store_queue::has_free_store` meets its contract. There is a free place where its place is below store_places.
-use mathlib.Core.Path.{◌≡◌}
-use lib.ListN.{length}
-use borrow.Author.Rules.{rules}
-use Rattle.lists.proofs.Loops.{found-any}
-use Rattle.rules.specs.Shape.{store_places}
+-- `store_queue::has_free_store` meets its contract. By the chain.
+use Rattle.std.proofs.Common.{rules, tests}
+use Rattle.lists.proofs.Library.{any-chain}
 use Rattle.store_queue.proofs.has_free_store.Goals as goal
 
 pub returns : goal.returns
-returns c =
-    let h : length c.args.stores ≡ store_places = search rules in
-    found-any _ c.args.stores store_places c.free_store.result h c.free_store.ensures
+returns c = any-chain _ _ _ _ c.args.stores c.iter.ensures.rest (λ x b q k. search (rules, tests)) _ c.any.ensures.ran

@@ -3,10 +3,10 @@ use Rattle.lists.proofs.Loops.{tests}
 use Rattle.rules.specs.Calls.{committed_store}
 use Rattle.store_queue.proofs.is_committed_store.Goals as goal
 
-pub returns-then-s-eq0 : goal.returns-then-s-eq0
+pub returns-then-s-ne0 : goal.returns-then-s-ne0
 unfolding committed_store
-returns-then-s-eq0 c = search tests
+returns-then-s-ne0 c = search tests
 
-pub returns : goal.returns
+pub returns-else-s-ne0 : goal.returns-else-s-ne0
 unfolding committed_store
-returns c = search tests
+returns-else-s-ne0 c = search tests

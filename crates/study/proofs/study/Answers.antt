@@ -16,4 +16,4 @@ pub returns : goal.returns
 unfolding studied scratch_after
 returns c =
     let e = sym c.study_allowed.ensures ∙ c.if-study_allowed.false in
-    (rw e, rw e)
+    (rw (e, c.number.ensures), rw e)

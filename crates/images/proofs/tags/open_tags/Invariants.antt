@@ -1,5 +1,5 @@
 -- `tags::open_tags` meets its contract. The loop: the first i entries are made.
-use Prim.Native.Nat.{◌-◌, ◌≤◌}
+use Prim.Native.Nat.{◌-◌}
 use mathlib.Core.Path.{◌≡◌}
 use Rattle.images.specs.Images.{opened_tag}
 use Rattle.rules.specs.Shape.{no_tag}
@@ -7,7 +7,4 @@ use Rattle.images.proofs.Mapped.{made}
 use Rattle.images.proofs.tags.open_tags.Given as goal
 
 abbrev pub invariant-loop-i : goal.invariant-loop-i
-invariant-loop-i l = (l.i ≤ l.end) × (l.out ≡ made opened_tag no_tag l.i (256 - l.i) l.tags)
-
-abbrev pub decreases-loop-i : goal.decreases-loop-i
-decreases-loop-i l = l.end - l.i
+invariant-loop-i l = l.out ≡ made opened_tag no_tag l.i (256 - l.i) l.tags

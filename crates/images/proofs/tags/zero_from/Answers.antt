@@ -1,22 +1,23 @@
--- `tags::zero_from` meets its contract. The answer so far and the test of the entries that are left is the whole test.
-use mathlib.Core.Path.{◌≡◌, refl, sym, ◌∙◌}
-use native.Mathlib.Omega.{arith}
-use lib.ListN.{length}
-use borrow.Author.Rules.{rules}
+-- `tags::zero_from` meets its contract.
+use Rattle.std.proofs.Common.{◌≡◌, ◌-◌, ◌∙◌, rules, tests, length, take, drop, length-drop, arith, ap}
+use Rattle.std.proofs.lemmas.Iterator.{YieldsList-from_slice}
+use Rattle.std.proofs.lemmas.Iterator.Search.{all_from_yields_List}
+use lib.Seq.{take_all}
+use Rattle.lists.proofs.Library.{every-list}
+use Rattle.lists.specs.Padded.{every}
+use Rattle.images.specs.declared.TagImage.{TagImage}
+use mathlib.Core.List.{List}
 use Rattle.images.specs.Images.{zero_image}
-use Rattle.images.proofs.Standing.{no_tag_image}
-use Rattle.images.proofs.Mapped.{every-on, every-off}
 use Rattle.images.proofs.tags.zero_from.Goals as goal
 
-pub loop-i-init : goal.loop-i-init
-loop-i-init c = (search rules, refl)
-
-pub loop-i-preserved : goal.loop-i-preserved
-loop-i-preserved c =
-    let long : length c.args.tags ≡ 256 = search rules in
-    (search rules, c.loop-i.invariant.1 ∙ every-on zero_image no_tag_image c.loop-i.zero c.args.tags c.loop-i.i (omega arith) c.zero_too-zero.ensures)
-
 pub returns : goal.returns
+unfolding zero_image
 returns c =
     let long : length c.args.tags ≡ 256 = search rules in
-    (sym (c.loop-i.invariant.1 ∙ every-off zero_image no_tag_image c.loop-i.zero c.args.tags c.loop-i.i (omega arith)), long)
+    let rest = drop c.args.n c.args.tags in
+    let whole : take (256 - c.args.n) rest ≡ rest = take_all (256 - c.args.n) rest (omega (arith, length-drop c.args.n c.args.tags)) in (
+      all_from_yields_List zero_image _ _ _ c.all.ensures.ran (YieldsList-from_slice (take (256 - c.args.n) rest) cc) (λ x b q k. search (rules, tests))
+          ∙ every-list zero_image (take (256 - c.args.n) rest)
+          ∙ ap (λ (l : List TagImage). every zero_image l) whole,
+      long,
+    )

@@ -1,6 +1,10 @@
--- `State::abort` meets its contract.
-use mathlib.Core.Path.{refl}
+-- `State::abort` meets its contract: checks 1 and 10, then the call on a well-formed state.
+use mathlib.Core.Path.{sym}
+use Rattle.model.proofs.Calls.{state-refuses, state-formed}
 use Rattle.model.proofs.State.abort.Goals as goal
 
+pub returns-in-Err : goal.returns-in-Err
+returns-in-Err c = rw c.refused.ensures (sym (state-refuses _ _ _ _ c.in-Err.ensures tt))
+
 pub returns : goal.returns
-returns c = c.read_checked.ensures refl
+returns c = c.abort_formed.ensures _ _ (state-formed _ _ c.in_default.ensures)

@@ -5,4 +5,4 @@ use Rattle.model.proofs.State.abort_accepted.Goals as goal
 
 pub returns : goal.returns
 unfolding abort_rule
-returns c cache memory = c.squash.ensures (forget_above c.args.n) cache memory c.changed-left.ensures
+returns c cache memory = c.squash.ensures (forget_above c.args.n) cache memory c.forget_above-left.ensures

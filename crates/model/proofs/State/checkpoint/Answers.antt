@@ -3,8 +3,8 @@ use mathlib.Core.Path.{sym}
 use Rattle.model.proofs.Calls.{state-refuses, state-formed}
 use Rattle.model.proofs.State.checkpoint.Goals as goal
 
-pub returns-then-k-ne0 : goal.returns-then-k-ne0
-returns-then-k-ne0 c = rw c.refused.ensures (sym (state-refuses _ _ _ _ c.state_refusal-k.ensures c.if-k-ne0.true tt))
+pub returns-in-Err : goal.returns-in-Err
+returns-in-Err c = rw c.refused.ensures (sym (state-refuses _ _ _ _ c.in-Err.ensures tt))
 
 pub returns : goal.returns
-returns c = c.checkpoint_formed.ensures _ _ (state-formed _ _ _ c.state_refusal-k.ensures c.if-k-ne0.false)
+returns c = c.checkpoint_formed.ensures _ _ (state-formed _ _ c.in_default.ensures)

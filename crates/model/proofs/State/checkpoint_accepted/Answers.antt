@@ -4,4 +4,4 @@ use Rattle.model.proofs.State.checkpoint_accepted.Goals as goal
 
 pub returns : goal.returns
 unfolding checkpoint_rule
-returns c cache memory = rw c.changed-with_mark.ensures
+returns c cache memory = rw c.add-with_mark.ensures

@@ -8,4 +8,4 @@ use Rattle.model.proofs.State.commit_accepted.Goals as goal
 
 pub returns : goal.returns
 unfolding commit_rule
-returns c = λ k m. rw (c.use_answered-used.ensures ∙ sym (cond-then _ _ (shaped-room _ _ c.requires)), c.remove_answered-rest.ensures, c.changed-left.ensures, used-each)
+returns c = λ k m. rw (c.use_answered.ensures ∙ sym (cond-then _ _ (shaped-room _ _ c.requires)), c.remove_answered.ensures, c.forget_up_to-left.ensures, used-each)

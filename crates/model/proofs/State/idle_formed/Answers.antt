@@ -9,7 +9,7 @@ use Rattle.model.proofs.Moves.{writes-known, idle-drains, idle-absent, idle-unre
 use Rattle.model.proofs.Calls.{formed-opens, none-does}
 use Rattle.model.proofs.Facts.{formed-sound, formed-shaped, shaped-room, fit-memory, oldest-fine, oldest-inside}
 use Rattle.model.proofs.State.idle_formed.Goals as goal
-use Rattle.model.proofs.State.idle_formed.Goals.{then-ready+else-can_write, else-ready}
+use Rattle.model.proofs.State.idle_formed.Goals.{else-ready-via-then-ready+else-can_write, else-ready-via-else-ready}
 
 pub drain_oldest-requires : goal.drain_oldest-requires
 drain_oldest-requires c =
@@ -40,7 +40,7 @@ idle_request-requires c =
     let memory = c.args.memory.now in
     let told = c.store_ready-ready.ensures ∙ ready_at s cache memory in
     let room = shaped-room _ _ (formed-shaped s cache memory c.requires) in
-    (formed-shaped s cache memory c.requires, refl, elim c.if-ready.branch [ then-ready+else-can_write w ↦ missing-absent s _ told (sym (writes-known s _ room w.can_write.ensures) ∙ w.if-can_write.false) | else-ready w ↦ missing-unready s _ told w.if-ready.false ])
+    (formed-shaped s cache memory c.requires, refl, elim c.else-ready.branch [ else-ready-via-then-ready+else-can_write w ↦ missing-absent s _ told (sym (writes-known s _ room w.can_write.ensures) ∙ w.if-can_write.false) | else-ready-via-else-ready w ↦ missing-unready s _ told w.if-ready.false ])
 
 pub returns : goal.returns
 unfolding line_of
@@ -50,7 +50,7 @@ returns c =
     let memory = c.args.memory.now in
     let told = c.store_ready-ready.ensures ∙ ready_at s cache memory in
     let room = shaped-room _ _ (formed-shaped s cache memory c.requires) in
-    elim c.if-ready.branch [
-      | then-ready+else-can_write w ↦ c.idle_request.ensures _ _ ∙ sym (none-does rules.idle _ _ (formed-opens rules.idle _ _ c.requires tt) refl ∙ idle-absent s cache memory (sym (writes-known s _ room w.can_write.ensures) ∙ w.if-can_write.false))
-      | else-ready w ↦ c.idle_request.ensures _ _ ∙ sym (none-does rules.idle _ _ (formed-opens rules.idle _ _ c.requires tt) refl ∙ idle-unready s cache memory (sym told ∙ w.if-ready.false))
+    elim c.else-ready.branch [
+      | else-ready-via-then-ready+else-can_write w ↦ c.idle_request.ensures _ _ ∙ sym (none-does rules.idle _ _ (formed-opens rules.idle _ _ c.requires tt) refl ∙ idle-absent s cache memory (sym (writes-known s _ room w.can_write.ensures) ∙ w.if-can_write.false))
+      | else-ready-via-else-ready w ↦ c.idle_request.ensures _ _ ∙ sym (none-does rules.idle _ _ (formed-opens rules.idle _ _ c.requires tt) refl ∙ idle-unready s cache memory (sym told ∙ w.if-ready.false))
     ]

@@ -25,21 +25,21 @@ returns-in_default c =
     let s = c.args.self in
     let b = hierarchy_of s cache memory in
     let o = formed-opens (rules.show c.args.address) _ _ formed tt in
-    let h = located b (shaped-room _ _ c.requires) _ _ c.first_slot-first.ensures _ _ c.lookup-found.ensures in
+    let h = located b (shaped-room _ _ c.requires) _ _ c.set_of-set.ensures.first _ c.set_of-set.ensures.ways _ _ c.lookup-found.ensures in
     (show-absent _ _ _ _ (none-does _ _ _ o refl) c.if-self-address.false (sym h.here ∙ no_hit c.lookup-found.result c.in_default.not-Hit), omega arith)
 
 pub overflow_add-result : goal.overflow_add-result
 overflow_add-result c =
     let s = c.args.self in
     let b = hierarchy_of s [] [] in
-    let h = located b (shaped-room _ _ c.requires) _ _ c.first_slot-first.ensures _ _ c.lookup-found.ensures in
+    let h = located b (shaped-room _ _ c.requires) _ _ c.set_of-set.ensures.first _ c.set_of-set.ensures.ways _ _ c.lookup-found.ensures in
     omega (arith, h.way _ c.in-Hit.is, h.within, h.room)
 
 pub overflow_mul-result : goal.overflow_mul-result
 overflow_mul-result c =
     let s = c.args.self in
     let b = hierarchy_of s [] [] in
-    let h = located b (shaped-room _ _ c.requires) _ _ c.first_slot-first.ensures _ _ c.lookup-found.ensures in
+    let h = located b (shaped-room _ _ c.requires) _ _ c.set_of-set.ensures.first _ c.set_of-set.ensures.ways _ _ c.lookup-found.ensures in
     omega (arith, h.way _ c.in-Hit.is, h.within, h.room)
 
 pub returns : goal.returns
@@ -49,7 +49,7 @@ returns c =
     let s = c.args.self in
     let b = hierarchy_of s cache memory in
     let o = formed-opens (rules.show c.args.address) _ _ formed tt in
-    let h = located b (shaped-room _ _ c.requires) _ _ c.first_slot-first.ensures _ _ c.lookup-found.ensures in
+    let h = located b (shaped-room _ _ c.requires) _ _ c.set_of-set.ensures.first _ c.set_of-set.ensures.ways _ _ c.lookup-found.ensures in
     let hit = c.in-Hit.is in
     let bytes = fit-cache s cache memory o.fit in
     (show-present _ _ _ _ (none-does _ _ _ o refl) _ c.if-self-address.false (sym h.here ∙ ap is_hit hit) (h.slot _ hit) (omega (arith, bytes, h.within, h.way _ hit)), omega (arith, bytes, h.within, h.way _ hit))

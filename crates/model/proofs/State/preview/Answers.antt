@@ -1,6 +1,10 @@
--- `State::preview` meets its contract.
-use mathlib.Core.Path.{refl}
+-- `State::preview` meets its contract: checks 1 and 10, then the call on a well-formed state.
+use mathlib.Core.Path.{sym}
+use Rattle.model.proofs.Calls.{state-refuses, state-formed}
 use Rattle.model.proofs.State.preview.Goals as goal
 
+pub returns-in-Err : goal.returns-in-Err
+returns-in-Err c = rw c.refused.ensures (sym (state-refuses _ _ _ _ c.in-Err.ensures tt))
+
 pub returns : goal.returns
-returns c = c.read_checked.ensures refl
+returns c = c.preview_formed.ensures _ _ (state-formed _ _ c.in_default.ensures)

@@ -13,5 +13,5 @@ returns-in_default c =
 pub returns : goal.returns
 returns c =
     λ cache memory formed.
-    previewed-state c.args.self cache memory formed _ _ c.in-Line.is c.first_slot-first.ensures c.preview_fill-told.result c.preview_fill-told.ensures
+    previewed-state c.args.self cache memory formed _ _ c.in-Line.is c.set_of-set.ensures.first _ c.set_of-set.ensures.ways c.preview_fill-told.result c.preview_fill-told.ensures
     ∙ sym (one-does _ _ _ (formed-opens _ _ _ formed tt) _ _ refl (ap is_free c.in-Line.is))

@@ -10,8 +10,8 @@ use Rattle.model.proofs.State.reply_formed.Goals as goal
 pub returns-in_default : goal.returns-in_default
 returns-in_default c = rw c.refused.ensures (sym (one-refuses _ _ _ (formed-opens _ _ _ c.requires tt) _ _ refl (ap is_free c.in_default.is)))
 
-pub fill_line-table-requires : goal.fill_line-table-requires
-fill_line-table-requires c = (formed-fillable c.args.self c.args.cache.now c.args.memory.now _ c.requires c.in-Line.is)
+pub fill_line-requires : goal.fill_line-requires
+fill_line-requires c = (formed-fillable c.args.self c.args.cache.now c.args.memory.now _ c.requires c.in-Line.is)
 
 pub overflow_mul-result : goal.overflow_mul-result
 overflow_mul-result c =
@@ -20,6 +20,5 @@ overflow_mul-result c =
 
 pub returns : goal.returns
 returns c =
-    rw c.with_request-next.ensures
-    (filled-state c.args.self c.args.cache.now c.args.memory.now _ _ _ _ c.in-Line.is c.fill_line-table.ensures
-    ∙ sym (one-does _ _ _ (formed-opens _ _ _ c.requires tt) _ _ refl (ap is_free c.in-Line.is)))
+    filled-state c.args.self c.args.cache.now c.args.memory.now _ _ _ _ c.in-Line.is c.fill_line.ensures
+    ∙ sym (one-does _ _ _ (formed-opens _ _ _ c.requires tt) _ _ refl (ap is_free c.in-Line.is))

@@ -9,4 +9,4 @@ squash-requires c = rw c.number_of-number.ensures (used-number c.args.name c.arg
 
 pub returns : goal.returns
 unfolding restore_rule
-returns c cache memory = rw (← c.number_of-number.ensures) (c.squash.ensures (forget_from c.args.name) cache memory c.changed-left.ensures)
+returns c cache memory = rw (← c.number_of-number.ensures) (c.squash.ensures (forget_from c.args.name) cache memory c.forget_from-left.ensures)

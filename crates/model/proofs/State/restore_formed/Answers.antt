@@ -9,8 +9,5 @@ returns-then-not-is_name c = λ cache memory formed. rw c.refused.ensures (sym (
 pub returns-then-not-in_use : goal.returns-then-not-in_use
 returns-then-not-in_use c = λ cache memory formed. rw c.refused-then-not-in_use.ensures (sym (return-unused _ _ _ (formed-opens _ _ _ formed tt) (sym c.is_name.ensures ∙ c.if-not-is_name.false) (sym c.in_use.ensures ∙ c.if-not-in_use.true)))
 
-pub restore_accepted-requires : goal.restore_accepted-requires
-restore_accepted-requires c = sym c.in_use.ensures ∙ c.if-not-in_use.false
-
 pub returns : goal.returns
 returns c = λ cache memory formed. c.restore_accepted.ensures _ _ ∙ sym (return-does _ _ _ (formed-opens _ _ _ formed tt) (sym c.is_name.ensures ∙ c.if-not-is_name.false) (sym c.in_use.ensures ∙ c.if-not-in_use.false))

@@ -1,6 +1,14 @@
--- `State::retry` meets its contract.
-use mathlib.Core.Path.{refl}
+-- `State::retry` meets its contract: checks 1 and 10, then the call on a well-formed state.
+use mathlib.Core.Path.{sym}
+use Rattle.model.proofs.Calls.{state-refuses, state-formed}
+use Rattle.model.proofs.Facts.{formed-sound}
 use Rattle.model.proofs.State.retry.Goals as goal
 
+pub returns-in-Err : goal.returns-in-Err
+returns-in-Err c = rw c.refused.ensures (sym (state-refuses _ _ _ _ c.in-Err.ensures tt))
+
+pub retry_formed-requires : goal.retry_formed-requires
+retry_formed-requires c = formed-sound _ _ c.args.memory.now (state-formed _ _ c.in_default.ensures)
+
 pub returns : goal.returns
-returns c = c.read_checked.ensures refl
+returns c = c.retry_formed.ensures _ (state-formed _ _ c.in_default.ensures)

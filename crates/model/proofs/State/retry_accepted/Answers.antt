@@ -4,7 +4,7 @@ use Rattle.rules.specs.Forward.{load_value, all_forwarded}
 use Rattle.rules.specs.Calls.{retry_rule, retry_with}
 use Rattle.model.specs.State.{hierarchy_of}
 use Rattle.model.specs.declared.read.Reading.{Reading}
-use Rattle.line_bytes.proofs.Reading.{lacks, whole_of}
+use Rattle.line_bytes.proofs.Reading.{lacks, loaded-of}
 use Rattle.model.proofs.Reading.{wait-read}
 use Rattle.model.proofs.State.retry_accepted.Goals as goal
 
@@ -21,5 +21,5 @@ unfolding retry_rule retry_with
 returns c =
     λ m.
     let o = load_value c.args.i c.args.l.address c.args.l.width c.args.self.stores (hierarchy_of c.args.self c.args.cache.now m) in
-    let all_read = whole_of (all_forwarded c.args.i c.args.self.stores c.args.l.address c.args.l.width) o _ _ (sym (ap (λ (r : Reading). r.read) (c.read-r.ensures m)) ∙ c.in-Whole.is) in
+    let all_read = loaded-of (all_forwarded c.args.i c.args.self.stores c.args.l.address c.args.l.width) o _ (sym (ap (λ (r : Reading). r.read) (c.read-r.ensures m)) ∙ c.in-Some.is) in
     c.answer_load.ensures _ _ m ∙ rw (← c.requires.2, all_read)

@@ -4,4 +4,4 @@ use Rattle.model.proofs.State.store_accepted.Goals as goal
 
 pub returns : goal.returns
 unfolding store_rule
-returns c = λ k m. rw c.place_store-held.ensures
+returns c = λ k m. rw c.place_store.ensures

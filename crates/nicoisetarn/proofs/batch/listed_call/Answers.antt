@@ -1,12 +1,21 @@
 -- `batch::listed_call` meets its contract: the two numbers that no call has, then the call of the others.
+use Prim.Native.Nat.{◌+◌, ◌-◌}
+use native.Mathlib.Omega.{arith}
+use lib.ListN.{drop}
 use Rattle.nicoisetarn.proofs.Batches.{listed-fifth, listed-sixth, listed-known}
 use Rattle.nicoisetarn.proofs.batch.listed_call.Goals as goal
 
-pub returns-then-calls-at-ne0 : goal.returns-then-calls-at-ne0
-returns-then-calls-at-ne0 c = listed-fifth c.args.calls.now c.args.at c.if-calls-at-ne0.true
+pub returns-in_default-2 : goal.returns-in_default-2
+returns-in_default-2 c =
+    let at = c.args.at in
+    listed-sixth (drop at c.args.calls.now) (at + 6 - at) (omega arith) (omega arith) (λ e. omega arith)
 
-pub returns-then-calls-at-ne0-2 : goal.returns-then-calls-at-ne0-2
-returns-then-calls-at-ne0-2 c = listed-sixth c.args.calls.now c.args.at c.if-calls-at-ne0.false c.if-calls-at-ne0-2.true
+pub returns-in_default-3 : goal.returns-in_default-3
+returns-in_default-3 c =
+    let at = c.args.at in
+    listed-fifth (drop at c.args.calls.now) (at + 6 - at) (omega arith) (λ e. omega arith)
 
 pub returns : goal.returns
-returns c = listed-known c.args.calls.now c.args.at c.if-calls-at-ne0.false c.if-calls-at-ne0-2.false _ c.call_numbered.ensures
+returns c =
+    let at = c.args.at in
+    listed-known (drop at c.args.calls.now) (at + 6 - at) (omega arith) (omega arith) (omega arith) _ c.call_numbered.ensures

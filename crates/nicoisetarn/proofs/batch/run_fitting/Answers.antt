@@ -39,4 +39,4 @@ returns c =
           (sym w.is_formed.ensures ∙ w.if-is_formed.false)
       | else-stands w ↦ no-state-unformed c.args.image cache memory (stands-is ∙ w.if-stands.false)
     ] in
-    batch-refused calls answers c.args.image cache memory c.requires bad _ c.image_refusal-k.ensures _ c.refuse_calls.ensures _ c.coded-2.ensures refl
+    batch-refused calls answers c.args.image cache memory c.requires bad _ c.image_refusal-refusal.ensures _ c.refuse_calls.ensures _ c.coded-2.ensures refl

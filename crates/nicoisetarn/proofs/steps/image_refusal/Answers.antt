@@ -23,5 +23,5 @@ module _ (i : Image) (cache memory : List ℕ) (f : Figures) (o : f ≡ figures_
 pub returns-then-is_fit : goal.returns-then-is_fit
 returns-then-is_fit c = fitting _ _ _ _ c.figures_with-figures.ensures _ c.is_fit.ensures c.if-is_fit.true
 
-pub returns : goal.returns
-returns c = unfitting _ _ _ _ c.figures_with-figures.ensures _ c.is_fit.ensures c.if-is_fit.false
+pub returns-else-is_fit : goal.returns-else-is_fit
+returns-else-is_fit c = unfitting _ _ _ _ c.figures_with-figures.ensures _ c.is_fit.ensures c.if-is_fit.false

@@ -7,4 +7,4 @@ pub returns-then-is_profile : goal.returns-then-is_profile
 returns-then-is_profile c = start-known _ _ _ _ _ _ _ c.is_profile.ensures c.if-is_profile.true _ c.figures_with-figures.ensures _ c.start_figures.ensures
 
 pub returns : goal.returns
-returns c = start-unknown _ _ _ _ _ _ _ c.is_profile.ensures c.if-is_profile.false _ c.coded.ensures refl
+returns c = start-unknown _ _ _ _ _ _ _ c.is_profile.ensures c.if-is_profile.false _ refl refl

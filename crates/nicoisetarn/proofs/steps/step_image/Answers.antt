@@ -10,13 +10,13 @@ step_state-requires c =
     (sym used ∙ sym c.stands.ensures ∙ c.if-stands.true, c.used_records-used.ensures)
 
 pub returns-then-stands : goal.returns-then-stands
-returns-then-stands c = known-stepped _ _ _ _ _ _ _ _ c.call_numbered-numbered.ensures _ c.in-Known.is _ c.step_state.ensures
+returns-then-stands c = known-stepped _ _ _ _ _ _ _ _ c.call_numbered.ensures _ c.in-Some.is _ c.step_state.ensures
 
-pub returns-else-stands : goal.returns-else-stands
-returns-else-stands c =
+pub returns : goal.returns
+returns c =
     let used = used-stands _ _ c.used_records-used.ensures in
-    known-stepped _ _ _ _ _ _ _ _ c.call_numbered-numbered.ensures _ c.in-Known.is _
-    (image-refused _ _ _ _ (sym used ∙ sym c.stands.ensures ∙ c.if-stands.false) _ c.image_refusal-k.ensures _ c.refused_with.ensures refl)
+    known-stepped _ _ _ _ _ _ _ _ c.call_numbered.ensures _ c.in-Some.is _
+    (image-refused _ _ _ _ (sym used ∙ sym c.stands.ensures ∙ c.if-stands.false) _ c.image_refusal.ensures _ c.refused_with.ensures refl)
 
-pub returns-in-Unknown : goal.returns-in-Unknown
-returns-in-Unknown c = unknown-stepped _ _ _ _ _ _ _ _ c.call_numbered-numbered.ensures c.in-Unknown.is _ c.coded.ensures refl
+pub returns-in_default : goal.returns-in_default
+returns-in_default c = unknown-stepped _ _ _ _ _ _ _ _ c.call_numbered.ensures c.in_default.is _ refl refl

@@ -10,11 +10,11 @@ use Rattle.script_play.proofs.Player.end.Goals as goal
 
 pub returns-then-self-eq0 : goal.returns-then-self-eq0
 returns-then-self-eq0 c =
-    let l : length c.args.self.line ≡ held_bytes = search (rules, length-of) in
+    let l : length c.args.self.line.bytes ≡ held_bytes = search (rules, length-of) in
     ends-empty c.args.self c.args.at c.args.out.now l c.if-self-eq0.true
 
 pub returns : goal.returns
 unfolding answer_line
 returns c =
-    let l : length c.args.self.line ≡ held_bytes = search (rules, length-of) in
-    ends-refused c.args.self c.args.at c.args.out.now l c.if-self-eq0.false c.write_answer.ensures
+    let l : length c.args.self.line.bytes ≡ held_bytes = search (rules, length-of) in
+    ends-refused c.args.self c.args.at c.args.out.now l c.if-self-eq0.false (rw c.number.ensures at c.write_answer.ensures)

@@ -1,13 +1,10 @@
 -- `cache_used` meets its contract.
 use native.Mathlib.Omega.{arith}
-use Rattle.script_play.proofs.LinePlays.{cache-fits, many-sets, many-ways, slots-room}
+use Rattle.script_play.proofs.LinePlays.{cache-fits, too-many, slots-room}
 use Rattle.script_play.proofs.line.cache_used.Goals as goal
 
 pub returns-then-figures-gt-MAX_SETS : goal.returns-then-figures-gt-MAX_SETS
-returns-then-figures-gt-MAX_SETS c = (many-sets _ c.if-figures-gt-MAX_SETS.true, omega arith)
-
-pub returns-then-figures-gt-MAX_WAYS : goal.returns-then-figures-gt-MAX_WAYS
-returns-then-figures-gt-MAX_WAYS c = (many-ways _ c.if-figures-gt-MAX_SETS.false c.if-figures-gt-MAX_WAYS.true, omega arith)
+returns-then-figures-gt-MAX_SETS c = (too-many _ c.then-figures-gt-MAX_SETS.either, omega arith)
 
 pub overflow_mul-result : goal.overflow_mul-result
 overflow_mul-result c = omega (arith, slots-room c.args.figures (omega arith) (omega arith))

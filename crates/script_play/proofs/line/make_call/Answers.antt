@@ -2,17 +2,10 @@
 use Prim.Native.Nat.{◌≤◌}
 use lib.ListN.{length}
 use lib.Seq.{length-take-le}
-use mathlib.Core.Path.{sym, ◌∙◌}
+use mathlib.Core.Path.{◌∙◌}
 use native.Mathlib.Omega.{arith}
 use Rattle.script_play.proofs.LinePlays.{made}
-use borrow.Author.Rules.{rules}
 use Rattle.script_play.proofs.line.make_call.Goals as goal
-
-pub slice_bounds-step-end-2 : goal.slice_bounds-step-end-2
-slice_bounds-step-end-2 c = sym (length-take-le _ _ (search rules))
-
-pub slice_bounds-step-end-4 : goal.slice_bounds-step-end-4
-slice_bounds-step-end-4 c = sym (length-take-le _ _ (search rules))
 
 pub returns : goal.returns
 returns c =

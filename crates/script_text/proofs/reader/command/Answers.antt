@@ -1,21 +1,41 @@
 -- `command` meets its contract.
-use Rattle.script_text.specs.Reader.{named_by, space_read}
 use native.Mathlib.Omega.{arith}
-use mathlib.Core.Path.{◌∙◌, ap}
+use mathlib.Core.Path.{◌≡◌, refl, sym, ◌∙◌, ap}
+use lib.ListN.{get_or}
+use Rattle.std.proofs.Common.{rules}
+use Rattle.script.specs.Commands.{space}
+use Rattle.script_text.specs.Reader.{asked_of}
 use Rattle.script_text.proofs.Scanning.{line-long, line-empty, line-one, line-joined, line-spaced}
 use Rattle.script_text.proofs.reader.command.Goals as goal
 
 pub returns-then-line-gt-LONGEST_LINE : goal.returns-then-line-gt-LONGEST_LINE
 returns-then-line-gt-LONGEST_LINE c = line-long _ c.if-line-gt-LONGEST_LINE.true
 
-pub returns-then-line-eq0 : goal.returns-then-line-eq0
-returns-then-line-eq0 c = line-empty _ c.if-line-eq0.true
+pub returns-in_err-scan_all-in-32 : goal.returns-in_err-scan_all-in-32
+returns-in_err-scan_all-in-32 c =
+    let h : get_or c.args.line.now 1 0 ≡ space = search rules in
+    ap asked_of c.from_residual.ensures
+    ∙ line-spaced _ c.if-line-gt-LONGEST_LINE.false c.in-32.len_at_least h (sym (c.in_err-scan_all-in-32.was) ∙ c.scan_all.ensures) refl
 
-pub returns-then-line-eq1 : goal.returns-then-line-eq1
-returns-then-line-eq1 c = c.with_none.ensures ∙ line-one _ c.if-line-gt-LONGEST_LINE.false c.if-line-eq1.true
+pub returns-in_err-read_space-in-32 : goal.returns-in_err-read_space-in-32
+returns-in_err-read_space-in-32 c =
+    let h : get_or c.args.line.now 1 0 ≡ space = search rules in
+    ap asked_of c.from_residual-in_err-read_space-in-32.ensures
+    ∙ line-spaced _ c.if-line-gt-LONGEST_LINE.false c.in-32.len_at_least h (sym (c.in_ok-scan_all-in-32.was) ∙ c.scan_all.ensures)
+    (sym (c.in_err-read_space-in-32.was) ∙ c.read_space.ensures)
 
-pub returns-then-line-ne-SPACE : goal.returns-then-line-ne-SPACE
-returns-then-line-ne-SPACE c = line-joined _ c.if-line-gt-LONGEST_LINE.false (omega arith) c.if-line-ne-SPACE.true
+pub returns-in-len1 : goal.returns-in-len1
+returns-in-len1 c = grind (arith, line-one)
 
-pub returns : goal.returns
-returns c = c.named.ensures ∙ ap (named_by _) (c.read_space-whole.ensures ∙ ap space_read c.scan_from-s.ensures) ∙ line-spaced _ c.if-line-gt-LONGEST_LINE.false (omega arith) c.if-line-ne-SPACE.false
+pub returns-in_ok-read_space-in-32 : goal.returns-in_ok-read_space-in-32
+returns-in_ok-read_space-in-32 c =
+    let h : get_or c.args.line.now 1 0 ≡ space = search rules in
+    c.named-in-32.ensures
+    ∙ line-spaced _ c.if-line-gt-LONGEST_LINE.false c.in-32.len_at_least h (sym (c.in_ok-scan_all-in-32.was) ∙ c.scan_all.ensures)
+    (sym (c.in_ok-read_space-in-32.was) ∙ c.read_space.ensures)
+
+pub returns-in_default : goal.returns-in_default
+returns-in_default c = grind (arith, line-empty)
+
+pub returns-in_default-2 : goal.returns-in_default-2
+returns-in_default-2 c = grind (arith, line-joined)
