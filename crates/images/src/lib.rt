@@ -76,7 +76,7 @@ pub struct Image {
     pub tags: [TagImage; TAG_RECORDS],
 }
 
-// ---- from an image to a state
+// ---- from an image to a state, and back: field by field, since the types differ (so with a load and a record)
 
 // How many records need a look: those that the figures ask for, if all others are zero.
 #[tactic(auto, unfolding(crate::specs::Images::used_records, crate::specs::Images::used_of))]

@@ -92,7 +92,7 @@ impl From<Tag> for TagImage {
     }
 }
 
-// (`tags.map(..)` took 1.5 microseconds more in a call, of 0.7 and more.)
+// (`tags.map(..)` took 1.5 microseconds more in a call that takes 0.7 and more.)
 pub(crate) fn image_tags(tags: [Tag; TAG_RECORDS]) -> [TagImage; TAG_RECORDS]
     ensures { result ≡ map imaged_tag tags }
 {

@@ -1,4 +1,4 @@
--- Laws for what a load reads: a value joined from its bytes, the highest first; a byte from the held stores, else from the line.
+-- Laws for what a load reads: a value joined from its bytes, the lowest first; a byte from the held stores, else from the line.
 use Rattle.std.proofs.Common.{ℕ, zero, suc, ◌+◌, ◌*◌, ◌-◌, ◌^◌, ◌<◌, ◌≤◌, ◌≡◌, refl, sym, ◌∙◌, ap, ap₂, Bool, true, false, cond, not, ◌&&◌, leb, List, [], ◌∷◌, length, get_or, set, Option, Some, None, option_map, is_some, MatchOption, w32, arith}
 use Rattle.std.proofs.Math.Option as math
 use Rattle.std.specs.Int.{from_le_bytes}

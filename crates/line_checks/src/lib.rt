@@ -37,8 +37,8 @@ pub fn is_fit(figures: Figures, size: u32, cache: &[u8], memory: &[u8]) -> bool
         && cache.len() == ((figures.sets * figures.ways) as usize) * LINE_LENGTH
 }
 
-// ---- a record and the 16 bytes of its slot, `line`; `home` are those of its line in memory. (That there are sets, four functions ask; a
-// type for such figures would be made for them alone.)
+// ---- a record and the 16 bytes of its slot, `line`; `home` are those of its line in memory. (That there are sets, four functions ask: a type
+// for figures with sets would be made and opened for this one remainder. Figures, cache and memory are arguments of the definitions too.)
 
 // With write-through no line is dirty.
 fn allows_dirty(policy: WritePolicy) -> bool
@@ -110,7 +110,7 @@ fn record_good(
 
 // ---- the records of a set
 
-// The records have the same age, or are valid with the same line.
+// The records have the same age, or are valid with the same line. (No derived comparison: it is of some fields.)
 fn alike(u: Tag, t: Tag) -> bool
     ensures { result ≡ same_age_or_line u t }
 {

@@ -4,7 +4,7 @@ use mathlib.Core.Path.{◌≡◌, refl, sym, ◌∙◌, ap, ap₂}
 use mathlib.Core.Bool.{Bool, true, false, cond, not}
 use mathlib.Core.List.{List}
 use mathlib.Core.Option.{Option, some, none}
-use native.Mathlib.Nat.{pow-suc, pow-succ', pow-le-pow_right, div-div-eq-div-mul, div-eq_of_lt}
+use native.Mathlib.Nat.{pow-suc, pow-succ', pow-le-pow_right, div-div-eq-div-mul, div-one, div-eq_of_lt}
 use native.Mathlib.Omega.{arith}
 use lib.Dec.{ltb, leb, eqb}
 use lib.ListN.{length, get_or, length-set}
@@ -89,6 +89,18 @@ bytes-value (suc w) c a v m h l =
         let p : a + suc k ≡ suc a + k = omega arith in
         let q : c + suc k ≡ suc c + k = omega arith in
         rw (p, q) at (f (suc k) (omega arith))
+
+pub put-value : (w a v : ℕ) (m : List ℕ) → a + w ≤ length m → v < 256 ^ w → value_at (put w a v m) a w ≡ v
+put-value w a v m inside small = bytes-value w 0 a v (put w a v m) stands (omega (arith, whole)) ∙ whole
+  where
+    whole : v / 256 ^ 0 ≡ v
+    whole = div-one v
+
+    stands : (k : ℕ) → k < w → get_or (put w a v m) (a + k) 0 ≡ byte_of (0 + k) v
+    stands k lt =
+        let p : (a + k) - a ≡ 0 + k = omega arith in
+        put_byte w a v m (a + k) (omega arith)
+        ∙ rw (and_both (leb a (a + k)) (ltb (a + k) (a + w)) (le-leb a (a + k) (omega arith)) (lt-ltb (a + k) (a + w) (omega arith)), p)
 
 -- ---- bytes by a shift, and covered places by a difference
 

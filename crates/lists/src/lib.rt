@@ -21,7 +21,7 @@ pub fn placed<T: Copy, const N: usize, F: Fn(T) -> bool>(
     next
 }
 
-// The entries that pass the test are taken out, the others move up, and free places follow.
+// The entries that pass the test are taken out, the others move up, and free places follow. (`to` is counted by hand: how many were kept.)
 pub fn without<T: Copy, const N: usize, F: Fn(T) -> bool>(
     places: [T; N],
     free: T,

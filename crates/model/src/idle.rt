@@ -77,7 +77,8 @@ impl State {
         }
     }
 
-    // (b), (c) and (d): what follows where nothing drains. Whether the oldest store's line is to be requested, and its address, are told.
+    // (b), (c) and (d): what follows where nothing drains. Whether the oldest store's line is to be requested, and its address, are told. (No
+    // Option: the oldest store has an address either way, of which the contract speaks.)
     fn idle_request(self, missing: bool, address: u32) -> Step
         requires { Shaped self (self.figures.sets * self.figures.ways * 16) × (address ≡ (oldest_store (queues_of self)).address) × (missing ≡ store_needs_line (queues_of self) (tabled self.figures self.tags)) }
         ensures { (c m : List ℕ) → outcome_of result c m ≡ idle_request (queues_of self) (hierarchy_of self c m) }

@@ -1,8 +1,9 @@
 // The load/store unit: its state by value, and its calls as methods.
 // Each call takes any state, buffers of any length and numbers of any size, refuses what is bad by the paper's number and then
 // changes nothing. `answer_of` in specs/State.antt gives the paper's number and values for each answer.
-// (Each call's method tests the state and then makes its step, in the same lines: one function for them would take the step as a closure, and
-// promise of the closure what each method now promises plainly.)
+// (A method of a call that leaves the lent bytes alone tests the state and then makes its step, in the same lines: one function for them would
+// take the step as a closure, and promise of the closure what each method promises plainly. The others go through `step`. Cache and memory
+// are two parameters of each, as 01 lends them.)
 #![tactic(auto)]
 
 use records::Preview;
@@ -29,7 +30,8 @@ mod steps;
 mod store;
 
 // The state. A free place of a list and an unused record are all zero. (It has no invariant: every call takes any state. What holds of a
-// well-formed one is said by the words `Shaped`, `Sound` and `Formed` where a private function asks for it.)
+// well-formed one, with its cache and memory, is said by the words `Shaped`, `Sound` and `Formed` where a private function asks for it: a
+// type of its own would hold the lent bytes too, and be opened and closed around each step.)
 #[derive(Clone, Copy, PartialEq, Eq)]
 pub struct State {
     // sets and ways
@@ -51,7 +53,8 @@ pub struct State {
     pub tags: [Tag; TAG_RECORDS],
 }
 
-// What a start hands back: ready or its refusal, and the state, which is all zero after a refusal.
+// What a start hands back: ready or its refusal, and the state, which is all zero after a refusal. (The state is not in the Result: `Starts` says
+// what it is after a refusal too.)
 #[derive(Clone, Copy, PartialEq, Eq)]
 pub struct Started {
     pub answer: Result<(), Refusal>,

@@ -10,13 +10,14 @@ use access::Access;
 use rules::{LoadEntry, Refusal, TOP_NUMBER};
 
 impl State {
-    // "Load takes last + 1 and joins the loads."
+    // "Load takes last + 1 and joins the loads." (That there is a next number, three calls ask of the state right behind their check.)
     fn load_accepted(self, cache: &[u8], a: Access) -> Step
         requires { Shaped self (length cache.now) × InOneLine a.address a.width × (self.last < top_number) }
         ensures { (m : List ℕ) → outcome_of result cache.now m ≡ load_rule a.address a.width (queues_of self) (hierarchy_of self cache.now m) }
     {
         let i = self.last + 1;
         let r = self.read(cache, i, a.address, a.width);
+        // (field by field: an access has less than an entry)
         let entry = LoadEntry {
             number: i,
             address: a.address,

@@ -22,25 +22,26 @@ impl State {
         self.refused(why)
     }
 
-    // Any call of a run on a state that is known to be well formed: checks 1 and 10 are not made. Of all public routines this one alone
+    // Any call of a run on a state that is known to be well formed: checks 1 and 10 are not made. Of all public calls this one alone
     // asks something of its caller: to have tested the state once (`is_formed`), since when every call has kept it well formed.
     pub fn step_formed(self, call: Call, cache: &mut [u8], memory: &mut [u8]) -> Step
         requires { Formed self cache.old memory.old }
         ensures { Does (call_of call) (world_of self cache.old memory.old) result cache.new memory.new }
     {
+        // (Each arm returns: as the match's value a step of 2 KB is copied once more, a tenth of a call.)
         match call {
-            Call::Load(address, width) => self.load_formed(cache, address, width),
-            Call::Store(address, width, value) => self.store_formed(address, width, value),
-            Call::Retry(i) => self.retry_formed(cache, i),
-            Call::Commit(k) => self.commit_formed(k),
-            Call::Abort(n) => self.abort_formed(n),
-            Call::Idle => self.idle_formed(cache, memory),
-            Call::Reply => self.reply_formed(cache, memory),
-            Call::Flush => self.flush_formed(cache, memory),
-            Call::Show(address) => self.show_formed(address),
-            Call::Checkpoint(name) => self.checkpoint_formed(name),
-            Call::Restore(name) => self.restore_formed(name),
-            Call::Preview => self.preview_formed(),
+            Call::Load(address, width) => return self.load_formed(cache, address, width),
+            Call::Store(address, width, value) => return self.store_formed(address, width, value),
+            Call::Retry(i) => return self.retry_formed(cache, i),
+            Call::Commit(k) => return self.commit_formed(k),
+            Call::Abort(n) => return self.abort_formed(n),
+            Call::Idle => return self.idle_formed(cache, memory),
+            Call::Reply => return self.reply_formed(cache, memory),
+            Call::Flush => return self.flush_formed(cache, memory),
+            Call::Show(address) => return self.show_formed(address),
+            Call::Checkpoint(name) => return self.checkpoint_formed(name),
+            Call::Restore(name) => return self.restore_formed(name),
+            Call::Preview => return self.preview_formed(),
         }
     }
 

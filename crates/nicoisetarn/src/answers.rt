@@ -60,7 +60,7 @@ pub(crate) const NO_SUCH_CALL: AnswerImage = AnswerImage {
     fifth: 0,
 };
 
-// A preview by its five numbers.
+// A preview by its five numbers, for C.
 fn coded_preview(p: Preview) -> AnswerImage
     ensures { result ≡ coded_preview (preview_given p) }
 {
@@ -74,7 +74,7 @@ fn coded_preview(p: Preview) -> AnswerImage
     }
 }
 
-// The image of an answer. A part of the cache goes by its place and its length, which have 32 bits.
+// The image of an answer. A part of the cache goes by its place and its length, which have 32 bits. (No `From`: it asks that they are small.)
 pub(crate) fn answer_image(a: Answer) -> AnswerImage
     requires { PartSmall (answer_of a []) }
     ensures { result ≡ imaged_answer (answer_of a []) }

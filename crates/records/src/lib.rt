@@ -1,5 +1,6 @@
 // The table of tag records, by value: the tag lookup, use, the victim, what a fill will do, and the changes of a record.
 // A record is named by its slot, s × ways + w for way w of set s; a set's records stand from its first slot on.
+// (The table and the figures are two parameters, as they are two fields of the state.)
 // A public function takes any table and any places. Where the places it is given do not lie in the table, it answers slot 0, a miss or an empty preview, or
 // leaves the records as they are; else its answer is a definition of the rules, or one of specs/Records that says the same of a set's slots.
 #![tactic(auto)]
@@ -128,7 +129,7 @@ pub fn is_present(tags: [Tag; TAG_RECORDS], figures: Figures, line: u32) -> bool
 
 // ---- use
 
-// A record of the set in which a slot is used, whose age was age: that of the slot used, or of another.
+// A record of a set in which a slot is used: that of the slot, or another; `age` is what the slot's age was.
 fn aged(t: Tag, used: bool, age: u8) -> Tag
     ensures { result ≡ cond used (with_age 0 t) (cond (ltb t.age age) (with_age (t.age + 1) t) t) }
 {

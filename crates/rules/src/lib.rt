@@ -1,5 +1,5 @@
-// The declared types of the load/store model: figures, a tag record, an entry of each queue, a checkpoint, the miss register, and what
-// the tag lookup answers; the numbers that every crate names, and the test of a set count. The rules over them stand in specs/, and what is
+// The declared types of the load/store model: figures, a tag record, an entry of each queue, a checkpoint, the miss register, what the tag
+// lookup answers, and the refusals; the numbers that every crate names, and the test of a set count. The rules over them stand in specs/, and what is
 // claimed of the rules is promised here by functions that do nothing.
 #![tactic(auto)]
 
@@ -23,8 +23,8 @@ pub enum WritePolicy {
     WriteThrough,
 }
 
-// A tag record: one way of one set. (Memory has at most 4,096 lines, and an age is at most 3. `valid` is no Option around the others: 01 says of
-// an invalid record that it "is zero but for its age".)
+// A tag record: one way of one set. (Memory has at most 4,096 lines, and an age is at most 3. `valid` is no Option around the others: a
+// call must take, and refuse with 10, an invalid record that is not "zero but for its age".)
 #[derive(Clone, Copy, PartialEq, Eq)]
 pub struct Tag {
     pub valid: bool,
@@ -34,7 +34,7 @@ pub struct Tag {
     pub age: u8,
 }
 
-// An entry of the store queue (01: a held store). A free place is all zero.
+// An entry of the store queue (01: a held store). A free place is all zero. (Laid out as in C, like a checkpoint.)
 #[repr(C)]
 #[derive(Clone, Copy, PartialEq, Eq)]
 pub struct StoreEntry {
@@ -182,7 +182,7 @@ impl Refusal {
     }
 }
 
-// ---- free places, unused records: "all zero" (so that 01 has it; no place is an Option)
+// ---- free places, unused records: "all zero" (as 01 has it; no place is an Option)
 
 pub const NO_STORE: StoreEntry = StoreEntry {
     number: 0,

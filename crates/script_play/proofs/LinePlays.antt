@@ -8,10 +8,11 @@ use mathlib.Core.Option.{Option, some, none}
 use native.Mathlib.Nat.{mul-le-mul}
 use native.Mathlib.Omega.{arith}
 use lib.Dec.{leb, eqb}
-use lib.ListN.{length, take, drop, replicate, length-replicate, take-append-drop}
+use lib.ListN.{length, take, drop, replicate, length-append, length-drop, length-replicate, take-append-drop}
 use lib.Seq.{sets, sets-eq, take_at, length-take-le}
 use borrow.Author.Tests.{ne_eqb, le-leb, lt-leb, leb-true, leb-false}
-use Rattle.std.specs.Prelude.{Some, None}
+use Rattle.std.specs.Bool.{then_some}
+use Rattle.std.specs.Prelude.{Some, None, is_some, unwrap_or}
 use Rattle.std.specs.Prelude as code
 use Rattle.lists.proofs.Cond.{cases, either, and_left, and_right, wrong}
 use Rattle.rules.specs.declared.Figures.{Figures}
@@ -84,11 +85,19 @@ module _ (front whole : List ℕ) (n : ℕ) (len : length front ≡ n) (fits : n
   front-taken : take n (front ++ drop n whole) ≡ front
   front-taken = take_at front (drop n whole) n len
 
+  pub front_length : length (front ++ drop n whole) ≡ length whole
+  front_length = simp (length-append, length-drop) (omega arith)
+
 -- the front of a buffer laid where it stands
 laid-self : (n : ℕ) (l : List ℕ) → n ≤ length l → l ≡ sets l 0 (take n l)
 laid-self n l h = sym (take-append-drop n l) ∙ front-laid (take n l) l n (length-take-le n l h) h
 
 -- ---- what stands at the front is the run
+
+-- a run as a flag and a state
+pub same-run : (run : code.Option State) (d : State) → then_some (is_some run) (unwrap_or run d) ≡ run
+same-run None d = refl
+same-run (Some s) d = refl
 
 module _
     (s : State) (w : World) (cache memory cache' memory' : List ℕ) (c m : ℕ) (is : world_of s cache' memory' ≡ w)
@@ -122,6 +131,12 @@ effect-plays c before after e is run lent wrote =
       lent-after = lent ∙ ap (λ (x : script.Effect). laid_in x.run before.lent) (sym is);
       wrote = subst (λ (l : List ℕ). Wrote before.at l before.out after.out after.at) (ap (λ (x : script.Effect). x.says) (sym is)) wrote;
     }
+
+-- the same line, where it and the run after it have other names
+pub line-met :
+    {before : RunAt} {c c' : Option Command} {run run' : code.Option State} {cache memory out : List ℕ} {at : ℕ}
+    → c ≡ c' → run' ≡ run → PlaysCommand c' before (run_at run' cache memory out at) → PlaysCommand c before (run_at run cache memory out at)
+line-met e f p = rw (e, ← f) p
 
 -- ---- a call
 

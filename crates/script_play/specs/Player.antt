@@ -20,7 +20,6 @@ use Rattle.script.specs.Words.{answer_line}
 use Rattle.script_text.specs.Written.{Wrote, line_room}
 use Rattle.script_play.specs.declared.Player.{Player}
 use Rattle.script_play.specs.declared.Played.{Played}
-use Rattle.script_play.specs.declared.line.AfterLine.{AfterLine}
 use Rattle.script_play.specs.declared.HeldLine.{HeldLine}
 
 -- ---- figures
@@ -98,10 +97,6 @@ pub record RunAt : Type 0 where
 abbrev pub run_at : code.Option State → List ℕ → List ℕ → List ℕ → ℕ → RunAt
 run_at run cache memory out at =
     record { run = run_of run cache memory; lent = lent_of cache memory; out = out; at = at }
-
--- what a line left
-abbrev pub after_line : AfterLine → List ℕ → List ℕ → List ℕ → RunAt
-after_line r cache memory out = run_at r.run cache memory out r.at
 
 -- a player with what it plays on
 pub record PlayerAt : Type 0 where

@@ -1,18 +1,20 @@
 // What a line of a script asks for: a start or a call on the run, at the front of the lent bytes. (`LINE_LENGTH` is of a cache line.)
-ghost use Rattle.std.specs.Prelude.{◌≡◌, ◌+◌, ◌≤◌, length, Some};
+ghost use Rattle.std.specs.Prelude.{◌≡◌, ◌+◌, ◌≤◌, length, Some, Option};
+ghost use Rattle.std.specs.Option.{option_or};
+ghost use Rattle.model.specs.declared.State.{State};
 ghost use Rattle.std.proofs.Math.Option.{some};
 ghost use Rattle.rules.specs.RefusalNumbers.{refusal_number};
 ghost use Rattle.model.specs.State.{call_of};
 ghost use Rattle.script.specs.Commands.{start};
 ghost use Rattle.script.specs.Words.{refused_line};
 ghost use Rattle.script_text.specs.Written.{Wrote, line_room};
-ghost use Rattle.script_play.specs.Player.{largest_cache, largest_memory, cache_used, memory_used, run_of, run_formed, lent_of, run_at, after_line, RoomForLine, PlaysCommand, MakesCall};
+ghost use Rattle.script_play.specs.Player.{largest_cache, largest_memory, cache_used, memory_used, run_of, run_formed, lent_of, run_at, RoomForLine, PlaysCommand, MakesCall};
 
 use model::{Answer, Call, State, Step};
 use rules::{Figures, LINE_LENGTH, MAX_MEMORY, MAX_SETS, MAX_WAYS, Refusal};
 use script_text::writer;
 
-// The run after a start, and where the output ends.
+// The run that a start begins, where it is accepted, and where the output ends.
 #[derive(Clone, Copy)]
 pub struct AfterLine {
     pub run: Option<State>,
@@ -40,7 +42,8 @@ pub(crate) fn memory_used(size: u32) -> usize
     length
 }
 
-// Whether the run, if there is one, is well formed: tested once for a chunk, since every line keeps it so.
+// Whether the run, if there is one, is well formed: tested once for a chunk, since every line keeps it so. (That the lent bytes are long
+// enough, `is_roomy` tests once for the three functions that ask it.)
 pub(crate) fn run_formed(run: Option<State>, cache: &[u8], memory: &[u8]) -> bool
     requires { (largest_cache ≤ length cache.now) × (largest_memory ≤ length memory.now) }
     ensures { result ≡ run_formed (run_of run cache.now memory.now) }
@@ -72,7 +75,6 @@ pub(crate) fn refuse_line(refusal: Refusal, out: &mut [u8], at: usize) -> usize
 
 // A start, with memory zeroed where it is accepted; a refused one leaves the run as it was.
 pub(crate) fn play_start(
-    run: Option<State>,
     figures: Figures,
     size: u32,
     cache: &mut [u8],
@@ -81,9 +83,9 @@ pub(crate) fn play_start(
     at: usize,
 ) -> AfterLine
     requires { RoomForLine cache.old memory.old out.old at }
-    ensures { PlaysCommand (some (start figures size))
+    ensures { (run : Option State) → PlaysCommand (some (start figures size))
         (run_at run cache.old memory.old out.old at)
-        (after_line result cache.new memory.new out.new) }
+        (run_at (option_or result.run run) cache.new memory.new out.new result.at) }
 {
     let c = cache_used(figures);
     let m = memory_used(size);
@@ -97,7 +99,7 @@ pub(crate) fn play_start(
             }
         }
         Err(why) => AfterLine {
-            run,
+            run: None,
             at: writer::write_answer(out, at, Answer::Refused(why.number())),
         },
     }

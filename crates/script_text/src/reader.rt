@@ -17,7 +17,7 @@ const LAST_DIGIT: u8 = b'9';
 // the most numbers that a line has
 const MOST_NUMBERS: u32 = 3;
 
-// The numbers of a line so far.
+// The numbers of a line so far. (Three by name, no list: a command names them.)
 #[derive(Clone, Copy)]
 pub struct Scan {
     // how many numbers are whole, and the last three of them

@@ -1,5 +1,5 @@
 // The line that answers, written into a lent buffer. (A buffer and a place in it go to each function, and the place behind comes back, as the
-// public ones promise it: a cursor would be made of the two and taken apart again at each of them.)
+// public ones promise it: a cursor would be made of the two and taken apart again at each of them. That a line has room, they test once.)
 ghost use Rattle.std.specs.Prelude.{◌≡◌, [], ◌∷◌, ◌+◌, ◌≤◌, ◌<◌, leb, length};
 ghost use Rattle.script.specs.Commands.{space};
 ghost use Rattle.script.specs.Words.{printed, said, value_word, answer_line, ready_line};

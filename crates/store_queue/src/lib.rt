@@ -1,5 +1,6 @@
 // The store queue (01: the held stores), by value, and what it forwards to a load.
 // A public function takes any queue, well formed or not, and its answer is a definition of the rules.
+// (The load queue has some in the same words, one line each over `lists` and the library. Of a load its number and an address go together.)
 #![tactic(auto)]
 
 ghost use Rattle.std.specs.Prelude.{◌≡◌, reverse, find};

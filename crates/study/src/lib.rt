@@ -24,7 +24,7 @@ pub const LINE_LIMIT: u32 = 4096;
 pub const SCRATCH_SIZE: usize = 640;
 
 // What a study gives: the number of the refusal, 0 where it is accepted; the hits and the rates per thousand with 1, 2, 3 and 4 ways,
-// zeros where it is refused. (No `Result`: the C interface returns it by value.)
+// zeros where it is refused. (No `Result`, and two lists side by side: the C interface returns it by value.)
 #[repr(C)]
 #[derive(Clone, Copy)]
 pub struct StudyResult {

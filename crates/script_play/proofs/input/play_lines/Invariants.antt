@@ -2,6 +2,7 @@
 use lib.ListN.{length}
 use Prim.Native.Nat.{◌≤◌}
 use mathlib.Core.Path.{◌≡◌}
+use Rattle.std.specs.Bool.{then_some}
 use Rattle.std.specs.Slice.Iter.{split_inclusive_rest}
 use Rattle.script.specs.Commands.{held_bytes}
 use Rattle.script_play.specs.Player.{player_at}
@@ -14,5 +15,5 @@ invariant-loop-piece l =
     × (l.line.length ≤ held_bytes)
     × (length l.cache ≡ length l.initial.cache) × (length l.memory ≡ length l.initial.memory) × (length l.out ≡ length l.initial.out)
     × PlayedTo l.input (split_inclusive_rest l.piece-iterator)
-    (player_at (record { run = l.initial.run; line = l.initial.line }) l.initial.cache l.initial.memory l.initial.out 0)
-    (player_at (record { run = l.run; line = l.line }) l.cache l.memory l.out l.at)
+    (player_at l.fn.player l.initial.cache l.initial.memory l.initial.out 0)
+    (player_at (record { run = then_some l.started l.state; line = l.line }) l.cache l.memory l.out l.at)
