@@ -129,6 +129,10 @@ module _ (s : State) (cache memory : List ℕ) where
   unfolding store_ready
   ready_at = refl
 
+  pub present-at : (l : ℕ) → present (tabled s.figures s.tags) l ≡ present (hierarchy_of s cache memory) l
+  unfolding present slot_of
+  present-at l = refl
+
   -- the records of a used line
   pub used-at : (l : ℕ) → use_line l (hierarchy_of s cache memory) ≡ record { figures = s.figures; size = s.size; tags = used_tags s.figures l s.tags; cache = cache; memory = memory }
   used-at l = used-line l (hierarchy_of s cache memory)

@@ -15,6 +15,7 @@ use Rattle.rules.proofs.Checks.{outcome-by, rule-accepts}
 use Rattle.model.specs.State.{queues_of, hierarchy_of, world_of, answer_of, outcome_of, call_of}
 use Rattle.model.specs.Starts.{start_answer_of}
 use Rattle.model.specs.declared.Call.{Call}
+use Rattle.model.specs.declared.Call.TheVariants.{Load, Store, Retry, Commit, Abort, Idle, Reply, Flush, Show, Checkpoint, Restore, Preview}
 use Rattle.model.specs.declared.State.{State}
 use Rattle.model.specs.declared.Step.{Step}
 use Rattle.model.specs.declared.Started.{Started}
@@ -33,6 +34,23 @@ use Rattle.nicoisetarn.specs.Steps.{Left, left_of, kept, leaves, started_by, sta
 use Rattle.nicoisetarn.specs.Claims.{Keeps, RefusedImagesKept, UnknownCallsKept, LooksKept}
 use Rattle.nicoisetarn.proofs.CallNumbers.{no_number, some_number}
 use Rattle.nicoisetarn.proofs.ShownPart.{image-over}
+
+-- ---- a refusal
+
+-- any other call than show line names its refusal
+named : (k : ℕ) (c : Call) → ((x : ℕ) → c ≡ Show x → ⊥) → coded 0 k 0 ≡ imaged_answer (refusal (call_of c) k)
+named k (Load a w) h = refl
+named k (Store a w v) h = refl
+named k (Retry i) h = refl
+named k (Commit n) h = refl
+named k (Abort n) h = refl
+named k Idle h = refl
+named k Reply h = refl
+named k Flush h = refl
+named k (Show a) h = absurd (h a refl)
+named k (Checkpoint x) h = refl
+named k (Restore x) h = refl
+named k Preview h = refl
 
 -- ---- the records that a call may change
 
