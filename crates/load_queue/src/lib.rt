@@ -24,11 +24,15 @@ pub fn place_load(loads: [LoadEntry; LOAD_PLACES], e: LoadEntry) -> [LoadEntry; 
     placed(loads, e, |l| l.number == 0)
 }
 
-// Abort n removes every load numbered n or more: its place is free.
+// Abort n removes every load numbered n or more: its place is free. (In place: `map` of an array makes it three times.)
 pub fn squash_loads(loads: [LoadEntry; LOAD_PLACES], n: u32) -> [LoadEntry; LOAD_PLACES]
     ensures { result ≡ changed (young_load n) (λ l. no_load) loads }
 {
-    loads.map(|l| if n <= l.number { NO_LOAD } else { l })
+    let mut next = loads;
+    for l in next.iter_mut() {
+        *l = if n <= l.number { NO_LOAD } else { *l };
+    }
+    next
 }
 
 // The waiting load of number i.
@@ -63,20 +67,22 @@ pub fn remove_waiting(loads: [LoadEntry; LOAD_PLACES], i: u32) -> [LoadEntry; LO
     without(loads, NO_LOAD, |l| is_waiting_at(l, i))
 }
 
-// The uncommitted load that an inquiry about number i answered is marked answered.
+// The uncommitted load that an inquiry about number i answered is marked answered. (In place, as above.)
 pub fn answer_waiting(loads: [LoadEntry; LOAD_PLACES], i: u32) -> [LoadEntry; LOAD_PLACES]
     ensures { result ≡ changed (waiting_at i) answered loads }
 {
-    loads.map(|l| {
-        if is_waiting_at(l, i) {
+    let mut next = loads;
+    for l in next.iter_mut() {
+        *l = if is_waiting_at(*l, i) {
             LoadEntry {
                 waiting: false,
-                ..l
+                ..*l
             }
         } else {
-            l
-        }
-    })
+            *l
+        };
+    }
+    next
 }
 
 // An answered load numbered k or less: commit k takes it off the list.

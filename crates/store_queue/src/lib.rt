@@ -30,11 +30,15 @@ pub fn place_store(stores: [StoreEntry; STORE_PLACES], e: StoreEntry) -> [StoreE
     placed(stores, e, |s| s.number == 0)
 }
 
-// Abort n removes every store numbered n or more: its place is free.
+// Abort n removes every store numbered n or more: its place is free. (In place: `map` of an array makes it three times.)
 pub fn squash_stores(stores: [StoreEntry; STORE_PLACES], n: u32) -> [StoreEntry; STORE_PLACES]
     ensures { result ≡ changed (young_store n) (λ s. no_store) stores }
 {
-    stores.map(|s| if n <= s.number { NO_STORE } else { s })
+    let mut next = stores;
+    for s in next.iter_mut() {
+        *s = if n <= s.number { NO_STORE } else { *s };
+    }
+    next
 }
 
 // The oldest store leaves, and the others move up.
