@@ -11,5 +11,6 @@ pub mod Loops
 pub mod Library
 pub mod CountedLoops
 pub mod Total
+pub mod Changed
 pub mod Cut
 pub mod Climbing

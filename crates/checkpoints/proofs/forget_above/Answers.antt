@@ -2,7 +2,7 @@
 use Rattle.std.proofs.Common.{sym, ◌∙◌, arith, rules, tests}
 use Rattle.rules.specs.Shape.{no_checkpoint}
 use Rattle.rules.specs.Checkpoints.{above, forget_above}
-use Rattle.checkpoints.proofs.Changed.{changed-next, changed-end}
+use Rattle.lists.proofs.Changed.{changed-next, changed-end}
 use Rattle.checkpoints.proofs.forget_above.Goals.{then-n-c, else-n-c}
 use Rattle.checkpoints.proofs.forget_above.Goals as goal
 

@@ -2,7 +2,7 @@
 use mathlib.Core.Path.{◌≡◌}
 use Rattle.rules.specs.Shape.{no_checkpoint}
 use Rattle.rules.specs.Checkpoints.{above}
-use Rattle.checkpoints.proofs.Changed.{changed_from}
+use Rattle.lists.proofs.Changed.{changed_from}
 use Rattle.checkpoints.proofs.forget_above.Given as goal
 
 abbrev pub invariant-loop-c : goal.invariant-loop-c

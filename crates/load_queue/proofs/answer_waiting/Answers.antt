@@ -2,7 +2,7 @@
 use Rattle.std.proofs.Common.{sym, ◌∙◌, arith, rules, tests}
 use Rattle.rules.specs.Shape.{no_load}
 use Rattle.rules.specs.Calls.{waiting_at, answered}
-use Rattle.load_queue.proofs.Changed.{changed-next, changed-end}
+use Rattle.lists.proofs.Changed.{changed-next, changed-end}
 use Rattle.load_queue.proofs.answer_waiting.Goals.{then-is_waiting_at, else-is_waiting_at}
 use Rattle.load_queue.proofs.answer_waiting.Goals as goal
 

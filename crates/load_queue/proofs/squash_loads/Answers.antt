@@ -2,7 +2,7 @@
 use Rattle.std.proofs.Common.{sym, ◌∙◌, arith, rules, tests}
 use Rattle.rules.specs.Shape.{no_load}
 use Rattle.rules.specs.Calls.{young_load}
-use Rattle.load_queue.proofs.Changed.{changed-next, changed-end}
+use Rattle.lists.proofs.Changed.{changed-next, changed-end}
 use Rattle.load_queue.proofs.squash_loads.Goals.{then-n-l, else-n-l}
 use Rattle.load_queue.proofs.squash_loads.Goals as goal
 

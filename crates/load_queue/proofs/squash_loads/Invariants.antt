@@ -2,7 +2,7 @@
 use mathlib.Core.Path.{◌≡◌}
 use Rattle.rules.specs.Shape.{no_load}
 use Rattle.rules.specs.Calls.{young_load}
-use Rattle.load_queue.proofs.Changed.{changed_from}
+use Rattle.lists.proofs.Changed.{changed_from}
 use Rattle.load_queue.proofs.squash_loads.Given as goal
 
 abbrev pub invariant-loop-l : goal.invariant-loop-l

@@ -2,7 +2,7 @@
 use Rattle.std.proofs.Common.{sym, ◌∙◌, arith, rules, tests}
 use Rattle.rules.specs.Shape.{no_store}
 use Rattle.rules.specs.Calls.{young_store}
-use Rattle.store_queue.proofs.Changed.{changed-next, changed-end}
+use Rattle.lists.proofs.Changed.{changed-next, changed-end}
 use Rattle.store_queue.proofs.squash_stores.Goals.{then-n-s, else-n-s}
 use Rattle.store_queue.proofs.squash_stores.Goals as goal
 

@@ -2,7 +2,7 @@
 use mathlib.Core.Path.{◌≡◌}
 use Rattle.rules.specs.Shape.{no_store}
 use Rattle.rules.specs.Calls.{young_store}
-use Rattle.store_queue.proofs.Changed.{changed_from}
+use Rattle.lists.proofs.Changed.{changed_from}
 use Rattle.store_queue.proofs.squash_stores.Given as goal
 
 abbrev pub invariant-loop-s : goal.invariant-loop-s

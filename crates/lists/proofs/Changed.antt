@@ -1,5 +1,4 @@
--- A loop over a list that changes, in place, each entry that passes a test: what one turn does, and what is left at the end. (The same file
--- stands in `store_queue`, `load_queue` and `checkpoints`.)
+-- A loop over a list that changes, in place, each entry that passes a test: what one turn does, and what is left at the end.
 use Prim.Native.Nat.{ℕ, zero, suc, ◌+◌, ◌≤◌}
 use mathlib.Core.Path.{◌≡◌, refl, ap}
 use mathlib.Core.Bool.{Bool, cond}
