@@ -64,16 +64,14 @@ impl State {
     }
 
     // The line of the address is requested.
-    fn request_line(self, address: u32) -> Step
+    fn request_line(mut self, address: u32) -> Step
         ensures { (c m : List ℕ) → outcome_of result c m ≡ request_line address (queues_of self) (hierarchy_of self c m) }
     {
         let line = address / LINE_BYTES;
+        self.request = Request::Line(line);
         Step {
             answer: Answer::Requested(line * LINE_BYTES),
-            next: State {
-                request: Request::Line(line),
-                ..self
-            },
+            next: self,
         }
     }
 
